@@ -14,6 +14,8 @@ mod term;
 pub use field_item::{item_of_byte, item_pieces};
 pub use op::Op;
 pub use opcode::op_of_code;
-pub use row::{Class, Code, Letter, Limit, Naming, Piece, Row, Ruling, Spot, naming_of, ruling_of};
+pub use row::{
+    Class, Code, Letter, Limit, Naming, Piece, Row, Ruling, Spot, Width, naming_of, ruling_of,
+};
 pub use table::row_of;
 pub use term::Term;

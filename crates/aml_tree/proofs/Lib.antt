@@ -1,0 +1,9 @@
+pub mod Combining
+pub mod Leaves
+pub mod Beginnings
+pub mod Bounds
+pub mod Right
+pub mod RightTerms
+pub mod Turns
+pub mod Full
+pub mod Bodies

@@ -1,0 +1,30 @@
+use Rattle.std.proofs.Common.{◌≡◌, ◌<◌, ◌++◌, ◌∷◌, [], arith, refl, sym, ap, ◌∙◌, length}
+use Rattle.std.proofs.lemmas.Result.{err_from_is_err_and}
+use Rattle.aml_operators.specs.Tree.{view, stop_of}
+use Rattle.aml_operators.specs.declared.term.Term.{out-Term}
+use Rattle.aml_operators.proofs.Views.{view_out, pushed}
+use Rattle.aml_tree.specs.Body.{trees_of}
+use Rattle.aml_tree.proofs.Bodies.{body_on, body_end, body_failing}
+use Rattle.aml_tree.proofs.body.read_statements.Goals as goal
+
+pub loop-at-init : goal.loop-at-init
+loop-at-init g c = (length c.args.bytes.now, omega arith, rw (c.new-owns.ensures.empty, c.new-statements.ensures.items) refl)
+
+pub loop-at-preserved : goal.loop-at-preserved
+loop-at-preserved g c =
+    let counts = g.A.Arity.counts c.args.arity.now in
+    let term = c.in_ok-statement.statement in
+    let e : stop_of (view term) ≡ (out-Term term).end = ap stop_of (view_out term) in
+    let new : trees_of c.push.new.self ≡ trees_of c.loop-at.statements ++ view term ∷ [] = rw c.in_ok-push.ensures.items (pushed c.loop-at.statements.items term) in
+    let ahead : c.loop-at.at < stop_of (view term) = omega (arith, e, c.in_ok-statement.ensures.ahead) in
+    let on = body_on counts c.args.bytes.now c.loop-at.invariant.0 c.loop-at.owns.keys (trees_of c.loop-at.statements) c.loop-at.at (view term) _ c.loop-at-test.true c.loop-at.invariant.1 ahead c.in_ok-statement.ensures.gives c.loop-at.invariant.2 in
+    rw (new, ← e, c.in_ok-keep_made.ensures.ok) on
+
+pub returns-in_err-statement : goal.returns-in_err-statement
+returns-in_err-statement g c =
+    let p = err_from_is_err_and c.from_residual.result c.from_residual.ensures.1 in
+    rw (p.1, p.2, c.loop-at.invariant.2)
+    (body_failing (g.A.Arity.counts c.args.arity.now) c.args.bytes.now c.loop-at.invariant.0 c.loop-at.owns.keys (trees_of c.loop-at.statements) c.loop-at.at _ c.loop-at-test.true c.loop-at.invariant.1 c.in_err-statement.ensures.gives)
+
+pub returns : goal.returns
+returns g c = c.loop-at.invariant.2 ∙ body_end (g.A.Arity.counts c.args.arity.now) c.args.bytes.now c.loop-at.invariant.0 c.loop-at.owns.keys (trees_of c.loop-at.statements) c.loop-at.at c.loop-at-test.false

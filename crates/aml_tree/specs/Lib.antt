@@ -1,0 +1,9 @@
+pub mod Fault
+pub mod Leaf
+pub mod Opening
+pub mod Openings
+pub mod Begins
+pub mod Reading
+pub mod Grammar
+pub mod Answers
+pub mod Body

@@ -1,0 +1,190 @@
+// A method's body (ACPI 6.5, 20.2.5), in which the names that it makes take no arguments.
+
+ghost use Rattle.std.specs.Prelude.{◌≡◌, ◌≤◌, ◌<◌, ◌↔◌, ℕ, List, length, take, IsTrue, IfOk, IfErr, OnOk, []};
+ghost use Rattle.aml_operators.specs.Tree.{view, views};
+ghost use Rattle.aml_operators.specs.declared.term.Term.{out-Term};
+ghost use Rattle.aml_operators.specs.declared.row.Code.TheVariants as code;
+ghost use Rattle.aml_operators.specs.declared.row.Spot.TheVariants as spot;
+ghost use Rattle.aml_lex.specs.Names.{name_of, seg_bytes, lone_segment};
+ghost use Rattle.aml_tree.specs.Fault.{Gives};
+ghost use Rattle.aml_tree.specs.Reading.{term_at};
+ghost use Rattle.aml_tree.specs.Body.{with_owns, is_own_segment, first_at, rest_of, made_place, segment_at, greatest_depth, owns_behind, body_until, ReadsBody, trees_of, trees_read};
+
+use crate::arity::Arity;
+use crate::fault::TreeFault;
+use crate::module::GREATEST_DEPTH;
+use crate::walk::Reader;
+use aml_lex::{NameRef, NameSeg, name_string};
+use aml_operators::{Code, Op, Spot, Term};
+use indexmap::IndexSet;
+use std::alloc::Global;
+
+/// Where a method's body lies in its table.
+#[derive(Clone, Copy, Debug, PartialEq, Eq)]
+pub struct Span {
+    /// The place of its first byte.
+    pub at: usize,
+    /// The place behind its last byte.
+    pub end: usize,
+}
+
+impl Span {
+    /// Whether the span lies within the bytes.
+    pub fn is_within(&self, bytes: &[u8]) -> bool
+        ensures { IsTrue result ↔ ((self.now.at ≤ self.now.end) × (self.now.end ≤ length bytes.now)) }
+    {
+        self.at <= self.end && self.end <= bytes.len()
+    }
+}
+
+/// The counts of a body in which some names of its own stand.
+#[derive(Drop)]
+struct WithOwns<'a, A> {
+    arity: &'a A,
+    owns: &'a IndexSet<NameSeg>,
+}
+
+impl<'a, A: Arity> Arity for WithOwns<'a, A> {
+    ghost counts = { λ o. with_owns (A.counts o.arity.now) o.owns.now.keys };
+
+    fn arity(&self, name: &NameRef<'_>, at: usize) -> u8 {
+        if is_own(self.owns, name) {
+            0
+        } else {
+            self.arity.arity(name, at)
+        }
+    }
+}
+
+/// Whether a name is one of the body's own.
+fn is_own(owns: &IndexSet<NameSeg>, name: &NameRef<'_>) -> bool
+    ensures { result ≡ is_own_segment owns.now.keys (lone_segment (name_of name.now)) }
+{
+    match name.lone_segment() {
+        Some(segment) => owns.contains(&segment),
+        None => false,
+    }
+}
+
+/// The place of the first part behind so many.
+#[tactic(auto, using(aml_operators::proofs::Views::view_out))]
+fn first_place(parts: &[Term]) -> Option<usize>
+    ensures { result ≡ first_at (views parts.now) }
+{
+    match parts {
+        [first, ..] => Some(first.at),
+        [] => None,
+    }
+}
+
+/// The parts behind the first.
+fn behind_first(parts: &[Term]) -> &[Term]
+    ensures { views result.now ≡ rest_of (views parts.now) }
+{
+    match parts {
+        [_, rest @ ..] => rest,
+        [] => parts,
+    }
+}
+
+/// Where the name stands that a Name or a CreateField form makes.
+#[tactic(auto, using(aml_operators::proofs::Views::view_out))]
+fn place_made(term: &Term) -> Option<usize>
+    ensures { result ≡ made_place (view term.now) }
+{
+    match term.op {
+        Op::Name => first_place(&term.parts),
+        Op::CreateBitField
+        | Op::CreateByteField
+        | Op::CreateWordField
+        | Op::CreateDWordField
+        | Op::CreateQWordField => first_place(behind_first(behind_first(&term.parts))),
+        Op::CreateField => first_place(behind_first(behind_first(behind_first(&term.parts)))),
+        _ => None,
+    }
+}
+
+/// The own name that a statement at the top of a body makes.
+fn segment_made(bytes: &[u8], term: &Term) -> Option<NameSeg>
+    ensures { seg_bytes result ≡ segment_at bytes.now (made_place (view term.now)) }
+{
+    let at = place_made(term)?;
+    if at > bytes.len() {
+        return None;
+    }
+    match name_string(bytes, at) {
+        Ok((name, _)) => name.lone_segment(),
+        Err(_) => None,
+    }
+}
+
+/// Keeps the own name that a statement makes.
+fn keep_made(owns: &mut IndexSet<NameSeg>, bytes: &[u8], term: &Term) -> Result<(), TreeFault>
+    ensures ok { OnOk result (owns.new.keys ≡ owns_behind owns.old.keys bytes.now (view term.now)) }
+    ensures err { IfErr result (λ fault. fault ≡ TreeFault.NoMemory) }
+{
+    if let Some(segment) = segment_made(bytes, term) {
+        owns.insert(segment)?;
+    }
+    Ok(())
+}
+
+/// A statement at the top of a body in which these names stand.
+fn read_statement<A: Arity>(
+    alloc: Global,
+    arity: &A,
+    owns: &IndexSet<NameSeg>,
+    bytes: &[u8],
+    at: usize,
+) -> Result<Term, TreeFault>
+    ensures gives { Gives view result (term_at code.Body (with_owns (A.counts arity.now) owns.now.keys) greatest_depth at spot.Statement bytes.now at) }
+    ensures ahead { IfOk result (λ t. at < (out-Term t).end) }
+    ensures within { IfOk result (λ t. (out-Term t).end ≤ length bytes.now) }
+{
+    let with_owns = WithOwns { arity, owns };
+    let reader = Reader {
+        alloc,
+        code: Code::Body,
+        arity: &with_owns,
+    };
+    reader.term(at, Spot::Statement, bytes, at, GREATEST_DEPTH)
+}
+
+/// Reads the statements of a method's body, whose span a Method term of the table gave.
+///
+/// A name takes as many terms as `arity` tells for its place; a lone segment that an earlier Name or
+/// CreateField form at the top of the body made takes none.
+///
+/// Faults: E201 to E208, each with its place in the table, the first in the order of the bytes.
+pub fn read_body<A: Arity>(
+    alloc: Global,
+    bytes: &[u8],
+    span: Span,
+    arity: &A,
+) -> Result<Vec<Term>, TreeFault>
+    requires ordered { span.at ≤ span.end }
+    requires within { span.end ≤ length bytes.now }
+    ensures { ReadsBody (A.counts arity.now) (take span.end bytes.now) span.at (trees_read result) }
+{
+    read_statements(alloc, &bytes[..span.end], span.at, arity)
+}
+
+fn read_statements<A: Arity>(
+    alloc: Global,
+    bytes: &[u8],
+    start: usize,
+    arity: &A,
+) -> Result<Vec<Term>, TreeFault>
+    ensures { Gives trees_of result (body_until (A.counts arity.now) bytes.now (length bytes.now) [] [] start) }
+{
+    let mut owns = IndexSet::new(alloc);
+    let mut statements = Vec::new(alloc);
+    let mut at = start;
+    while at < bytes.len() {
+        let statement = read_statement(alloc, arity, &owns, bytes, at)?;
+        at = statement.end;
+        keep_made(&mut owns, bytes, &statement)?;
+        statements.push(statement)?;
+    }
+    Ok(statements)
+}

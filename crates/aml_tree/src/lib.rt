@@ -1,0 +1,21 @@
+//! Terms of AML, read from the bytes of a table by the operator table (ACPI 6.5, 20.2.5).
+//!
+//! A definition block's module is read first, its methods' bodies skipped; a body is read once it is
+//! known how many arguments each name takes. Each reader answers the tree that the grammar ties to the
+//! bytes, or the first fault in the order of the bytes, or want of memory.
+#![tactic(auto)]
+
+mod arity;
+mod body;
+mod fault;
+mod leaf;
+mod literal;
+mod module;
+mod opening;
+mod walk;
+
+pub use aml_operators::{Op, Term};
+pub use arity::{Arity, NoArguments};
+pub use body::{Span, read_body};
+pub use fault::{Refusal, TreeCause, TreeFault};
+pub use module::read_module;
