@@ -1,0 +1,4 @@
+pub mod Addresses
+pub mod Options
+pub mod Structures
+pub mod Tiling

@@ -1,5 +1,5 @@
 -- A table and its header (ACPI 6.5, 5.2.6).
-use Rattle.std.specs.Prelude.{◌≡◌, ◌≤◌, ◌%◌, ◌==◌, ℕ, Bool, List, [], ◌∷◌, length, sum, slice_index, nat_lt, not}
+use Rattle.std.specs.Prelude.{◌≡◌, ◌≤◌, ◌%◌, ◌==◌, ℕ, List, [], ◌∷◌, length, sum, nat_lt, not}
 use Rattle.acpi_tables.specs.Bytes.{number_at, text_at}
 use Rattle.acpi_tables.specs.Fault.{Check, check}
 use Rattle.acpi_tables.specs.declared.fault.TableCause.TheVariants.{Short, BadLength, BadSum}

@@ -1,3 +1,11 @@
 pub mod Bytes
 pub mod Fault
 pub mod Header
+pub mod Table
+pub mod Rsdp
+pub mod Xsdt
+pub mod Fadt
+pub mod Structure
+pub mod Entries
+pub mod Madt
+pub mod Isa

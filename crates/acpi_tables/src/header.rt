@@ -1,6 +1,6 @@
 // The header that begins every table but the RSDP and the FACS (ACPI 6.5, 5.2.6).
 
-ghost use Rattle.std.specs.Prelude.{◌≡◌, ◌↔◌, IsOk, IfOk, IfErr, Some};
+ghost use Rattle.std.specs.Prelude.{◌≡◌, ◌↔◌, IsOk, IfOk, IfErr, Some, ◌≤◌, length};
 ghost use Rattle.acpi_tables.specs.Header.{IsTable, HasHeader};
 ghost use Rattle.acpi_tables.specs.Fault.{first_fault};
 ghost use Rattle.acpi_tables.specs.Header.{header_checks};
@@ -41,6 +41,7 @@ impl<'a> Header<'a> {
         ensures table { IsOk result ↔ IsTable bytes.now }
         ensures fields { IfOk result (λ header. HasHeader bytes.now header) }
         ensures fault { IfErr result (λ fault. first_fault (header_checks bytes.now) ≡ Some fault) }
+        ensures place { IfErr result (λ fault. fault.at ≤ length bytes.now) }
     {
         if bytes.len() < Self::SIZE {
             return Err(TableFault {

@@ -5,8 +5,25 @@
 #![tactic(auto)]
 
 mod bytes;
+mod entry;
+mod fadt;
 mod fault;
 mod header;
+mod isa;
+mod madt;
+mod rsdp;
+mod table;
+mod xsdt;
 
+pub use entry::{Entries, Entry};
+pub use fadt::Fadt;
 pub use fault::{TableCause, TableFault};
 pub use header::Header;
+pub use isa::Isa;
+pub use madt::Madt;
+pub use rsdp::{Rsdp, RsdpExtension};
+pub use table::read_table;
+pub use xsdt::Xsdt;
+
+#[cfg(test)]
+mod tests;
