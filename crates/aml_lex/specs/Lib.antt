@@ -1,0 +1,9 @@
+pub mod Characters
+pub mod Numbers
+pub mod Read
+pub mod NameStrings
+pub mod Names
+pub mod Reading
+pub mod Spelling
+pub mod Exact
+pub mod Bounds

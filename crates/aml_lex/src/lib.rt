@@ -1,0 +1,26 @@
+//! The lexical parts of AML, read from a place on (ACPI 6.5, 20.2.2 to 20.2.4): package lengths, name
+//! strings, integer data and string data.
+//!
+//! The caller cuts the bytes at the end of the enclosing package. A reader answers Ok just where a
+//! spelling stands at the place, and else the fault that ends it. No call takes memory.
+#![tactic(auto)]
+
+mod fault;
+mod integers;
+mod name_reader;
+mod names;
+mod package;
+mod strings;
+#[cfg(test)]
+mod tests;
+mod theorems;
+
+pub use fault::{LexCause, LexFault};
+pub use integers::integer_data;
+pub use name_reader::name_string;
+pub use names::{NameRef, NameSeg};
+pub use package::{package_end, pkg_length};
+pub use strings::string_data;
+pub use theorems::{
+    answers_end_within, faults_stand_within, spellings_are_read, spellings_are_unique,
+};
