@@ -1,0 +1,77 @@
+// What kind of meaning an operator has.
+
+ghost use Rattle.std.specs.Prelude.{◌≡◌};
+ghost use Rattle.aml_meaning.specs.Actions.{action};
+
+use aml_operators::Op;
+
+/// An operator whose operands are two integers and a target.
+#[derive(Clone, Copy, Debug, PartialEq, Eq)]
+pub enum Arithmetic {
+    Add,
+}
+
+/// Which integer a literal is.
+#[derive(Clone, Copy, Debug, PartialEq, Eq)]
+pub enum Constant {
+    Zero,
+    One,
+    Ones,
+    /// The number that stands beside the opcode.
+    Number,
+}
+
+/// What kind of meaning an operator has, as a term and as a target.
+#[derive(Clone, Copy, Debug, PartialEq, Eq)]
+pub enum Action {
+    /// An integer (ACPI 6.5, 20.2.3).
+    Literal(Constant),
+    /// A local, by its number below 8 (5.5.2.3).
+    Local(u8),
+    /// An argument, by its number below 7 (5.5.2.1).
+    Argument(u8),
+    /// Two integers give a third, which is stored into a target.
+    Binary(Arithmetic),
+    /// A value is stored into a target (19.6, Store).
+    Store,
+    /// The method ends with a value (19.6, Return).
+    Return,
+    /// No target: nothing is stored.
+    NoTarget,
+    /// No meaning: an error after one step.
+    Unwritten,
+}
+
+/// The kind of meaning of an operator.
+pub fn action_of(op: Op) -> Action
+    ensures { result ≡ action op }
+{
+    match op {
+        Op::Zero => Action::Literal(Constant::Zero),
+        Op::One => Action::Literal(Constant::One),
+        Op::Ones => Action::Literal(Constant::Ones),
+        Op::ByteConst | Op::WordConst | Op::DWordConst | Op::QWordConst => {
+            Action::Literal(Constant::Number)
+        }
+        Op::Local0 => Action::Local(0),
+        Op::Local1 => Action::Local(1),
+        Op::Local2 => Action::Local(2),
+        Op::Local3 => Action::Local(3),
+        Op::Local4 => Action::Local(4),
+        Op::Local5 => Action::Local(5),
+        Op::Local6 => Action::Local(6),
+        Op::Local7 => Action::Local(7),
+        Op::Arg0 => Action::Argument(0),
+        Op::Arg1 => Action::Argument(1),
+        Op::Arg2 => Action::Argument(2),
+        Op::Arg3 => Action::Argument(3),
+        Op::Arg4 => Action::Argument(4),
+        Op::Arg5 => Action::Argument(5),
+        Op::Arg6 => Action::Argument(6),
+        Op::Add => Action::Binary(Arithmetic::Add),
+        Op::Store => Action::Store,
+        Op::Return => Action::Return,
+        Op::NullName => Action::NoTarget,
+        _ => Action::Unwritten,
+    }
+}

@@ -1,0 +1,19 @@
+//! What AML means: the text that a reader must believe (ACPI 6.5, 5.5.2 and 19.6).
+//!
+//! The meaning itself stands in `specs/`: `State` (values, frames, states), `Parts` (what an
+//! evaluation is made of), `Meaning` (what each operator means), `Whole` (a method's body) and `Runs`
+//! (what an evaluator's answer says of it). `docs/MEANING.md` tells the same in plain words.
+#![tactic(auto)]
+
+mod action;
+mod error;
+mod law;
+mod width;
+
+pub use action::{Action, Arithmetic, Constant, action_of};
+pub use error::{AmlCause, AmlError, NoMemory};
+pub use law::done_is_stable;
+pub use width::Width;
+
+#[cfg(test)]
+mod tests;

@@ -1,0 +1,43 @@
+// What errors are printed as, and each call once.
+
+use crate::{Action, AmlCause, AmlError, Arithmetic, NoMemory, Width, action_of, done_is_stable};
+use aml_operators::Op;
+use std::test::Fail;
+
+#[test]
+fn printed_errors(rt: HostRuntime) -> Result<(), Fail> {
+    let causes = [
+        (AmlCause::Unset, "7 30 A1 Unset"),
+        (AmlCause::Kind, "7 30 A2 Kind"),
+        (AmlCause::Divisor, "7 30 A3 Divisor"),
+        (AmlCause::Index, "7 30 A4 Index"),
+        (AmlCause::Missing, "7 30 A5 Missing"),
+        (AmlCause::Outside, "7 30 A6 Outside"),
+        (AmlCause::Region, "7 30 A7 Region"),
+        (AmlCause::NoValue, "7 30 A8 NoValue"),
+        (AmlCause::Depth, "7 30 A9 Depth"),
+    ];
+    for (cause, text) in causes {
+        let error = AmlError {
+            table: 7,
+            at: 30,
+            cause,
+        };
+        let printed = format!(in rt.alloc(); "{error}")?;
+        assert_eq!(rt; printed.as_str(), text);
+    }
+    let printed = format!(in rt.alloc(); "{}", NoMemory)?;
+    assert_eq!(rt; printed.as_str(), "no memory");
+    Ok(())
+}
+
+#[test]
+fn calls(rt: HostRuntime) {
+    assert_eq!(rt; action_of(Op::Add), Action::Binary(Arithmetic::Add));
+    assert_eq!(rt; action_of(Op::Arg6), Action::Argument(6));
+    assert_eq!(rt; action_of(Op::Noop), Action::Unwritten);
+    assert_eq!(rt; Width::Bits32.bits(), 32);
+    assert_eq!(rt; Width::Bits32.greatest(), 0xffff_ffff);
+    assert_eq!(rt; Width::Bits64.greatest(), 0xffff_ffff_ffff_ffff);
+    done_is_stable();
+}

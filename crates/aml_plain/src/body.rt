@@ -1,0 +1,47 @@
+// A method's body, from its beginning to its end.
+
+ghost use Rattle.std.specs.Prelude.{map, List};
+ghost use Rattle.aml_operators.specs.Tree.{views};
+ghost use Rattle.aml_meaning.specs.Event.{Event};
+ghost use Rattle.aml_meaning.specs.Meaning.{bits_of};
+ghost use Rattle.aml_meaning.specs.State.{Int};
+ghost use Rattle.aml_meaning.specs.Whole.{evaluated};
+ghost use Rattle.aml_plain.specs.Tells.{Tells};
+
+use crate::eval::eval_all;
+use crate::frame::Frame;
+use crate::halt::{Halt, Setting};
+use aml_meaning::{AmlError, Width};
+use aml_operators::Term;
+
+/// How an evaluation ends.
+#[derive(Clone, Copy, Debug, PartialEq, Eq)]
+pub enum Outcome {
+    /// The body ended: with a Return's value, or without.
+    Done(Option<u64>),
+    AmlError(AmlError),
+    OutOfSteps,
+}
+
+/// Evaluates a body that stands in a table, with its arguments and at most so many steps.
+///
+/// An error's place is a term's. Arguments behind the seventh are not looked at.
+pub fn evaluate_body(
+    body: &[Term],
+    table: usize,
+    width: Width,
+    arguments: &[u64],
+    fuel: u64,
+) -> Outcome
+    ensures { (script : List Event) → Tells result (evaluated (record { table = table; width = bits_of width }) (views body.now) (map Int arguments.now) fuel script) }
+{
+    let setting = Setting { table, width };
+    let mut frame = Frame::new(arguments);
+    let mut steps = fuel;
+    match eval_all(setting, body, &mut frame, &mut steps) {
+        Ok(()) => Outcome::Done(None),
+        Err(Halt::Returned(value)) => Outcome::Done(Some(value)),
+        Err(Halt::Error(error)) => Outcome::AmlError(error),
+        Err(Halt::OutOfSteps) => Outcome::OutOfSteps,
+    }
+}

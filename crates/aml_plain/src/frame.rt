@@ -1,0 +1,60 @@
+// What a running method has of its own.
+
+ghost use Rattle.std.specs.Prelude.{◌≡◌, map, slice_get, slice_set, Some};
+ghost use Rattle.aml_meaning.specs.State.{Int, entered};
+ghost use Rattle.aml_meaning.specs.Runs.{content};
+ghost use Rattle.aml_plain.specs.Tells.{frame_of, slot_of, told};
+
+use crate::halt::{Halt, Setting};
+use aml_meaning::{AmlCause, AmlError};
+
+/// Locals and arguments, unset or with a value.
+#[derive(Debug, Drop)]
+pub struct Frame {
+    pub locals: [Option<u64>; 8],
+    pub args: [Option<u64>; 7],
+}
+
+impl Frame {
+    /// A method's frame as it begins, with its arguments.
+    pub fn new(arguments: &[u64]) -> Self
+        ensures { frame_of result ≡ entered (map Int arguments.now) }
+    {
+        Frame {
+            locals: [None; 8],
+            args: [
+                arguments.first().copied(),
+                arguments.get(1).copied(),
+                arguments.get(2).copied(),
+                arguments.get(3).copied(),
+                arguments.get(4).copied(),
+                arguments.get(5).copied(),
+                arguments.get(6).copied(),
+            ],
+        }
+    }
+}
+
+/// What a local or an argument holds. A1 at the term's place where it is unset.
+pub fn held(setting: Setting, at: usize, slots: &[Option<u64>], k: u8) -> Result<u64, Halt>
+    ensures { told result ≡ content setting.table at (slice_get (map slot_of slots.now) k) }
+{
+    match slots.get(usize::from(k)) {
+        Some(Some(value)) => Ok(*value),
+        _ => Err(Halt::Error(AmlError {
+            table: setting.table,
+            at,
+            cause: AmlCause::Unset,
+        })),
+    }
+}
+
+/// Puts a value into a local or an argument.
+pub fn hold(slots: &mut [Option<u64>], k: u8, value: u64)
+    ensures { map slot_of slots.new ≡ slice_set (map slot_of slots.old) k (Some (Int value)) }
+{
+    let place = usize::from(k);
+    if place < slots.len() {
+        slots[place] = Some(value);
+    }
+}

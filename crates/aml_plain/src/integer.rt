@@ -1,0 +1,26 @@
+// Integers modulo 2 to the width.
+
+ghost use Rattle.std.specs.Prelude.{◌≡◌, ◌%◌, ◌^◌};
+ghost use Rattle.aml_meaning.specs.Meaning.{apply, bits_of};
+
+use aml_meaning::{Arithmetic, Width};
+
+/// An integer, modulo 2 to the width.
+pub fn wrapped(width: Width, n: u64) -> u64
+    ensures { result ≡ n % 2 ^ bits_of width }
+{
+    match width {
+        Width::Bits32 => n % 0x1_0000_0000,
+        Width::Bits64 => n,
+    }
+}
+
+/// Two integers joined, modulo 2 to the width.
+pub fn combine(width: Width, arithmetic: Arithmetic, x: u64, y: u64) -> u64
+    ensures { result ≡ apply arithmetic x y % 2 ^ bits_of width }
+{
+    let joined = match arithmetic {
+        Arithmetic::Add => x.wrapping_add(y),
+    };
+    wrapped(width, joined)
+}

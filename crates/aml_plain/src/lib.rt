@@ -1,0 +1,14 @@
+//! Plain evaluation: a method's body by its terms, with a number of steps, errors included.
+#![tactic(auto)]
+
+mod body;
+mod eval;
+mod form;
+mod frame;
+mod halt;
+mod integer;
+
+pub use body::{Outcome, evaluate_body};
+
+#[cfg(test)]
+mod tests;
