@@ -1,0 +1,90 @@
+// Why tables cannot be loaded.
+
+ghost use Rattle.std.specs.Prelude.{◌≡◌, ⊤};
+ghost use Rattle.aml_namespace.specs.declared.fault.LoadFault.TheVariants.{NoMemory, Refused};
+ghost use Rattle.aml_namespace.specs.Fault.{table_refusal, tree_fault};
+
+use acpi_tables::{TableCause, TableFault};
+use aml_tree::{TreeCause, TreeFault};
+use std::alloc::{AllocError, AllocFailed};
+use thiserror::Error;
+
+/// What is wrong with a table or with its definitions.
+#[derive(Clone, Copy, Debug, PartialEq, Eq, Error)]
+pub enum LoadCause {
+    /// The table, E101 to E104.
+    #[error(transparent)]
+    Table(TableCause),
+    /// The bytes of its module, E201 to E209.
+    #[error(transparent)]
+    Tree(TreeCause),
+    /// A second definition of a path; its place is that of the defined name.
+    #[error("E301 Duplicate")]
+    Duplicate,
+    /// A name whose parent is no scope that is there; its place is that of the name.
+    #[error("E302 ScopeMissing")]
+    ScopeMissing,
+}
+
+/// A refusal to load: what is wrong, in which table and at which byte.
+#[derive(Clone, Copy, Debug, PartialEq, Eq, Error)]
+#[error("{cause} {table} {at}")]
+pub struct LoadRefusal {
+    pub cause: LoadCause,
+    /// The number of the table in the order of loading, from 0.
+    pub table: usize,
+    /// A place of at most the table's number of bytes.
+    pub at: usize,
+}
+
+/// Why there is no namespace.
+#[derive(Clone, Copy, Debug, PartialEq, Eq, Error)]
+pub enum LoadFault {
+    #[error("E524 NoMemory")]
+    NoMemory,
+    #[error(transparent)]
+    Refused(LoadRefusal),
+}
+
+impl From<AllocError> for LoadFault {
+    ghost from_gives = { λ _ fault. fault ≡ NoMemory };
+
+    fn from(_error: AllocError) -> LoadFault {
+        LoadFault::NoMemory
+    }
+}
+
+impl<T: Drop> From<AllocFailed<T>> for LoadFault {
+    ghost from_gives = { λ _ fault. fault ≡ NoMemory };
+
+    fn from(_error: AllocFailed<T>) -> LoadFault {
+        LoadFault::NoMemory
+    }
+}
+
+impl From<TableFault> for LoadFault {
+    ghost from_gives = { λ table fault. fault ≡ Refused (table_refusal table) };
+
+    fn from(fault: TableFault) -> LoadFault {
+        LoadFault::Refused(LoadRefusal {
+            cause: LoadCause::Table(fault.cause),
+            table: 0,
+            at: fault.at,
+        })
+    }
+}
+
+impl From<TreeFault> for LoadFault {
+    ghost from_gives = { λ tree fault. fault ≡ tree_fault tree };
+
+    fn from(fault: TreeFault) -> LoadFault {
+        match fault {
+            TreeFault::NoMemory => LoadFault::NoMemory,
+            TreeFault::Refused(refusal) => LoadFault::Refused(LoadRefusal {
+                cause: LoadCause::Tree(refusal.cause),
+                table: 0,
+                at: refusal.at,
+            }),
+        }
+    }
+}

@@ -1,0 +1,15 @@
+//! The namespace that a table's definitions make (ACPI 6.5, 5.3).
+//!
+//! So far one DSDT is loaded, whose definitions are methods at the root; any other definition is
+//! refused where it stands.
+#![tactic(auto)]
+
+mod define;
+mod fault;
+mod method;
+mod namespace;
+mod width;
+
+pub use fault::{LoadCause, LoadFault, LoadRefusal};
+pub use method::{Method, ObjectId};
+pub use namespace::Namespace;
