@@ -1,3 +1,4 @@
 pub mod Forms
 pub mod Statements
 pub mod Outcomes
+pub mod Methods

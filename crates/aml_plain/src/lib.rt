@@ -7,8 +7,10 @@ mod form;
 mod frame;
 mod halt;
 mod integer;
+mod method;
 
 pub use body::{Outcome, evaluate_body};
+pub use method::{evaluate_plain, evaluate_terms};
 
 #[cfg(test)]
 mod tests;

@@ -1,0 +1,53 @@
+// A method's evaluation, from the bytes of its table.
+
+ghost use Rattle.std.specs.Prelude.{◌≡◌, ◌<◌, List, Some, IfOk, length};
+ghost use Rattle.aml_meaning.specs.Event.{Event};
+ghost use Rattle.aml_operators.specs.Tree.{Tree, trees, views};
+ghost use Rattle.aml_namespace.specs.declared.method.Method.{Method};
+ghost use Rattle.aml_namespace.specs.Load.{shown};
+ghost use Rattle.aml_namespace.specs.Objects.{method_at, IsBodyOf};
+ghost use Rattle.aml_plain.specs.Methods.{Evaluates};
+
+use crate::body::{Outcome, evaluate_body};
+use aml_meaning::NoMemory;
+use aml_namespace::{Namespace, ObjectId};
+use aml_tree::{Term, TreeFault};
+use std::alloc::Global;
+
+/// Evaluates a method whose body is these terms, as `Namespace::tree` reads them, with its arguments
+/// and at most so many steps.
+pub fn evaluate_terms(
+    namespace: &Namespace<'_>,
+    method: ObjectId,
+    body: &[Term],
+    arguments: &[u64],
+    fuel: u64,
+) -> Outcome
+    requires { method.0 < length (shown namespace.now).entries }
+    ensures { (m : Method) → method_at (shown namespace.now) method.0 ≡ Some m → Evaluates (shown namespace.now) m (views body.now) arguments.now fuel result }
+{
+    let table = namespace.method(method).unwrap().table;
+    evaluate_body(body, table, namespace.width(), arguments, fuel)
+}
+
+/// Evaluates a method from the bytes of its table, with its arguments and at most so many steps.
+///
+/// The outcome is the definition's of the tree that the grammar ties to those bytes: its value or none,
+/// its error at its table and place, or out of steps. The caller knows that the body parses.
+pub fn evaluate_plain(
+    alloc: Global,
+    namespace: &Namespace<'_>,
+    method: ObjectId,
+    arguments: &[u64],
+    fuel: u64,
+) -> Result<Outcome, NoMemory>
+    requires known { method.0 < length (shown namespace.now).entries }
+    requires parses { (m : Method) → method_at (shown namespace.now) method.0 ≡ Some m → (ts : List Tree) × IsBodyOf (shown namespace.now) m ts }
+    ensures { IfOk result (λ outcome. (m : Method) → method_at (shown namespace.now) method.0 ≡ Some m → (ts : List Tree) → IsBodyOf (shown namespace.now) m ts → Evaluates (shown namespace.now) m (trees ts) arguments.now fuel outcome) }
+{
+    match namespace.tree(alloc, method) {
+        Ok(body) => Ok(evaluate_terms(namespace, method, &body, arguments, fuel)),
+        Err(TreeFault::NoMemory) => Err(NoMemory),
+        Err(TreeFault::Refused(_)) => unreachable!(),
+    }
+}
