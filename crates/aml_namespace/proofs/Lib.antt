@@ -1,3 +1,4 @@
 pub mod Names
 pub mod Definitions
 pub mod Spans
+pub mod Places

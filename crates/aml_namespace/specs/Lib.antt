@@ -5,3 +5,4 @@ pub mod Entries
 pub mod Load
 pub mod Names
 pub mod Objects
+pub mod Laws

@@ -6,10 +6,15 @@
 
 mod define;
 mod fault;
+mod law;
 mod method;
 mod namespace;
 mod width;
 
 pub use fault::{LoadCause, LoadFault, LoadRefusal};
+pub use law::faults_stand_within;
 pub use method::{Method, ObjectId};
 pub use namespace::Namespace;
+
+#[cfg(test)]
+mod tests;

@@ -1,5 +1,7 @@
 // Bodies whose outcomes were worked out by hand.
 
+mod methods;
+
 use crate::{Outcome, evaluate_body};
 use aml_meaning::{AmlCause, AmlError, Width};
 use aml_operators::{Op, Term};

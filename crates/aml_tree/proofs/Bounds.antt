@@ -82,7 +82,7 @@ module _ (arity : NameString → ℕ → ℕ) (Below : ℕ → Spot → List ℕ
       let lt = slice_get_within bytes at 0xA1 h.0 in
       let w = of_ok _ _ _ _ (end_in bytes (at + 1) (omega (arith, lt))) h.1.2 in (omega (arith, w), w.2)
 
-  parts_in : (ls : List Letter) (own : ℕ) (bytes : List ℕ) (at stop : ℕ) (ts : List Tree) → at ≤ length bytes → Meets arity Below ls own bytes at stop ts → (at ≤ stop) × (stop ≤ length bytes)
+  pub parts_in : (ls : List Letter) (own : ℕ) (bytes : List ℕ) (at stop : ℕ) (ts : List Tree) → at ≤ length bytes → Meets arity Below ls own bytes at stop ts → (at ≤ stop) × (stop ≤ length bytes)
   parts_in [] own bytes at stop ts le h = (omega (arith, h.1), omega (arith, h.1))
   parts_in (One p ∷ rest) own bytes at stop ts le h =
       let w = piece_in p own bytes at h.0 le h.3 in
@@ -112,7 +112,7 @@ module _ (arity : NameString → ℕ → ℕ) (Below : ℕ → Spot → List ℕ
   form_in (Operator o next) bytes at t lt fits h =
       let r = parts_in (letters_of o) at bytes next h.0 h.1 fits.1 h.2 in rw h.3 (omega (arith, r, fits), r.1)
 
-starts_in : (bytes : List ℕ) (at : ℕ) (o : Opening) → Fits bytes at o → at < length bytes
+pub starts_in : (bytes : List ℕ) (at : ℕ) (o : Opening) → Fits bytes at o → at < length bytes
 starts_in bytes at NoTarget h = h
 starts_in bytes at PlainName h = h
 starts_in bytes at InvokedName h = h

@@ -7,3 +7,4 @@ pub mod RightTerms
 pub mod Turns
 pub mod Full
 pub mod Bodies
+pub mod Faults

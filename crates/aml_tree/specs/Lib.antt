@@ -7,3 +7,4 @@ pub mod Reading
 pub mod Grammar
 pub mod Answers
 pub mod Body
+pub mod Laws

@@ -8,14 +8,18 @@
 mod arity;
 mod body;
 mod fault;
+mod laws;
 mod leaf;
 mod literal;
 mod module;
 mod opening;
+#[cfg(test)]
+mod tests;
 mod walk;
 
 pub use aml_operators::{Op, Term};
 pub use arity::{Arity, NoArguments};
 pub use body::{Span, read_body};
 pub use fault::{Refusal, TreeCause, TreeFault};
+pub use laws::{bodies_are_unique, faults_stand_within, modules_are_unique};
 pub use module::read_module;

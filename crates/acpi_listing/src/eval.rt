@@ -1,0 +1,116 @@
+// The command `eval`.
+
+ghost use Rattle.std.specs.Prelude.{◌≤◌, ◌<◌, IfOk, length};
+ghost use Rattle.aml_namespace.specs.Load.{shown};
+
+use crate::arguments::read_arguments;
+use crate::evaluation::list_evaluation;
+use crate::fault::{Fault, Stop};
+use crate::program::read_file;
+use crate::put::{RunFault, put};
+use crate::source::Source;
+use crate::words::EvalRequest;
+use aml_lex::NameSeg;
+use aml_namespace::{Method, Namespace, ObjectId};
+use aml_plain::{Outcome, evaluate_terms};
+use aml_tree::{Refusal, TreeFault};
+use std::alloc::Global;
+use std::io::Write;
+
+/// Evaluates a method with a number of steps, and prints how that ended.
+pub fn evaluate<F: Source, W: Write>(
+    alloc: Global,
+    request: &EvalRequest<'_>,
+    files: &mut F,
+    out: &mut W,
+) -> Result<u8, Stop>
+    ensures { IfOk result (λ status. status ≤ 3) }
+{
+    let arguments = arguments_of(alloc, request)?;
+    let table = read_file(files, request.file)?;
+    let namespace = load(alloc, &table)?;
+    let (id, method) = find_method(&namespace, request.method)?;
+    let body = match namespace.tree(alloc, id) {
+        Ok(body) => body,
+        Err(TreeFault::NoMemory) => return Err(Stop::Fault(Fault::NoMemory)),
+        Err(TreeFault::Refused(refusal)) => {
+            list_refusal(alloc, out, request.method, method.table, refusal)?;
+            return Ok(3);
+        }
+    };
+    if !fits(&namespace, method, &arguments) {
+        return Err(Stop::Fault(Fault::ArgsDontFit));
+    }
+    let outcome = evaluate_terms(&namespace, id, &body, &arguments, request.steps);
+    list_evaluation(alloc, out, &outcome)?;
+    Ok(status_of(&outcome))
+}
+
+fn arguments_of(alloc: Global, request: &EvalRequest<'_>) -> Result<Vec<u64>, Fault> {
+    match request.args {
+        Some(text) => read_arguments(alloc, text),
+        None => Ok(Vec::new(alloc)),
+    }
+}
+
+fn load<'a>(alloc: Global, table: &'a [u8]) -> Result<Namespace<'a>, Fault> {
+    match Namespace::load(alloc, table) {
+        Ok(namespace) => Ok(namespace),
+        Err(fault) => Err(Fault::from(fault)),
+    }
+}
+
+// The method whose printed path the word is: `\` and the method's segment.
+#[tactic(auto, using(crate::proofs::Methods::method_within))]
+fn find_method(namespace: &Namespace<'_>, word: &str) -> Result<(ObjectId, Method), Fault>
+    ensures { IfOk result (λ found. found.0.0 < length (shown namespace.now).entries) }
+{
+    let Some(segment) = segment_of(word) else {
+        return Err(Fault::NoSuchObject);
+    };
+    let Some(id) = namespace.find(segment) else {
+        return Err(Fault::NoSuchObject);
+    };
+    match namespace.method(id) {
+        Some(method) => Ok((id, method)),
+        None => Err(Fault::NoSuchObject),
+    }
+}
+
+fn segment_of(word: &str) -> Option<NameSeg> {
+    match word.as_bytes() {
+        [b'\\', a, b, c, d] => Some(NameSeg {
+            bytes: [*a, *b, *c, *d],
+        }),
+        _ => None,
+    }
+}
+
+// Whether the method takes these arguments: as many as it has, each an integer of the namespace.
+fn fits(namespace: &Namespace<'_>, method: Method, arguments: &[u64]) -> bool {
+    let greatest = namespace.width().greatest();
+    arguments.len() == usize::from(method.args) && arguments.iter().all(|n| *n <= greatest)
+}
+
+// `PATH refused TABLE PLACE CAUSE NAME`.
+fn list_refusal<W: Write>(
+    alloc: Global,
+    out: &mut W,
+    path: &str,
+    table: usize,
+    refusal: Refusal,
+) -> Result<(), RunFault> {
+    let at = refusal.at;
+    let cause = refusal.cause;
+    let line = format!(in alloc; "{path} refused {table} {at} {cause}\n")?;
+    put(out, line.as_bytes())
+}
+
+fn status_of(outcome: &Outcome) -> u8
+    ensures { result ≤ 3 }
+{
+    match outcome {
+        Outcome::Done(_) => 0,
+        Outcome::AmlError(_) | Outcome::OutOfSteps => 3,
+    }
+}

@@ -1,0 +1,114 @@
+// What ends a command with a fault line.
+
+ghost use Rattle.std.specs.Prelude.{◌≡◌, ◌≤◌};
+
+use crate::put::RunFault;
+use crate::source::SourceFault;
+use acpi_tables::{TableCause, TableFault};
+use aml_namespace::{LoadFault, LoadRefusal};
+use std::alloc::{AllocError, AllocFailed};
+use thiserror::Error;
+
+/// What ends a command with a fault line.
+#[derive(Clone, Copy, Debug, PartialEq, Eq, Error)]
+pub enum Fault {
+    /// The words are no command line.
+    #[error("E520 CommandLine")]
+    CommandLine,
+    /// The text of `--args` is no list of integers.
+    #[error("E521 BadArgs")]
+    BadArgs,
+    /// Too many or too few arguments for the method, or one above the greatest integer.
+    #[error("E522 ArgsDontFit")]
+    ArgsDontFit,
+    /// A file or a line of the input that cannot be read.
+    #[error("E523 File")]
+    File,
+    #[error("E524 NoMemory")]
+    NoMemory,
+    /// No method has that path.
+    #[error("E525 NoSuchObject")]
+    NoSuchObject,
+    /// A table that cannot be listed: what is wrong, in which file, from 0, and at which byte.
+    #[error("{cause} {file} {at}")]
+    Table {
+        cause: TableCause,
+        file: usize,
+        at: usize,
+    },
+    /// A table that cannot be loaded.
+    #[error(transparent)]
+    Load(LoadRefusal),
+}
+
+impl Fault {
+    /// The fault of a table in the file with that number.
+    pub fn of_table(file: usize, fault: TableFault) -> Self {
+        Fault::Table {
+            cause: fault.cause,
+            file,
+            at: fault.at,
+        }
+    }
+
+    /// The status that the program ends with.
+    pub fn status(self) -> u8
+        ensures { result ≤ 3 }
+    {
+        match self {
+            Fault::CommandLine => 2,
+            _ => 1,
+        }
+    }
+}
+
+/// Why a command ends before its end.
+#[derive(Clone, Copy, Debug, PartialEq, Eq)]
+pub enum Stop {
+    /// By a fault, whose line is still to be written.
+    Fault(Fault),
+    /// By a writer or a listing that failed.
+    Run(RunFault),
+}
+
+impl From<Fault> for Stop {
+    fn from(fault: Fault) -> Stop {
+        Stop::Fault(fault)
+    }
+}
+
+impl From<RunFault> for Stop {
+    fn from(fault: RunFault) -> Stop {
+        Stop::Run(fault)
+    }
+}
+
+impl From<AllocError> for Fault {
+    fn from(_error: AllocError) -> Fault {
+        Fault::NoMemory
+    }
+}
+
+impl<T: Drop> From<AllocFailed<T>> for Fault {
+    fn from(_error: AllocFailed<T>) -> Fault {
+        Fault::NoMemory
+    }
+}
+
+impl From<SourceFault> for Fault {
+    fn from(fault: SourceFault) -> Fault {
+        match fault {
+            SourceFault::File => Fault::File,
+            SourceFault::NoMemory => Fault::NoMemory,
+        }
+    }
+}
+
+impl From<LoadFault> for Fault {
+    fn from(fault: LoadFault) -> Fault {
+        match fault {
+            LoadFault::NoMemory => Fault::NoMemory,
+            LoadFault::Refused(refusal) => Fault::Load(refusal),
+        }
+    }
+}

@@ -1,0 +1,42 @@
+// Reading a stream to its end, up to a limit.
+
+ghost use Rattle.std.specs.Prelude.{◌≡◌, ◌≤◌, true, IfOk, vec_len};
+
+use std::alloc::{AllocError, Global};
+use std::io::Read;
+
+/// The most bytes of standard input, and of one file: 16 MiB.
+pub const INPUT_LIMIT: usize = 16_777_216;
+
+/// What was read of a stream.
+#[derive(Debug, Drop)]
+pub struct Input {
+    pub bytes: Vec<u8>,
+    /// Whether the bytes are all that the stream had: no read failed, and they are no more than
+    /// [`INPUT_LIMIT`].
+    pub is_whole: bool,
+}
+
+/// Reads a stream to its end, or until a read fails or the bytes are more than [`INPUT_LIMIT`].
+pub fn read_input<R: Read>(alloc: Global, input: &mut R) -> Result<Input, AllocError>
+    ensures { IfOk result (λ read. read.is_whole ≡ true → vec_len read.bytes ≤ INPUT_LIMIT) }
+{
+    let mut bytes = Vec::new(alloc);
+    let mut chunk = [0u8; 4096];
+    while bytes.len() <= INPUT_LIMIT {
+        match input.read(&mut chunk) {
+            Ok(0) => {
+                return Ok(Input {
+                    bytes,
+                    is_whole: true,
+                });
+            }
+            Ok(n) => bytes.extend_from_slice(&chunk[..n])?,
+            Err(_) => break,
+        }
+    }
+    Ok(Input {
+        bytes,
+        is_whole: false,
+    })
+}

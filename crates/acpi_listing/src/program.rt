@@ -1,0 +1,129 @@
+// The program over any source of files and any writer.
+
+ghost use Rattle.std.specs.Prelude.{◌≤◌, IfOk};
+
+use crate::eval::evaluate;
+use crate::fault::{Fault, Stop};
+use crate::input::{INPUT_LIMIT, read_input};
+use crate::lines_of_input::{HexLines, Lines};
+use crate::put::{RunFault, put};
+use crate::source::Source;
+use crate::table::read_table;
+use crate::tables::list_tables;
+use crate::words::{Request, read_words};
+use std::alloc::{AllocError, Global};
+use std::convert::AsStr;
+use std::io::{Read, Write};
+use std::str;
+
+/// Runs the command that the words ask for, and answers the status that the program ends with: 0 done;
+/// 1 a fault; 2 words that are no command line; 3 a method that cannot be read, an AML error, or out of
+/// steps.
+///
+/// A fault's line is written last.
+pub fn run_words<S: AsStr, F: Source, W: Write>(
+    alloc: Global,
+    words: &[S],
+    files: &mut F,
+    out: &mut W,
+) -> Result<u8, RunFault>
+    ensures { IfOk result (λ status. status ≤ 3) }
+{
+    match obey(alloc, words, files, out) {
+        Ok(status) => Ok(status),
+        Err(Stop::Fault(fault)) => report(alloc, out, fault),
+        Err(Stop::Run(fault)) => Err(fault),
+    }
+}
+
+/// Runs the command whose words stand on the first line of the input, split at single spaces; a file
+/// `@` is the next line's hex text.
+///
+/// Answers as [`run_words`]. E523 where there is no line, or the input cannot be read to its end or has
+/// more than [`INPUT_LIMIT`] bytes.
+pub fn run<R: Read, W: Write>(alloc: Global, input: &mut R, out: &mut W) -> Result<u8, RunFault>
+    ensures { IfOk result (λ status. status ≤ 3) }
+{
+    let Ok(input) = read_input(alloc, input) else {
+        return report(alloc, out, Fault::NoMemory);
+    };
+    let mut lines = Lines::new(&input.bytes);
+    let Some(first) = lines.next_line() else {
+        return report(alloc, out, Fault::File);
+    };
+    let Ok(text) = str::from_utf8(first) else {
+        return report(alloc, out, Fault::CommandLine);
+    };
+    let Ok(words) = split_words(alloc, text) else {
+        return report(alloc, out, Fault::NoMemory);
+    };
+    let mut files = HexLines {
+        alloc,
+        lines,
+        is_whole: input.is_whole,
+    };
+    run_words(alloc, words.as_slice(), &mut files, out)
+}
+
+fn split_words(alloc: Global, text: &str) -> Result<Vec<&str>, AllocError> {
+    let mut words = Vec::new(alloc);
+    for word in text.split(' ') {
+        words.push(word)?;
+    }
+    Ok(words)
+}
+
+// Writes a fault's line. Want of memory needs no memory to be told.
+fn report<W: Write>(alloc: Global, out: &mut W, fault: Fault) -> Result<u8, RunFault>
+    ensures { IfOk result (λ status. status ≤ 3) }
+{
+    if fault == Fault::NoMemory {
+        put(out, b"fault E524 NoMemory\n")?;
+    } else {
+        let line = format!(in alloc; "fault {fault}\n")?;
+        put(out, line.as_bytes())?;
+    }
+    Ok(fault.status())
+}
+
+fn obey<S: AsStr, F: Source, W: Write>(
+    alloc: Global,
+    words: &[S],
+    files: &mut F,
+    out: &mut W,
+) -> Result<u8, Stop>
+    ensures { IfOk result (λ status. status ≤ 3) }
+{
+    match read_words(alloc, words)? {
+        Request::Tables { files: names } => tables(alloc, names.as_slice(), files, out),
+        Request::Eval(request) => evaluate(alloc, &request, files, out),
+    }
+}
+
+// Lists files one by one, each read when those before it were listed.
+fn tables<F: Source, W: Write>(
+    alloc: Global,
+    names: &[&str],
+    files: &mut F,
+    out: &mut W,
+) -> Result<u8, Stop>
+    ensures { IfOk result (λ status. status ≤ 3) }
+{
+    for (number, name) in names.iter().enumerate() {
+        let bytes = read_file(files, name)?;
+        match read_table(&bytes) {
+            Ok(table) => list_tables(alloc, out, &[table])?,
+            Err(fault) => return Err(Stop::Fault(Fault::of_table(number, fault))),
+        }
+    }
+    Ok(0)
+}
+
+/// Reads a file of at most [`INPUT_LIMIT`] bytes.
+pub fn read_file<F: Source>(files: &mut F, name: &str) -> Result<Vec<u8>, Fault> {
+    let bytes = files.read(name)?;
+    if bytes.len() > INPUT_LIMIT {
+        return Err(Fault::File);
+    }
+    Ok(bytes)
+}

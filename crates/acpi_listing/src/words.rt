@@ -1,0 +1,113 @@
+// The words of a command line.
+
+use crate::fault::Fault;
+use clap::error::ErrorKind;
+use clap::{Arg, ArgAction, ArgMatches, Command, value_parser};
+use std::alloc::{AllocError, Global};
+use std::convert::AsStr;
+
+/// What the words ask for.
+#[derive(Debug, Drop)]
+pub enum Request<'a> {
+    /// To list tables.
+    Tables { files: Vec<&'a str> },
+    /// To evaluate a method.
+    Eval(EvalRequest<'a>),
+}
+
+/// Which method is to be evaluated, and how.
+#[derive(Debug, Drop)]
+pub struct EvalRequest<'a> {
+    /// The file of the DSDT.
+    pub file: &'a str,
+    /// The method's path.
+    pub method: &'a str,
+    /// The text that lists the arguments.
+    pub args: Option<&'a str>,
+    /// The number of steps.
+    pub steps: u64,
+}
+
+/// Reads the words: a command, its options, and last its files.
+///
+/// Fault: E520 for any other words, `--help` too.
+pub fn read_words<'a, S: AsStr>(alloc: Global, words: &'a [S]) -> Result<Request<'a>, Fault> {
+    let matches = match command(alloc)?.try_get_matches_from(words) {
+        Ok(matches) => matches,
+        Err(error) => return Err(fault_of(error.kind())),
+    };
+    match matches.subcommand() {
+        Some(("tables", found)) => Ok(Request::Tables {
+            files: files_of(alloc, found)?,
+        }),
+        Some(("eval", found)) => Ok(Request::Eval(eval_of(found)?)),
+        _ => Err(Fault::CommandLine),
+    }
+}
+
+fn fault_of(kind: ErrorKind) -> Fault {
+    match kind {
+        ErrorKind::OutOfMemory => Fault::NoMemory,
+        _ => Fault::CommandLine,
+    }
+}
+
+fn command<'a>(alloc: Global) -> Result<Command<'a>, AllocError> {
+    Command::new(alloc, "acpicheck")
+        .no_binary_name(true)
+        .subcommand_required(true)
+        .subcommand(tables_command(alloc)?)?
+        .subcommand(eval_command(alloc)?)
+}
+
+fn tables_command<'a>(alloc: Global) -> Result<Command<'a>, AllocError> {
+    let files = Arg::new(alloc, "files")
+        .required(true)
+        .action(ArgAction::Append)
+        .num_args(1..);
+    Command::new(alloc, "tables").arg(files)
+}
+
+fn eval_command<'a>(alloc: Global) -> Result<Command<'a>, AllocError> {
+    let method = Arg::new(alloc, "method")
+        .long("method")
+        .required(true)
+        .action(ArgAction::Set);
+    let args = Arg::new(alloc, "args").long("args").action(ArgAction::Set);
+    let plain = Arg::new(alloc, "plain")
+        .long("plain")
+        .required(true)
+        .action(ArgAction::Set)
+        .value_parser(value_parser!(u64));
+    let file = Arg::new(alloc, "file")
+        .required(true)
+        .action(ArgAction::Set);
+    Command::new(alloc, "eval")
+        .arg(method)?
+        .arg(args)?
+        .arg(plain)?
+        .arg(file)
+}
+
+fn files_of<'a>(alloc: Global, found: &ArgMatches<'a>) -> Result<Vec<&'a str>, Fault> {
+    match found.get_strs("files") {
+        Some(files) => Ok(Vec::from_slice(alloc, files)?),
+        None => Err(Fault::CommandLine),
+    }
+}
+
+fn eval_of<'a>(found: &ArgMatches<'a>) -> Result<EvalRequest<'a>, Fault> {
+    let (Some(file), Some(method), Some(steps)) = (
+        found.get_str("file"),
+        found.get_str("method"),
+        found.get_one::<u64>("plain"),
+    ) else {
+        return Err(Fault::CommandLine);
+    };
+    Ok(EvalRequest {
+        file,
+        method,
+        args: found.get_str("args"),
+        steps,
+    })
+}

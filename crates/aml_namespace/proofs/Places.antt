@@ -1,0 +1,145 @@
+-- The faults of a load stand within the table.
+use Rattle.std.proofs.Common.{◌≡◌, ℕ, zero, suc, ◌+◌, ◌-◌, ◌≤◌, ◌<◌, ◌⊎◌, inl, inr, List, [], ◌∷◌, ◌++◌, take, length, Option, Some, None, Result, Ok, Err, Bool, true, false, refl, sym, ap, ◌∙◌, subst, arith}
+use Rattle.std.specs.Prelude.{cond, nat_lt, nat_eq, not, sum, ◌==◌, ◌%◌}
+use Rattle.std.specs.List.{starts_with}
+use Rattle.std.proofs.lemmas.Bool.{ltb-false}
+use Rattle.std.proofs.lemmas.List.{length-take-le}
+use Rattle.aml_operators.specs.declared.op.Op.{Op}
+use Rattle.aml_operators.specs.declared.op.Op.TheVariants as op
+use Rattle.aml_operators.specs.declared.row.Code.TheVariants as code
+use Rattle.aml_operators.specs.declared.row.Spot.TheVariants as spot
+use Rattle.aml_operators.specs.declared.row.Piece.TheVariants as piece
+use Rattle.aml_operators.specs.Tree.{Tree, Trees, Node, none, more, trees, stop_of}
+use Rattle.aml_operators.specs.Table.{letters_of}
+use Rattle.aml_lex.specs.declared.names.NameSeg.{NameSeg}
+use Rattle.aml_tree.specs.Opening.{Opening, NoTarget, PlainName, InvokedName, Operator}
+use Rattle.aml_tree.specs.Begins.{Begins}
+use Rattle.aml_tree.specs.Grammar.{Meets, Follows, IsTerm, AreTerms}
+use Rattle.aml_tree.specs.Body.{greatest_depth, no_arguments, module_start, IsModule}
+use Rattle.aml_tree.proofs.Combining.{of_ok}
+use Rattle.aml_tree.proofs.Leaves.{end_in}
+use Rattle.aml_tree.proofs.Bounds.{piece_in, term_in}
+use Rattle.aml_tree.proofs.Beginnings.{begins_in}
+use Rattle.aml_tree.proofs.Faults.{module_fault}
+use Rattle.acpi_tables.specs.declared.fault.TableCause.TheVariants.{Short, BadLength, BadSum, BadSignature}
+use Rattle.acpi_tables.specs.declared.fault.TableFault.{TableFault}
+use Rattle.acpi_tables.specs.Bytes.{number_at}
+use Rattle.acpi_tables.specs.Fault.{check, first_fault}
+use Rattle.aml_namespace.specs.declared.fault.LoadCause.TheVariants.{Duplicate}
+use Rattle.aml_namespace.specs.declared.fault.LoadRefusal.{LoadRefusal}
+use Rattle.aml_namespace.specs.declared.method.Method.{Method}
+use Rattle.aml_namespace.specs.Fault.{◌>>=◌, refusal}
+use Rattle.aml_namespace.specs.Load.{dsdt_signature, FaultyLoad}
+use Rattle.aml_namespace.specs.Define.{Entries, Definition, at_of, number_of, root_segment_at, method_with, named, method_from, method_in, definition_in, definition_of, is_defined, add, defined_from}
+
+-- an answer's places: of a definition that of its name, of a refusal its own
+abbrev Placed : ℕ → Result Definition LoadRefusal → Type 0
+Placed end (Ok d) = d.1 ≤ end
+Placed end (Err f) = f.at ≤ end
+
+-- where a Method term's name stands
+abbrev NameWithin : ℕ → Trees → Type 0
+NameWithin end none = Unit {0}
+NameWithin end (more name rest) = at_of name ≤ end
+
+named_placed : (end : ℕ) (o : Option (List ℕ)) (name_at : ℕ) (m : Method) → name_at ≤ end → Placed end (named o name_at m)
+named_placed end None name_at m le = le
+named_placed end (Some b) name_at m le = le
+
+from_placed : (bytes : List ℕ) (end at : ℕ) (name body : Tree) (o : Option ℕ) → at ≤ end → at_of name ≤ end → Placed end (method_from bytes at name body o)
+from_placed bytes end at name body None le n = le
+from_placed bytes end at name body (Some flags) le n = named_placed end (root_segment_at bytes (at_of name)) (at_of name) (method_with flags at (at_of body) (stop_of body)) n
+
+method_placed : (bytes : List ℕ) (end at : ℕ) (parts : Trees) → at ≤ end → NameWithin end parts → Placed end (method_in bytes at parts)
+method_placed bytes end at none le n = le
+method_placed bytes end at (more a none) le n = le
+method_placed bytes end at (more a (more b none)) le n = le
+method_placed bytes end at (more a (more b (more c none))) le n = from_placed bytes end at a c (number_of b) le n
+method_placed bytes end at (more a (more b (more c (more d ts)))) le n = le
+
+name_within : (bytes : List ℕ) (next stop : ℕ) (parts : List Tree) (d own : ℕ) → next ≤ length bytes → Meets no_arguments (IsTerm code.Module no_arguments d) (letters_of op.Method) own bytes next stop parts → NameWithin (length bytes) (trees parts)
+name_within bytes next stop parts d own le h =
+    let w = of_ok _ _ _ _ (end_in bytes next le) h.2 in
+    let e : at_of h.3.0 ≡ h.1 = ap at_of h.3.3.3 in
+    subst (λ (x : List Tree). NameWithin (length bytes) (trees x)) (sym h.3.2) (omega (arith, e, w))
+
+name_follows : (o : Opening) (bytes : List ℕ) (from at stop : ℕ) (parts : Trees) (d : ℕ) → Begins code.Module spot.Statement bytes from o → Follows no_arguments (IsTerm code.Module no_arguments d) o bytes from (Node op.Method at stop parts) → NameWithin (length bytes) parts
+name_follows NoTarget bytes from at stop parts d b h = absurd cc
+name_follows PlainName bytes from at stop parts d b h = let e = h.3 in absurd cc
+name_follows InvokedName bytes from at stop parts d b h = let e = h.7 in absurd cc
+name_follows (Operator o next) bytes from at stop parts d b h =
+    let fits = begins_in code.Module spot.Statement bytes from (Operator o next) b in
+    let same_op : o ≡ op.Method = cc h.3 in
+    let same_parts : trees h.1 ≡ parts = cc h.3 in
+    subst (λ (x : Trees). NameWithin (length bytes) x) same_parts
+    (name_within bytes next h.0 h.1 d from fits.1 (subst (λ (x : Op). Meets no_arguments (IsTerm code.Module no_arguments d) (letters_of x) from bytes next h.0 h.1) same_op h.2))
+
+-- a term stands where it is read
+begins_at : (o : Opening) (bytes : List ℕ) (from : ℕ) (t : Tree) (d : ℕ) → Follows no_arguments (IsTerm code.Module no_arguments d) o bytes from t → at_of t ≡ from
+begins_at NoTarget bytes from t d h = ap at_of h
+begins_at PlainName bytes from t d h = ap at_of h.3
+begins_at InvokedName bytes from t d h = ap at_of h.7
+begins_at (Operator o next) bytes from t d h = ap at_of h.3
+
+abbrev IsDefinition : List ℕ → ℕ → Tree → Type 0
+IsDefinition bytes from t = IsTerm code.Module no_arguments greatest_depth module_start spot.Statement bytes from t
+
+by_op : (bytes : List ℕ) (from : ℕ) (t : Tree) → at_of t ≤ length bytes → IsDefinition bytes from t → Placed (length bytes) (definition_of bytes t)
+by_op bytes from (Node op.Method at stop parts) le h = method_placed bytes (length bytes) at parts le (name_follows h.0 bytes from at stop parts 63 h.1 h.2)
+by_op bytes from (Node o at stop parts) le h = le
+
+definition_placed : (bytes : List ℕ) (from : ℕ) (t : Tree) → IsDefinition bytes from t → Placed (length bytes) (definition_of bytes t)
+definition_placed bytes from t h =
+    let w = term_in code.Module no_arguments greatest_depth module_start spot.Statement bytes from t h in
+    let e = begins_at h.0 bytes from t 63 h.2 in
+    by_op bytes from t (omega (arith, e, w)) h
+
+added_placed : (end : ℕ) (b : Bool) (es : Entries) (d : Definition) (f : LoadRefusal) → d.1 ≤ end → cond b (Err (refusal Duplicate d.1)) (Ok (es ++ (d.0, d.2) ∷ [])) ≡ Err f → f.at ≤ end
+added_placed end true es d f le e = let same : refusal Duplicate d.1 ≡ f = cc in subst (λ (y : LoadRefusal). y.at ≤ end) same le
+added_placed end false es d f le e = absurd cc
+
+bind_err : {X Y : Type 0} (r : Result X LoadRefusal) (k : X → Result Y LoadRefusal) (f : LoadRefusal) → (r >>= k) ≡ Err f → (r ≡ Err f) ⊎ ((x : X) × (r ≡ Ok x) × (k x ≡ Err f))
+bind_err (Ok x) k f e = inr (x, refl, e)
+bind_err (Err g) k f e = let same : g ≡ f = cc in inl (ap Err same)
+
+placed_err : (end : ℕ) (r : Result Definition LoadRefusal) (f : LoadRefusal) → Placed end r → r ≡ Err f → f.at ≤ end
+placed_err end (Ok d) f p e = absurd cc
+placed_err end (Err g) f p e = let same : g ≡ f = cc in subst (λ (y : LoadRefusal). y.at ≤ end) same p
+
+placed_ok : (end : ℕ) (r : Result Definition LoadRefusal) (d : Definition) → Placed end r → r ≡ Ok d → d.1 ≤ end
+placed_ok end (Ok c) d p e = let same : c ≡ d = cc in subst (λ (y : Definition). y.1 ≤ end) same p
+placed_ok end (Err g) d p e = absurd cc
+
+behind_placed : (bytes : List ℕ) (es : Entries) (t : Tree) (ts : List Tree) (f : LoadRefusal) (d : Definition) → Placed (length bytes) (definition_of bytes t) → definition_of bytes t ≡ Ok d → ((m : Entries) → defined_from bytes m ts ≡ Err f → f.at ≤ length bytes)
+    → (add es d ≡ Err f) ⊎ ((m : Entries) × (add es d ≡ Ok m) × (defined_from bytes m ts ≡ Err f)) → f.at ≤ length bytes
+behind_placed bytes es t ts f d placed is later (inl h) = added_placed (length bytes) (is_defined d.0 es) es d f (placed_ok (length bytes) (definition_of bytes t) d placed is) h
+behind_placed bytes es t ts f d placed is later (inr h) = later h.0 h.2
+
+step_placed : (bytes : List ℕ) (es : Entries) (t : Tree) (ts : List Tree) (f : LoadRefusal) → Placed (length bytes) (definition_of bytes t) → ((m : Entries) → defined_from bytes m ts ≡ Err f → f.at ≤ length bytes)
+    → (definition_of bytes t ≡ Err f) ⊎ ((d : Definition) × (definition_of bytes t ≡ Ok d) × ((add es d >>= λ m. defined_from bytes m ts) ≡ Err f)) → f.at ≤ length bytes
+step_placed bytes es t ts f placed later (inl h) = placed_err (length bytes) (definition_of bytes t) f placed h
+step_placed bytes es t ts f placed later (inr h) = behind_placed bytes es t ts f h.0 placed h.1 later (bind_err (add es h.0) _ f h.2)
+
+all_placed : (bytes : List ℕ) (from stop : ℕ) (es : Entries) (ts : List Tree) (f : LoadRefusal) → AreTerms no_arguments (IsTerm code.Module no_arguments greatest_depth) module_start spot.Statement bytes from stop ts → defined_from bytes es ts ≡ Err f → f.at ≤ length bytes
+all_placed bytes from stop es [] f a e = absurd cc
+all_placed bytes from stop es (t ∷ ts) f a e =
+    step_placed bytes es t ts f (definition_placed bytes from t a.0) (λ m h. all_placed bytes (stop_of t) stop m ts f a.1 h) (bind_err (definition_of bytes t) _ f e)
+
+-- where a module's definitions are refused
+pub module_placed : (bytes : List ℕ) (ts : List Tree) (f : LoadRefusal) → IsModule bytes ts → defined_from bytes [] ts ≡ Err f → f.at ≤ length bytes
+module_placed bytes ts f a e = all_placed bytes module_start (length bytes) [] ts f a.1 e
+
+-- where a table is refused
+table_placed : (b c d e : Bool) (n : ℕ) (f : TableFault) → (b ≡ false → 36 ≤ n) → first_fault (check b Short n ∷ check c BadLength 4 ∷ check d BadSum 9 ∷ check e BadSignature 0 ∷ []) ≡ Some f → f.at ≤ n
+table_placed true c d e n f long is = let same : record { cause = Short; at = n } ≡ f = cc in subst (λ (y : TableFault). y.at ≤ n) same (omega arith)
+table_placed false true d e n f long is = let same : record { cause = BadLength; at = 4 } ≡ f = cc in subst (λ (y : TableFault). y.at ≤ n) same (let l : 36 ≤ n = long refl in omega arith)
+table_placed false false true e n f long is = let same : record { cause = BadSum; at = 9 } ≡ f = cc in subst (λ (y : TableFault). y.at ≤ n) same (let l : 36 ≤ n = long refl in omega arith)
+table_placed false false false true n f long is = let same : record { cause = BadSignature; at = 0 } ≡ f = cc in subst (λ (y : TableFault). y.at ≤ n) same (omega arith)
+table_placed false false false false n f long is = absurd cc
+
+pub load_placed : (bytes : List ℕ) (f : LoadRefusal) → FaultyLoad bytes f → f.at ≤ length bytes
+load_placed bytes f (inl h) =
+    let w = table_placed (nat_lt (length bytes) 36) (not (number_at 4 4 bytes == length bytes)) (not (sum bytes % 256 == 0)) (not (starts_with nat_eq bytes dsdt_signature)) (length bytes) h.0 (λ e. ltb-false _ _ e) h.1 in
+    subst (λ (y : LoadRefusal). y.at ≤ length bytes) (sym h.2) w
+load_placed bytes f (inr (inl h)) = let w = module_fault bytes h.1.0 h.1.1 in subst (λ (y : LoadRefusal). y.at ≤ length bytes) (sym h.1.2) w
+load_placed bytes f (inr (inr h)) = module_placed bytes h.1.0 f h.1.1 h.1.2

@@ -1,0 +1,290 @@
+// Faults as they are printed; a module begins at 36, a body at 0.
+
+use super::{body_of, table_of};
+use crate::{
+    Span, Term, TreeFault, bodies_are_unique, faults_stand_within, modules_are_unique, read_module,
+};
+use std::alloc::Global;
+use std::process::Abort;
+use std::test::Fail;
+
+/// What is told of an answer.
+fn told(alloc: Global, answer: Result<Vec<Term>, TreeFault>) -> Result<String, Fail> {
+    match answer {
+        Ok(_) => Ok("fine".to_string(alloc)?),
+        Err(fault) => Ok(fault.to_string(alloc)?),
+    }
+}
+
+/// Modules and what is told of each.
+fn modules(rt: &impl Abort, alloc: Global, rows: &[(&[u8], &str)]) -> Result<(), Fail> {
+    for (module, wanted) in rows {
+        let table = table_of(alloc, module)?;
+        let fault = told(alloc, read_module(alloc, &table))?;
+        assert_eq!(rt; fault.as_str(), *wanted);
+    }
+    Ok(())
+}
+
+/// Bodies and what is told of each.
+fn bodies(rt: &impl Abort, alloc: Global, rows: &[(&[u8], &str)]) -> Result<(), Fail> {
+    for (body, wanted) in rows {
+        let fault = told(alloc, body_of(alloc, body))?;
+        assert_eq!(rt; fault.as_str(), *wanted);
+    }
+    Ok(())
+}
+
+#[test]
+fn lexical_parts(rt: HostRuntime) -> Result<(), Fail> {
+    modules(
+        &rt,
+        rt.alloc(),
+        &[
+            (&[0x10, 0x3F, 0x5C, 0x00], "E207 Overrun 37"),
+            // A Scope of a Scope that goes past the outer one, and not past the table.
+            (
+                &[
+                    0x10, 0x08, b'A', b'B', b'C', b'D', 0x10, 0x05, b'A', b'B', b'C', b'D',
+                ],
+                "E207 Overrun 43",
+            ),
+            (&[0x14], "E201 Truncated 37"),
+            (&[0x5B], "E201 Truncated 37"),
+            (&[0x10, 0x00, 0x5C, 0x00], "E202 BadPkgLength 37"),
+            (&[0x10, 0x05, b'a', b'B', b'C', b'D'], "E203 BadName 38"),
+            (&[0x10, 0x05, b'A', b'B', b'C', 0x2D], "E203 BadName 41"),
+            (
+                &[0x5B, 0x81, 0x07, b'R', b'E', b'G', b'0', 0x01, 0x04],
+                "E203 BadName 44",
+            ),
+            (
+                &[0x08, b'A', b'B', b'C', b'D', 0x0D, 0x80, 0x00],
+                "E206 BadString 42",
+            ),
+            (
+                &[0x08, b'A', b'B', b'C', b'D', 0x0D, b'A'],
+                "E201 Truncated 43",
+            ),
+        ],
+    )
+}
+
+#[test]
+fn opcodes_of_a_module(rt: HostRuntime) -> Result<(), Fail> {
+    modules(
+        &rt,
+        rt.alloc(),
+        &[
+            // Unknown opcodes, an Else without its If, and Debug.
+            (&[0x03], "E204 UnknownOpcode 36"),
+            (&[0x5B, 0x2A], "E204 UnknownOpcode 36"),
+            (&[0xA1, 0x02, 0xA3], "E204 UnknownOpcode 36"),
+            (&[0x5B, 0x31], "E204 UnknownOpcode 36"),
+            // What may stand in a body alone: Local0, Arg6, Store, a name.
+            (&[0x60], "E209 ModuleCode 36"),
+            (&[0x6E], "E209 ModuleCode 36"),
+            (&[0x70, 0x01, 0x60], "E209 ModuleCode 36"),
+            (b"ABCD", "E209 ModuleCode 36"),
+            // A statement where an OperationRegion's place is asked for.
+            (
+                &[0x5B, 0x80, b'R', b'E', b'G', b'0', 0x00, 0xA3, 0x01],
+                "E204 UnknownOpcode 43",
+            ),
+            // There any term is read, but for a literal that a Buffer in it asks for.
+            (
+                &[0x5B, 0x80, b'R', b'E', b'G', b'0', 0x00, 0x75, 0x60, 0x01],
+                "fine",
+            ),
+            (
+                &[
+                    0x5B, 0x80, b'R', b'E', b'G', b'0', 0x00, 0x11, 0x02, 0x60, 0x01,
+                ],
+                "E209 ModuleCode 43",
+            ),
+        ],
+    )
+}
+
+#[test]
+fn data_of_a_module(rt: HostRuntime) -> Result<(), Fail> {
+    modules(
+        &rt,
+        rt.alloc(),
+        &[
+            // A Name of a sum and of a name, and a Buffer and a VarPackage of computed size.
+            (
+                &[0x08, b'A', b'B', b'C', b'D', 0x72, 0x01, 0x01, 0x00],
+                "E209 ModuleCode 36",
+            ),
+            (b"\x08ABCDEFGH", "E209 ModuleCode 36"),
+            (
+                &[
+                    0x08, b'A', b'B', b'C', b'D', 0x11, 0x05, 0x72, 0x01, 0x01, 0x00,
+                ],
+                "E209 ModuleCode 41",
+            ),
+            (
+                &[0x08, b'A', b'B', b'C', b'D', 0x13, 0x02, 0x60],
+                "E209 ModuleCode 41",
+            ),
+            // An unknown opcode where a literal is asked for.
+            (
+                &[0x08, b'A', b'B', b'C', b'D', 0x11, 0x03, 0x03, 0x00],
+                "E204 UnknownOpcode 43",
+            ),
+            // CreateDWordField of a local, at a local, and at Debug.
+            (
+                &[0x8A, 0x60, 0x00, b'A', b'B', b'C', b'D'],
+                "E209 ModuleCode 36",
+            ),
+            (
+                &[0x8A, b'B', b'U', b'F', b'0', 0x60, b'A', b'B', b'C', b'D'],
+                "E209 ModuleCode 36",
+            ),
+            (
+                &[
+                    0x8A, b'B', b'U', b'F', b'0', 0x5B, 0x31, b'A', b'B', b'C', b'D',
+                ],
+                "E204 UnknownOpcode 41",
+            ),
+            // A sum and Revision as elements of a package.
+            (
+                &[
+                    0x08, b'A', b'B', b'C', b'D', 0x12, 0x06, 0x01, 0x72, 0x01, 0x01, 0x00,
+                ],
+                "E204 UnknownOpcode 44",
+            ),
+            (
+                &[0x08, b'A', b'B', b'C', b'D', 0x12, 0x04, 0x01, 0x5B, 0x30],
+                "E204 UnknownOpcode 44",
+            ),
+        ],
+    )
+}
+
+#[test]
+fn opcodes_of_a_body(rt: HostRuntime) -> Result<(), Fail> {
+    bodies(
+        &rt,
+        rt.alloc(),
+        &[
+            (&[0x5B, 0x2A], "E204 UnknownOpcode 0"),
+            (&[0xA1, 0x02, 0xA3], "E204 UnknownOpcode 0"),
+            (&[0x5B, 0x31], "E204 UnknownOpcode 0"),
+            (&[0xA4, 0xA3], "E204 UnknownOpcode 1"),
+            (&[0xA4, 0x5B, 0x31], "E204 UnknownOpcode 1"),
+            (
+                &[0x08, b'A', b'B', b'C', b'D', 0x60],
+                "E204 UnknownOpcode 5",
+            ),
+            // 00 is no supername and no simple name; as a target it is none.
+            (&[0x75, 0x00], "E204 UnknownOpcode 1"),
+            (&[0x9D, 0x01, 0x00], "E204 UnknownOpcode 2"),
+            (&[0x70, 0x01, 0x00], "fine"),
+            (&[0x70, 0x01, 0x5B, 0x31], "fine"),
+            // An If of two operands in a package of one; the byte behind it is not its own.
+            (&[0xA0, 0x03, 0x93, 0x60, 0x01], "E201 Truncated 4"),
+            (&[0xA4], "E201 Truncated 1"),
+        ],
+    )
+}
+
+#[test]
+fn sizes(rt: HostRuntime) -> Result<(), Fail> {
+    bodies(
+        &rt,
+        rt.alloc(),
+        &[
+            // A Buffer of 65,536 bytes, of 65,537, and of a size that is cut off.
+            (&[0x11, 0x06, 0x0C, 0x00, 0x00, 0x01, 0x00], "fine"),
+            (
+                &[0x11, 0x06, 0x0C, 0x01, 0x00, 0x01, 0x00],
+                "E208 TooLarge 0",
+            ),
+            (&[0x11, 0x02, 0x0C], "E201 Truncated 3"),
+            // A VarPackage of 65,535 elements and of 65,536, where an element is no opcode.
+            (
+                &[0x13, 0x05, 0x0B, 0xFF, 0xFF, 0x03],
+                "E204 UnknownOpcode 5",
+            ),
+            (
+                &[0x13, 0x07, 0x0C, 0x00, 0x00, 0x01, 0x00, 0x03],
+                "E208 TooLarge 0",
+            ),
+            // A computed size has no limit.
+            (&[0x11, 0x02, 0x60], "fine"),
+        ],
+    )
+}
+
+/// A Buffer of size 0 whose initialiser is longer, as long as its PkgLength says in three bytes.
+#[test]
+fn long_initialisers(rt: HostRuntime) -> Result<(), Fail> {
+    let alloc = rt.alloc();
+    for (lead, size, wanted) in [(0x84, 65536, "fine"), (0x85, 65537, "E208 TooLarge 0")] {
+        let mut body = [0x11, lead, 0x00, 0x10, 0x00].to_vec(alloc)?;
+        body.resize(5 + size, 0xEE)?;
+        let fault = told(alloc, body_of(alloc, &body))?;
+        assert_eq!(rt; fault.as_str(), wanted);
+    }
+    Ok(())
+}
+
+/// A Return, so many LNots, and bytes behind them.
+fn nested(alloc: Global, depth: u8, behind: &[u8]) -> Result<Vec<u8>, Fail> {
+    let mut body = [0xA4u8].to_vec(alloc)?;
+    body.resize(1 + depth as usize, 0x92)?;
+    body.extend_from_slice(behind)?;
+    Ok(body)
+}
+
+#[test]
+fn depths(rt: HostRuntime) -> Result<(), Fail> {
+    let alloc = rt.alloc();
+    let rows: [(u8, &[u8], &str); 8] = [
+        (62, &[0x01], "fine"),
+        (63, &[0x01], "E205 TooDeep 64"),
+        // Too deep is told before what stands there, and not where nothing does.
+        (63, &[0x03], "E205 TooDeep 64"),
+        (63, &[], "E201 Truncated 64"),
+        // Of Increment (Local0) and Not (Local0, ..) the operand is too deep.
+        (62, &[0x75, 0x60], "E205 TooDeep 64"),
+        (62, &[0x80, 0x60, 0x00], "E205 TooDeep 64"),
+        // Name strings and a target that is none have no depth: Load (ABCD, none).
+        (62, &[0x5B, 0x20, b'A', b'B', b'C', b'D', 0x00], "fine"),
+        (
+            62,
+            &[0x5B, 0x20, b'A', b'B', b'C', b'D', 0x60],
+            "E205 TooDeep 69",
+        ),
+    ];
+    for (depth, behind, wanted) in rows {
+        let body = nested(alloc, depth, behind)?;
+        let fault = told(alloc, body_of(alloc, &body))?;
+        assert_eq!(rt; fault.as_str(), wanted);
+    }
+    Ok(())
+}
+
+/// A table that ends within its header, and calls whose contracts are laws.
+#[test]
+fn short_tables(rt: HostRuntime) -> Result<(), Fail> {
+    let alloc = rt.alloc();
+    let table = table_of(alloc, &[])?;
+    let rows = [
+        (0, "E201 Truncated 0"),
+        (35, "E201 Truncated 35"),
+        (36, "fine"),
+    ];
+    assert_eq!(rt; table.len(), 36);
+    for (cut, wanted) in rows {
+        let fault = told(alloc, read_module(alloc, &table[..cut]))?;
+        assert_eq!(rt; fault.as_str(), wanted);
+    }
+    assert!(rt; !Span { at: 0, end: 37 }.is_within(&table));
+    modules_are_unique();
+    bodies_are_unique();
+    faults_stand_within();
+    Ok(())
+}
