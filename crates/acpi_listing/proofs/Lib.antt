@@ -1,2 +1,4 @@
 pub mod Listing
 pub mod Methods
+pub mod FilesListed
+pub mod Evaluations

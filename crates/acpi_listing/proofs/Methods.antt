@@ -1,6 +1,5 @@
 -- A method that a namespace has stands among its objects.
 use Rattle.std.proofs.Common.{◌≡◌, ℕ, ◌<◌, Some, None, length, inl, inr, ap}
-use Rattle.std.specs.Prelude.{slice_get, Option}
 use Rattle.std.specs.Option.{option_map}
 use Rattle.std.proofs.lemmas.Option.{slice_get_cases}
 use Rattle.aml_lex.specs.declared.names.NameSeg.{NameSeg}

@@ -1,5 +1,5 @@
 -- How an evaluation ended, as it is printed.
-use Rattle.std.specs.Prelude.{ℕ, List, [], ◌∷◌, ◌++◌, Some, None, codes, decimal}
+use Rattle.std.specs.Prelude.{ℕ, List, [], ◌∷◌, Some, None, codes, decimal}
 use Rattle.acpi_listing.specs.Text.{joined, hex}
 use Rattle.aml_meaning.specs.declared.error.AmlCause.{AmlCause}
 use Rattle.aml_meaning.specs.declared.error.AmlCause.TheVariants.{Unset, Kind, Divisor, Index, Missing, Outside, Region, NoValue, Depth}

@@ -4,3 +4,6 @@ pub mod Evaluation
 pub mod Structures
 pub mod Tables
 pub mod Reading
+pub mod Files
+pub mod Input
+pub mod Commands

@@ -1,5 +1,5 @@
 -- Which table a file is, by its first bytes, and what it says.
-use Rattle.std.specs.Prelude.{ℕ, List, [], ◌∷◌, ⊤, Bool, nat_eq, codes, if◌then◌else◌}
+use Rattle.std.specs.Prelude.{ℕ, List, [], ⊤, Bool, nat_eq, codes, if◌then◌else◌}
 use Rattle.std.specs.List.{starts_with}
 use Rattle.acpi_listing.specs.declared.table.Table.{Table}
 use Rattle.acpi_listing.specs.declared.table.Table.TheVariants.{Pointer, Firmware, Addresses, Fixed, Interrupts, Other}

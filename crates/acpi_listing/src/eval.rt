@@ -1,12 +1,15 @@
 // The command `eval`.
 
-ghost use Rattle.std.specs.Prelude.{◌≤◌, ◌<◌, IfOk, length};
+ghost use Rattle.std.specs.Prelude.{◌≡◌, ◌<◌, ◌≤◌, ◌⊎◌, ◌↔◌, ℕ, List, true, IfOk, IfErr, length};
 ghost use Rattle.aml_namespace.specs.Load.{shown};
+ghost use Rattle.acpi_listing.specs.Lists.{Lists};
+ghost use Rattle.acpi_listing.specs.Commands.{Names, NamesNone, HasSegment, Takes, status, EvaluatesFile, LoadsOrFails};
+ghost use Rattle.acpi_listing.specs.declared.fault.Fault.TheVariants as fault;
 
 use crate::arguments::read_arguments;
 use crate::evaluation::list_evaluation;
 use crate::fault::{Fault, Stop};
-use crate::program::read_file;
+use crate::files::read_file;
 use crate::put::{RunFault, put};
 use crate::source::Source;
 use crate::words::EvalRequest;
@@ -24,7 +27,9 @@ pub fn evaluate<F: Source, W: Write>(
     files: &mut F,
     out: &mut W,
 ) -> Result<u8, Stop>
-    ensures { IfOk result (λ status. status ≤ 3) }
+    ensures status { IfOk result (λ status. status ≤ 3) }
+    ensures printed { EvaluatesFile F.answers files.old request.now.file.now request.now.method.now request.now.steps files.new
+        (W.contents out.old) (W.contents out.new) result }
 {
     let arguments = arguments_of(alloc, request)?;
     let table = read_file(files, request.file)?;
@@ -46,14 +51,18 @@ pub fn evaluate<F: Source, W: Write>(
     Ok(status_of(&outcome))
 }
 
-fn arguments_of(alloc: Global, request: &EvalRequest<'_>) -> Result<Vec<u64>, Fault> {
+fn arguments_of(alloc: Global, request: &EvalRequest<'_>) -> Result<Vec<u64>, Fault>
+    ensures { IfErr result (λ f. (f ≡ fault.NoMemory) ⊎ (f ≡ fault.BadArgs)) }
+{
     match request.args {
         Some(text) => read_arguments(alloc, text),
         None => Ok(Vec::new(alloc)),
     }
 }
 
-fn load<'a>(alloc: Global, table: &'a [u8]) -> Result<Namespace<'a>, Fault> {
+fn load<'a>(alloc: Global, table: &'a [u8]) -> Result<Namespace<'a>, Fault>
+    ensures { LoadsOrFails table.now result }
+{
     match Namespace::load(alloc, table) {
         Ok(namespace) => Ok(namespace),
         Err(fault) => Err(Fault::from(fault)),
@@ -63,7 +72,9 @@ fn load<'a>(alloc: Global, table: &'a [u8]) -> Result<Namespace<'a>, Fault> {
 // The method whose printed path the word is: `\` and the method's segment.
 #[tactic(auto, using(crate::proofs::Methods::method_within))]
 fn find_method(namespace: &Namespace<'_>, word: &str) -> Result<(ObjectId, Method), Fault>
-    ensures { IfOk result (λ found. found.0.0 < length (shown namespace.now).entries) }
+    ensures within { IfOk result (λ found. found.0.0 < length (shown namespace.now).entries) }
+    ensures found { IfOk result (λ found. Names (shown namespace.now) word.now found.0.0 found.1) }
+    ensures none { IfErr result (λ f. NamesNone (shown namespace.now) word.now × (f ≡ fault.NoSuchObject)) }
 {
     let Some(segment) = segment_of(word) else {
         return Err(Fault::NoSuchObject);
@@ -73,21 +84,24 @@ fn find_method(namespace: &Namespace<'_>, word: &str) -> Result<(ObjectId, Metho
     };
     match namespace.method(id) {
         Some(method) => Ok((id, method)),
-        None => Err(Fault::NoSuchObject),
+        None => unreachable!(),
     }
 }
 
-fn segment_of(word: &str) -> Option<NameSeg> {
-    match word.as_bytes() {
-        [b'\\', a, b, c, d] => Some(NameSeg {
-            bytes: [*a, *b, *c, *d],
-        }),
-        _ => None,
+fn segment_of(word: &str) -> Option<NameSeg>
+    ensures { HasSegment word.now result }
+{
+    let characters = word.as_bytes().strip_prefix(b"\\")?;
+    match <[u8; 4]>::try_from(characters) {
+        Ok(bytes) => Some(NameSeg { bytes }),
+        Err(_) => None,
     }
 }
 
 // Whether the method takes these arguments: as many as it has, each an integer of the namespace.
-fn fits(namespace: &Namespace<'_>, method: Method, arguments: &[u64]) -> bool {
+fn fits(namespace: &Namespace<'_>, method: Method, arguments: &[u64]) -> bool
+    ensures { result ≡ true ↔ Takes (shown namespace.now) method arguments.now }
+{
     let greatest = namespace.width().greatest();
     arguments.len() == usize::from(method.args) && arguments.iter().all(|n| *n <= greatest)
 }
@@ -99,7 +113,9 @@ fn list_refusal<W: Write>(
     path: &str,
     table: usize,
     refusal: Refusal,
-) -> Result<(), RunFault> {
+) -> Result<(), RunFault>
+    ensures { (text : List ℕ) × Lists result (W.contents out.old) (W.contents out.new) text }
+{
     let at = refusal.at;
     let cause = refusal.cause;
     let line = format!(in alloc; "{path} refused {table} {at} {cause}\n")?;
@@ -107,7 +123,8 @@ fn list_refusal<W: Write>(
 }
 
 fn status_of(outcome: &Outcome) -> u8
-    ensures { result ≤ 3 }
+    ensures value { result ≡ status outcome.now }
+    ensures most { result ≤ 3 }
 {
     match outcome {
         Outcome::Done(_) => 0,

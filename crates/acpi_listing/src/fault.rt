@@ -1,6 +1,10 @@
 // What ends a command with a fault line.
 
-ghost use Rattle.std.specs.Prelude.{◌≡◌, ◌≤◌};
+ghost use Rattle.std.specs.Prelude.{◌≡◌};
+ghost use Rattle.acpi_listing.specs.Files.{fault_of, load_fault};
+ghost use Rattle.acpi_listing.specs.Commands.{fault_status};
+ghost use Rattle.acpi_listing.specs.declared.fault.Fault.TheVariants as told;
+ghost use Rattle.acpi_listing.specs.declared.fault.Stop.TheVariants as stop;
 
 use crate::put::RunFault;
 use crate::source::SourceFault;
@@ -43,7 +47,9 @@ pub enum Fault {
 
 impl Fault {
     /// The fault of a table in the file with that number.
-    pub fn of_table(file: usize, fault: TableFault) -> Self {
+    pub fn of_table(file: usize, fault: TableFault) -> Self
+        ensures { result ≡ told.Table fault.cause file fault.at }
+    {
         Fault::Table {
             cause: fault.cause,
             file,
@@ -53,7 +59,7 @@ impl Fault {
 
     /// The status that the program ends with.
     pub fn status(self) -> u8
-        ensures { result ≤ 3 }
+        ensures { result ≡ fault_status self }
     {
         match self {
             Fault::CommandLine => 2,
@@ -72,30 +78,40 @@ pub enum Stop {
 }
 
 impl From<Fault> for Stop {
+    ghost from_gives = { λ f s. s ≡ stop.Fault f };
+
     fn from(fault: Fault) -> Stop {
         Stop::Fault(fault)
     }
 }
 
 impl From<RunFault> for Stop {
+    ghost from_gives = { λ f s. s ≡ stop.Run f };
+
     fn from(fault: RunFault) -> Stop {
         Stop::Run(fault)
     }
 }
 
 impl From<AllocError> for Fault {
+    ghost from_gives = { λ _ f. f ≡ told.NoMemory };
+
     fn from(_error: AllocError) -> Fault {
         Fault::NoMemory
     }
 }
 
 impl<T: Drop> From<AllocFailed<T>> for Fault {
+    ghost from_gives = { λ _ f. f ≡ told.NoMemory };
+
     fn from(_error: AllocFailed<T>) -> Fault {
         Fault::NoMemory
     }
 }
 
 impl From<SourceFault> for Fault {
+    ghost from_gives = { λ e f. f ≡ fault_of e };
+
     fn from(fault: SourceFault) -> Fault {
         match fault {
             SourceFault::File => Fault::File,
@@ -105,6 +121,8 @@ impl From<SourceFault> for Fault {
 }
 
 impl From<LoadFault> for Fault {
+    ghost from_gives = { λ e f. f ≡ load_fault e };
+
     fn from(fault: LoadFault) -> Fault {
         match fault {
             LoadFault::NoMemory => Fault::NoMemory,

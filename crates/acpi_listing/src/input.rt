@@ -1,6 +1,7 @@
 // Reading a stream to its end, up to a limit.
 
-ghost use Rattle.std.specs.Prelude.{◌≡◌, ◌≤◌, true, IfOk, vec_len};
+ghost use Rattle.std.specs.Prelude.{IfOk};
+ghost use Rattle.acpi_listing.specs.Input.{IsRead};
 
 use std::alloc::{AllocError, Global};
 use std::io::Read;
@@ -19,7 +20,7 @@ pub struct Input {
 
 /// Reads a stream to its end, or until a read fails or the bytes are more than [`INPUT_LIMIT`].
 pub fn read_input<R: Read>(alloc: Global, input: &mut R) -> Result<Input, AllocError>
-    ensures { IfOk result (λ read. read.is_whole ≡ true → vec_len read.bytes ≤ INPUT_LIMIT) }
+    ensures { IfOk result (λ read. IsRead (R.remaining input.old) (R.remaining input.new) read) }
 {
     let mut bytes = Vec::new(alloc);
     let mut chunk = [0u8; 4096];
@@ -32,7 +33,12 @@ pub fn read_input<R: Read>(alloc: Global, input: &mut R) -> Result<Input, AllocE
                 });
             }
             Ok(n) => bytes.extend_from_slice(&chunk[..n])?,
-            Err(_) => break,
+            Err(_) => {
+                return Ok(Input {
+                    bytes,
+                    is_whole: false,
+                });
+            }
         }
     }
     Ok(Input {

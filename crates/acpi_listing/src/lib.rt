@@ -7,6 +7,7 @@ mod escaped;
 mod eval;
 mod evaluation;
 mod fault;
+mod files;
 mod input;
 mod lines;
 mod lines_of_input;

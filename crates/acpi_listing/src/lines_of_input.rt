@@ -1,5 +1,8 @@
 // The lines of standard input, of which the first has the words and the others are files in hex.
 
+ghost use Rattle.std.specs.Prelude.{◌≡◌, ℕ, List, Option, option_map};
+ghost use Rattle.acpi_listing.specs.Input.{NextLine, hex_answers};
+
 use crate::source::{Source, SourceFault};
 use hex::FromHexError;
 use std::alloc::Global;
@@ -11,19 +14,31 @@ pub struct Lines<'a> {
 }
 
 impl<'a> Lines<'a> {
-    pub fn new(bytes: &'a [u8]) -> Self {
+    /// The lines of these bytes.
+    pub fn new(bytes: &'a [u8]) -> Self
+        ensures { result.rest ≡ bytes.entry }
+    {
         Lines { rest: bytes }
     }
 
     /// The next line without its end, None where no byte is left.
-    pub fn next_line(&mut self) -> Option<&'a [u8]> {
-        if self.rest.is_empty() {
+    pub fn next_line(&mut self) -> Option<&'a [u8]>
+        ensures { NextLine self.old.rest.now (option_map (λ line. line.now) result) self.new.rest.now }
+    {
+        let bytes = self.rest;
+        if bytes.is_empty() {
             return None;
         }
-        let mut parts = self.rest.splitn(2, |b| *b == b'\n');
-        let line = parts.next()?;
-        self.rest = parts.next().unwrap_or(&[]);
-        Some(line)
+        match bytes.iter().position(|b| *b == b'\n') {
+            Some(end) => {
+                self.rest = &bytes[end + 1..];
+                Some(&bytes[..end])
+            }
+            None => {
+                self.rest = &[];
+                Some(bytes)
+            }
+        }
     }
 }
 
@@ -37,6 +52,8 @@ pub struct HexLines<'a> {
 }
 
 impl Source for HexLines<'_> {
+    ghost answers = { hex_answers };
+
     fn read(&mut self, name: &str) -> Result<Vec<u8>, SourceFault> {
         if name != "@" || !self.is_whole {
             return Err(SourceFault::File);

@@ -1,15 +1,15 @@
 // The program over any source of files and any writer.
 
 ghost use Rattle.std.specs.Prelude.{◌≤◌, IfOk};
+ghost use Rattle.acpi_listing.specs.Commands.{ObeysWords, Reports, RunsWords, RunsInput};
 
 use crate::eval::evaluate;
 use crate::fault::{Fault, Stop};
-use crate::input::{INPUT_LIMIT, read_input};
+use crate::files::list_files;
+use crate::input::read_input;
 use crate::lines_of_input::{HexLines, Lines};
 use crate::put::{RunFault, put};
 use crate::source::Source;
-use crate::table::read_table;
-use crate::tables::list_tables;
 use crate::words::{Request, read_words};
 use std::alloc::{AllocError, Global};
 use std::convert::AsStr;
@@ -27,7 +27,8 @@ pub fn run_words<S: AsStr, F: Source, W: Write>(
     files: &mut F,
     out: &mut W,
 ) -> Result<u8, RunFault>
-    ensures { IfOk result (λ status. status ≤ 3) }
+    ensures status { IfOk result (λ status. status ≤ 3) }
+    ensures printed { RunsWords F.answers files.old files.new (W.contents out.old) (W.contents out.new) result }
 {
     match obey(alloc, words, files, out) {
         Ok(status) => Ok(status),
@@ -42,7 +43,9 @@ pub fn run_words<S: AsStr, F: Source, W: Write>(
 /// Answers as [`run_words`]. E523 where there is no line, or the input cannot be read to its end or has
 /// more than [`INPUT_LIMIT`] bytes.
 pub fn run<R: Read, W: Write>(alloc: Global, input: &mut R, out: &mut W) -> Result<u8, RunFault>
-    ensures { IfOk result (λ status. status ≤ 3) }
+    ensures status { IfOk result (λ status. status ≤ 3) }
+    ensures printed { RunsInput (R.remaining input.old) (R.remaining input.new)
+        (W.contents out.old) (W.contents out.new) result }
 {
     let Ok(input) = read_input(alloc, input) else {
         return report(alloc, out, Fault::NoMemory);
@@ -75,14 +78,15 @@ fn split_words(alloc: Global, text: &str) -> Result<Vec<&str>, AllocError> {
 
 // Writes a fault's line. Want of memory needs no memory to be told.
 fn report<W: Write>(alloc: Global, out: &mut W, fault: Fault) -> Result<u8, RunFault>
-    ensures { IfOk result (λ status. status ≤ 3) }
+    ensures status { IfOk result (λ status. status ≤ 3) }
+    ensures told { Reports fault (W.contents out.old) (W.contents out.new) result }
 {
     if fault == Fault::NoMemory {
         put(out, b"fault E524 NoMemory\n")?;
-    } else {
-        let line = format!(in alloc; "fault {fault}\n")?;
-        put(out, line.as_bytes())?;
+        return Ok(fault.status());
     }
+    let line = format!(in alloc; "fault {fault}\n")?;
+    put(out, line.as_bytes())?;
     Ok(fault.status())
 }
 
@@ -92,38 +96,11 @@ fn obey<S: AsStr, F: Source, W: Write>(
     files: &mut F,
     out: &mut W,
 ) -> Result<u8, Stop>
-    ensures { IfOk result (λ status. status ≤ 3) }
+    ensures status { IfOk result (λ status. status ≤ 3) }
+    ensures printed { ObeysWords F.answers files.old files.new (W.contents out.old) (W.contents out.new) result }
 {
     match read_words(alloc, words)? {
-        Request::Tables { files: names } => tables(alloc, names.as_slice(), files, out),
+        Request::Tables { files: names } => list_files(alloc, names.as_slice(), files, out),
         Request::Eval(request) => evaluate(alloc, &request, files, out),
     }
-}
-
-// Lists files one by one, each read when those before it were listed.
-fn tables<F: Source, W: Write>(
-    alloc: Global,
-    names: &[&str],
-    files: &mut F,
-    out: &mut W,
-) -> Result<u8, Stop>
-    ensures { IfOk result (λ status. status ≤ 3) }
-{
-    for (number, name) in names.iter().enumerate() {
-        let bytes = read_file(files, name)?;
-        match read_table(&bytes) {
-            Ok(table) => list_tables(alloc, out, &[table])?,
-            Err(fault) => return Err(Stop::Fault(Fault::of_table(number, fault))),
-        }
-    }
-    Ok(0)
-}
-
-/// Reads a file of at most [`INPUT_LIMIT`] bytes.
-pub fn read_file<F: Source>(files: &mut F, name: &str) -> Result<Vec<u8>, Fault> {
-    let bytes = files.read(name)?;
-    if bytes.len() > INPUT_LIMIT {
-        return Err(Fault::File);
-    }
-    Ok(bytes)
 }

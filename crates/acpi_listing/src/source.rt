@@ -1,5 +1,9 @@
 // Where a command's files come from.
 
+ghost use Rattle.std.specs.Prelude.{ℕ, List, Result};
+ghost use Rattle.acpi_listing.specs.Files.{bytes_of};
+ghost use Rattle.acpi_listing.specs.declared.source.SourceFault.{SourceFault};
+
 use thiserror::Error;
 
 /// Why a file has no bytes.
@@ -14,6 +18,11 @@ pub enum SourceFault {
 
 /// Where a command's files come from.
 pub trait Source {
+    // What a source may answer to a name, and the source that is then left. Where nothing is said,
+    // anything.
+    ghost answers: { Self → List ℕ → Result (List ℕ) SourceFault → Self → Type 0 } = { λ _ _ _ _. Unit {0} };
+
     /// The bytes of the file of that name.
-    fn read(&mut self, name: &str) -> Result<Vec<u8>, SourceFault>;
+    fn read(&mut self, name: &str) -> Result<Vec<u8>, SourceFault>
+        ensures { answers self.old name.now (bytes_of result) self.new };
 }

@@ -1,12 +1,13 @@
 // Rows whose expected output was worked out by hand: each fault number, each status, each kind of
 // line, and writers that fail.
 
+mod calls;
 mod rows;
 
 use crate::{RunFault, run};
 use hex;
 use rows::{EVAL, INPUTS, TABLES};
-use std::alloc::Global;
+use std::alloc::{AllocError, Global};
 use std::io;
 use std::io::Write;
 use std::process::Abort;
@@ -36,64 +37,100 @@ impl Write for Narrow {
     }
 }
 
-// What the program writes of an input, by a writer of that width and room, and its status.
-fn told(alloc: Global, input: &str, width: usize, room: usize) -> (Vec<u8>, Result<u8, RunFault>) {
+// What the program writes, and how it ends.
+#[derive(Drop)]
+struct Answer {
+    text: Vec<u8>,
+    ended: Result<u8, RunFault>,
+}
+
+impl Answer {
+    // Whether it is want of memory: the call ends so, or a last line tells it, and what stands before
+    // is a beginning of the text.
+    fn wants_memory(&self, text: &str) -> bool {
+        let front = match self.ended {
+            Err(RunFault::NoMemory) => Some(self.text.as_slice()),
+            Ok(1) => self.text.strip_suffix(b"fault E524 NoMemory\n"),
+            _ => None,
+        };
+        front.is_some_and(|front| text.as_bytes().starts_with(front))
+    }
+}
+
+// What the program answers to an input, by a writer of that width and room.
+fn told(alloc: Global, input: &str, width: usize, room: usize) -> Result<Answer, AllocError> {
     let mut out = Narrow {
-        text: Vec::new(alloc),
+        text: Vec::with_capacity(alloc, 4096)?,
         width,
         room,
     };
-    let status = run(alloc, &mut input.as_bytes(), &mut out);
-    (out.text, status)
+    let ended = run(alloc, &mut input.as_bytes(), &mut out);
+    Ok(Answer {
+        text: out.text,
+        ended,
+    })
+}
+
+// A row's answer; where the first try wanted memory, that of the second.
+fn prints(rt: &impl Abort, alloc: Global, input: &str, text: &str, status: u8) -> Result<(), Fail> {
+    let answer = match told(alloc, input, 4096, 4096) {
+        Ok(answer) if !answer.wants_memory(text) => answer,
+        _ => told(alloc, input, 4096, 4096)?,
+    };
+    assert_eq!(rt; answer.text.as_slice(), text.as_bytes(), "at {input}");
+    assert_eq!(rt; answer.ended, Ok(status), "at {input}");
+    Ok(())
 }
 
 // A DSDT with that revision and body, its length and checksum to fit, in hex.
-fn dsdt(rt: &impl Abort, alloc: Global, revision: u8, body: &str) -> Result<String, Fail> {
-    let mut bytes = hex::decode(
-        alloc,
-        "445344540000000000004143\
-         5049434b524f57533030303101000000524f575301000000",
-    )?;
-    bytes.extend_from_slice(&hex::decode(alloc, body)?)?;
-    assert!(rt; bytes.len() > 35);
-    bytes[4] = u8::try_from(bytes.len())?;
-    bytes[8] = revision;
+fn dsdt(alloc: Global, revision: u8, body: &str) -> Option<String> {
+    let header = "445344540000000000004143\
+         5049434b524f57533030303101000000524f575301000000";
+    let mut bytes = hex::decode(alloc, header).ok()?;
+    bytes
+        .extend_from_slice(&hex::decode(alloc, body).ok()?)
+        .ok()?;
+    let length = u8::try_from(bytes.len()).ok()?;
+    *bytes.get_mut(4)? = length;
+    *bytes.get_mut(8)? = revision;
     let sum = bytes.iter().fold(0u8, |sum, b| sum.wrapping_add(*b));
-    bytes[9] = 0u8.wrapping_sub(sum);
-    Ok(hex::encode(alloc, bytes.as_slice())?)
+    *bytes.get_mut(9)? = 0u8.wrapping_sub(sum);
+    hex::encode(alloc, bytes.as_slice()).ok()
 }
 
+// The input of an evaluation.
+fn evaluation(alloc: Global, words: &str, revision: u8, body: &str) -> Option<String> {
+    let table = dsdt(alloc, revision, body)?;
+    format!(in alloc; "eval {words} @\n{table}\n").ok()
+}
+
+// `rt try --test --fail-alloc N` refuses the N-th growth: each test that is named for rows then still
+// passes.
 #[test]
-fn evaluations(rt: HostRuntime) -> Result<(), Fail> {
+fn rows_of_evaluations(rt: HostRuntime) -> Result<(), Fail> {
     let alloc = rt.alloc();
     for (words, revision, body, text, status) in EVAL {
-        let table = dsdt(&rt, alloc, *revision, body)?;
-        let input = format!(in alloc; "eval {words} @\n{table}\n")?;
-        let (out, ended) = told(alloc, input.as_str(), 4096, 4096);
-        assert_eq!(rt; out.as_slice(), text.as_bytes(), "at {words} {body}");
-        assert_eq!(rt; ended, Ok(*status), "at {words} {body}");
+        let input = match evaluation(alloc, words, *revision, body) {
+            Some(input) => input,
+            None => evaluation(alloc, words, *revision, body).ok_or("an input")?,
+        };
+        prints(&rt, alloc, input.as_str(), text, *status)?;
     }
     Ok(())
 }
 
 #[test]
-fn inputs(rt: HostRuntime) {
-    let alloc = rt.alloc();
+fn rows_of_inputs(rt: HostRuntime) -> Result<(), Fail> {
     for (input, text, status) in INPUTS {
-        let (out, ended) = told(alloc, input, 4096, 4096);
-        assert_eq!(rt; out.as_slice(), text.as_bytes(), "at {input}");
-        assert_eq!(rt; ended, Ok(*status), "at {input}");
+        prints(&rt, rt.alloc(), input, text, *status)?;
     }
+    Ok(())
 }
 
 #[test]
-fn tables(rt: HostRuntime) -> Result<(), Fail> {
-    let alloc = rt.alloc();
-    for (lines, text, status) in TABLES {
-        let input = format!(in alloc; "tables {lines}\n")?;
-        let (out, ended) = told(alloc, input.as_str(), 4096, 4096);
-        assert_eq!(rt; out.as_slice(), text.as_bytes(), "at {lines}");
-        assert_eq!(rt; ended, Ok(*status), "at {lines}");
+fn rows_of_tables(rt: HostRuntime) -> Result<(), Fail> {
+    for (input, text, status) in TABLES {
+        prints(&rt, rt.alloc(), input, text, *status)?;
     }
     Ok(())
 }
@@ -102,15 +139,15 @@ fn tables(rt: HostRuntime) -> Result<(), Fail> {
 fn writers(rt: HostRuntime) -> Result<(), Fail> {
     let alloc = rt.alloc();
     let input = format!(in alloc; "tables @ @\n{TABLE_1}\n{TABLE_1}\n")?;
-    let (whole, ended) = told(alloc, input.as_str(), 4096, 4096);
-    assert_eq!(rt; ended, Ok(0));
-    let (slow, ended) = told(alloc, input.as_str(), 1, 4096);
-    assert_eq!(rt; ended, Ok(0));
-    assert_eq!(rt; slow.as_slice(), whole.as_slice());
-    for room in 0..whole.len() {
-        let (front, ended) = told(alloc, input.as_str(), 7, room);
-        assert_eq!(rt; ended, Err(RunFault::Write));
-        assert_eq!(rt; front.as_slice(), &whole[..room]);
+    let whole = told(alloc, input.as_str(), 4096, 4096)?;
+    assert_eq!(rt; whole.ended, Ok(0));
+    let slow = told(alloc, input.as_str(), 1, 4096)?;
+    assert_eq!(rt; slow.ended, Ok(0));
+    assert_eq!(rt; slow.text.as_slice(), whole.text.as_slice());
+    for room in 0..whole.text.len() {
+        let front = told(alloc, input.as_str(), 7, room)?;
+        assert_eq!(rt; front.ended, Err(RunFault::Write));
+        assert_eq!(rt; front.text.as_slice(), &whole.text[..room]);
     }
     Ok(())
 }

@@ -1,5 +1,8 @@
 // The words of a command line.
 
+ghost use Rattle.std.specs.Prelude.{◌≡◌, ◌⊎◌, IfErr};
+ghost use Rattle.acpi_listing.specs.declared.fault.Fault.TheVariants as fault;
+
 use crate::fault::Fault;
 use clap::error::ErrorKind;
 use clap::{Arg, ArgAction, ArgMatches, Command, value_parser};
@@ -31,7 +34,9 @@ pub struct EvalRequest<'a> {
 /// Reads the words: a command, its options, and last its files.
 ///
 /// Fault: E520 for any other words, `--help` too.
-pub fn read_words<'a, S: AsStr>(alloc: Global, words: &'a [S]) -> Result<Request<'a>, Fault> {
+pub fn read_words<'a, S: AsStr>(alloc: Global, words: &'a [S]) -> Result<Request<'a>, Fault>
+    ensures { IfErr result (λ f. (f ≡ fault.CommandLine) ⊎ (f ≡ fault.NoMemory)) }
+{
     let matches = match command(alloc)?.try_get_matches_from(words) {
         Ok(matches) => matches,
         Err(error) => return Err(fault_of(error.kind())),
@@ -45,7 +50,9 @@ pub fn read_words<'a, S: AsStr>(alloc: Global, words: &'a [S]) -> Result<Request
     }
 }
 
-fn fault_of(kind: ErrorKind) -> Fault {
+fn fault_of(kind: ErrorKind) -> Fault
+    ensures { (result ≡ fault.CommandLine) ⊎ (result ≡ fault.NoMemory) }
+{
     match kind {
         ErrorKind::OutOfMemory => Fault::NoMemory,
         _ => Fault::CommandLine,
@@ -89,14 +96,18 @@ fn eval_command<'a>(alloc: Global) -> Result<Command<'a>, AllocError> {
         .arg(file)
 }
 
-fn files_of<'a>(alloc: Global, found: &ArgMatches<'a>) -> Result<Vec<&'a str>, Fault> {
+fn files_of<'a>(alloc: Global, found: &ArgMatches<'a>) -> Result<Vec<&'a str>, Fault>
+    ensures { IfErr result (λ f. (f ≡ fault.CommandLine) ⊎ (f ≡ fault.NoMemory)) }
+{
     match found.get_strs("files") {
         Some(files) => Ok(Vec::from_slice(alloc, files)?),
         None => Err(Fault::CommandLine),
     }
 }
 
-fn eval_of<'a>(found: &ArgMatches<'a>) -> Result<EvalRequest<'a>, Fault> {
+fn eval_of<'a>(found: &ArgMatches<'a>) -> Result<EvalRequest<'a>, Fault>
+    ensures { IfErr result (λ f. f ≡ fault.CommandLine) }
+{
     let (Some(file), Some(method), Some(steps)) = (
         found.get_str("file"),
         found.get_str("method"),

@@ -1,4 +1,4 @@
-use Rattle.std.proofs.Common.{rules, [], refl}
+use Rattle.std.proofs.Common.{[], refl}
 use Rattle.std.proofs.KnownBytes.{Appends-nil}
 use Rattle.acpi_listing.proofs.Listing.{stopped, lists_then}
 use Rattle.acpi_listing.proofs.tables.list_xsdt.Goals as goal
