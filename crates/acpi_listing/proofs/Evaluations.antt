@@ -19,12 +19,12 @@ found_in answers old new file word bytes lent ns id m same opens loaded names =
     (bytes, id, opens, subst (λ b. IsLoaded b ns) same loaded, names)
 
 -- a fault, before anything is printed
-pub faulted : {F : Type 0} (answers : Answers F) (old new : F) (file word : List ℕ) (steps : ℕ) (held : Option (List ℕ)) (r : Result ℕ Stop) (f : Fault)
-    → IsErrAnd r (λ s. s ≡ Faulty f) → FaultyEval answers old file word new f
-    → EvaluatesFile answers old file word steps new held held r
-faulted answers old new file word steps held (Ok n) f e faulty = absurd e
-faulted answers old new file word steps held (Err s) f e faulty =
-    subst (λ stop. EvaluatesFile answers old file word steps new held held (Err stop)) (sym e) (faulty, refl)
+pub faulted : {F : Type 0} (answers : Answers F) (old new : F) (file word : List ℕ) (args : Option (List ℕ)) (steps : ℕ) (held : Option (List ℕ)) (r : Result ℕ Stop) (f : Fault)
+    → IsErrAnd r (λ s. s ≡ Faulty f) → FaultyEval answers old file word args new f
+    → EvaluatesFile answers old file word args steps new held held r
+faulted answers old new file word args steps held (Ok n) f e faulty = absurd e
+faulted answers old new file word args steps held (Err s) f e faulty =
+    subst (λ stop. EvaluatesFile answers old file word args steps new held held (Err stop)) (sym e) (faulty, refl)
 
 -- a fault whose line could not be made
 pub untold : (f : Fault) (held : Option (List ℕ)) (r : Result ℕ RunFault) → IsErr r → Reports f held held r

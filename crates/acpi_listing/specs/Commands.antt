@@ -1,5 +1,5 @@
 -- What the commands do, from words that were read to what is printed.
-use Rattle.std.specs.Prelude.{◌≡◌, ◌≤◌, ◌⊎◌, ◌-◌, ◌^◌, ℕ, List, [], ◌∷◌, All, Bool, length, Option, Some, None, Result, Ok, Err, map, vec_items}
+use Rattle.std.specs.Prelude.{◌≡◌, ◌≤◌, ◌⊎◌, ◌-◌, ◌^◌, ℕ, List, [], ◌∷◌, All, Bool, length, Option, Some, None, Result, Ok, Err, map, option_map, vec_items}
 use Rattle.std.specs.Str.{IsUtf8}
 use Rattle.std.specs.Io.KnownBytes.{Appends}
 use Rattle.aml_lex.specs.declared.names.NameSeg.{NameSeg}
@@ -15,6 +15,7 @@ use Rattle.aml_namespace.specs.Objects.{method_at, number_of, IsBodyOf, ReadsBod
 use Rattle.aml_plain.specs.Methods.{Evaluates}
 use Rattle.aml_plain.specs.declared.body.Outcome.{Outcome}
 use Rattle.aml_plain.specs.declared.body.Outcome.TheVariants.{Done, AmlError, OutOfSteps}
+use Rattle.acpi_listing.specs.Arguments.{Given}
 use Rattle.acpi_listing.specs.Evaluation.{outcome_line}
 use Rattle.acpi_listing.specs.Files.{Answers, Opens, ListsFiles}
 use Rattle.acpi_listing.specs.Input.{NextLine, IsRead, hex_answers}
@@ -63,29 +64,29 @@ Finds answers old file word new ns m =
     (bytes : List ℕ) × (id : ℕ) × Opens answers old file (Ok bytes) new × IsLoaded bytes ns × Names ns word id m
 
 -- why an evaluation ends with a fault
-abbrev pub FaultyEval : {F : Type 0} → Answers F → F → List ℕ → List ℕ → F → Fault → Type 0
-FaultyEval answers old file word new f =
+abbrev pub FaultyEval : {F : Type 0} → Answers F → F → List ℕ → List ℕ → Option (List ℕ) → F → Fault → Type 0
+FaultyEval answers old file word args new f =
     (f ≡ fault.NoMemory) ⊎ ((f ≡ fault.BadArgs)
     ⊎ (Opens answers old file (Err f) new
     ⊎ (((bytes : List ℕ) × (refusal : LoadRefusal) × Opens answers old file (Ok bytes) new × FaultyLoad bytes refusal × (f ≡ fault.Load refusal))
     ⊎ (((bytes : List ℕ) × (ns : Shown) × Opens answers old file (Ok bytes) new × IsLoaded bytes ns × NamesNone ns word × (f ≡ fault.NoSuchObject))
     ⊎ ((ns : Shown) × (m : Method) × (ts : List Tree) × (arguments : List ℕ) × Finds answers old file word new ns m × IsBodyOf ns m ts
-    × (Takes ns m arguments → ⊥) × (f ≡ fault.ArgsDontFit))))))
+    × Given args arguments × (Takes ns m arguments → ⊥) × (f ≡ fault.ArgsDontFit))))))
 
 -- how `eval` ends: a refused body's line, or the line of the meaning's outcome; a fault, and nothing is printed; or a beginning of a line
-abbrev pub EvaluatesFile : {F : Type 0} → Answers F → F → List ℕ → List ℕ → ℕ → F → Option (List ℕ) → Option (List ℕ) → Result ℕ Stop → Type 0
-EvaluatesFile answers old file word steps new held holds (Ok ended) =
+abbrev pub EvaluatesFile : {F : Type 0} → Answers F → F → List ℕ → List ℕ → Option (List ℕ) → ℕ → F → Option (List ℕ) → Option (List ℕ) → Result ℕ Stop → Type 0
+EvaluatesFile answers old file word args steps new held holds (Ok ended) =
     (ns : Shown) × (m : Method) × Finds answers old file word new ns m
     × (((refusal : Refusal) × (line : List ℕ) × ReadsBodyOf ns m (Err (Refused refusal)) × Appends held holds line × (ended ≡ 3))
-    ⊎ ((ts : List Tree) × (arguments : List ℕ) × (outcome : Outcome) × IsBodyOf ns m ts × Takes ns m arguments
+    ⊎ ((ts : List Tree) × (arguments : List ℕ) × (outcome : Outcome) × IsBodyOf ns m ts × Given args arguments × Takes ns m arguments
     × Evaluates ns m (trees ts) arguments steps outcome × Appends held holds (outcome_line outcome) × (ended ≡ status outcome)))
-EvaluatesFile answers old file word steps new held holds (Err (Faulty f)) = FaultyEval answers old file word new f × (holds ≡ held)
-EvaluatesFile answers old file word steps new held holds (Err (Run _)) = (line : List ℕ) × Appends held holds line
+EvaluatesFile answers old file word args steps new held holds (Err (Faulty f)) = FaultyEval answers old file word args new f × (holds ≡ held)
+EvaluatesFile answers old file word args steps new held holds (Err (Run _)) = (line : List ℕ) × Appends held holds line
 
 -- what the words ask for is done, with files of a source
 abbrev pub Obeys : {F : Type 0} → Answers F → F → Request → F → Option (List ℕ) → Option (List ℕ) → Result ℕ Stop → Type 0
 Obeys answers old (Tables names) new held holds r = ListsFiles answers old (map (λ name. name.now) (vec_items names)) new held holds r
-Obeys answers old (Eval request) new held holds r = EvaluatesFile answers old request.file.now request.method.now request.steps new held holds r
+Obeys answers old (Eval request) new held holds r = EvaluatesFile answers old request.file.now request.method.now (option_map (λ text. text.now) request.args) request.steps new held holds r
 
 -- words are a command that is obeyed, or none, and then nothing is read or printed
 abbrev pub ObeysWords : {F : Type 0} → Answers F → F → F → Option (List ℕ) → Option (List ℕ) → Result ℕ Stop → Type 0

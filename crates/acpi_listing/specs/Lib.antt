@@ -5,5 +5,6 @@ pub mod Structures
 pub mod Tables
 pub mod Reading
 pub mod Files
+pub mod Arguments
 pub mod Input
 pub mod Commands

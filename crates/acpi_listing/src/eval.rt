@@ -1,9 +1,12 @@
 // The command `eval`.
 
-ghost use Rattle.std.specs.Prelude.{◌≡◌, ◌<◌, ◌≤◌, ◌⊎◌, ◌↔◌, ℕ, List, true, IfOk, IfErr, length};
+ghost use Rattle.std.specs.Prelude.{◌≡◌, ◌<◌, ◌≤◌, ◌⊎◌, ◌↔◌, ℕ, List, true};
+ghost use Rattle.std.specs.Prelude.{IfOk, IfErr, length, option_map, vec_items};
+ghost use Rattle.acpi_listing.specs.Arguments.{Given};
 ghost use Rattle.aml_namespace.specs.Load.{shown};
 ghost use Rattle.acpi_listing.specs.Lists.{Lists};
-ghost use Rattle.acpi_listing.specs.Commands.{Names, NamesNone, HasSegment, Takes, status, EvaluatesFile, LoadsOrFails};
+ghost use Rattle.acpi_listing.specs.Commands.{EvaluatesFile, LoadsOrFails, Names, NamesNone};
+ghost use Rattle.acpi_listing.specs.Commands.{HasSegment, Takes, status};
 ghost use Rattle.acpi_listing.specs.declared.fault.Fault.TheVariants as fault;
 
 use crate::arguments::read_arguments;
@@ -28,7 +31,8 @@ pub fn evaluate<F: Source, W: Write>(
     out: &mut W,
 ) -> Result<u8, Stop>
     ensures status { IfOk result (λ status. status ≤ 3) }
-    ensures printed { EvaluatesFile F.answers files.old request.now.file.now request.now.method.now request.now.steps files.new
+    ensures printed { EvaluatesFile F.answers files.old request.now.file.now request.now.method.now
+        (option_map (λ text. text.now) request.now.args) request.now.steps files.new
         (W.contents out.old) (W.contents out.new) result }
 {
     let arguments = arguments_of(alloc, request)?;
@@ -52,7 +56,9 @@ pub fn evaluate<F: Source, W: Write>(
 }
 
 fn arguments_of(alloc: Global, request: &EvalRequest<'_>) -> Result<Vec<u64>, Fault>
-    ensures { IfErr result (λ f. (f ≡ fault.NoMemory) ⊎ (f ≡ fault.BadArgs)) }
+    ensures given { IfOk result
+        (λ ns. Given (option_map (λ text. text.now) request.now.args) (vec_items ns)) }
+    ensures faults { IfErr result (λ f. (f ≡ fault.NoMemory) ⊎ (f ≡ fault.BadArgs)) }
 {
     match request.args {
         Some(text) => read_arguments(alloc, text),
@@ -74,7 +80,8 @@ fn load<'a>(alloc: Global, table: &'a [u8]) -> Result<Namespace<'a>, Fault>
 fn find_method(namespace: &Namespace<'_>, word: &str) -> Result<(ObjectId, Method), Fault>
     ensures within { IfOk result (λ found. found.0.0 < length (shown namespace.now).entries) }
     ensures found { IfOk result (λ found. Names (shown namespace.now) word.now found.0.0 found.1) }
-    ensures none { IfErr result (λ f. NamesNone (shown namespace.now) word.now × (f ≡ fault.NoSuchObject)) }
+    ensures none { IfErr result
+        (λ f. NamesNone (shown namespace.now) word.now × (f ≡ fault.NoSuchObject)) }
 {
     let Some(segment) = segment_of(word) else {
         return Err(Fault::NoSuchObject);

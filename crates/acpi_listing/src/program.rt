@@ -28,7 +28,8 @@ pub fn run_words<S: AsStr, F: Source, W: Write>(
     out: &mut W,
 ) -> Result<u8, RunFault>
     ensures status { IfOk result (λ status. status ≤ 3) }
-    ensures printed { RunsWords F.answers files.old files.new (W.contents out.old) (W.contents out.new) result }
+    ensures printed { RunsWords F.answers files.old files.new
+        (W.contents out.old) (W.contents out.new) result }
 {
     match obey(alloc, words, files, out) {
         Ok(status) => Ok(status),
@@ -97,7 +98,8 @@ fn obey<S: AsStr, F: Source, W: Write>(
     out: &mut W,
 ) -> Result<u8, Stop>
     ensures status { IfOk result (λ status. status ≤ 3) }
-    ensures printed { ObeysWords F.answers files.old files.new (W.contents out.old) (W.contents out.new) result }
+    ensures printed { ObeysWords F.answers files.old files.new
+        (W.contents out.old) (W.contents out.new) result }
 {
     match read_words(alloc, words)? {
         Request::Tables { files: names } => list_files(alloc, names.as_slice(), files, out),

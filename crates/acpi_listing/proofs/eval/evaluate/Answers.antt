@@ -1,7 +1,8 @@
-use Rattle.std.proofs.Common.{◌≡◌, inl, inr, refl, map, subst, true}
+use Rattle.std.proofs.Common.{◌≡◌, inl, inr, refl, map, subst, sym, true, option_map}
 use Rattle.aml_namespace.specs.Load.{shown, IsLoaded}
 use Rattle.aml_operators.specs.Tree.{view, views}
 use Rattle.aml_plain.specs.Methods.{Evaluates}
+use Rattle.acpi_listing.specs.Arguments.{Given}
 use Rattle.acpi_listing.specs.Commands.{Takes}
 use Rattle.acpi_listing.proofs.Evaluations.{found_in, faulted}
 use Rattle.acpi_listing.proofs.eval.evaluate.Goals as goal
@@ -11,7 +12,7 @@ returns-in_err-id-clause-printed g c =
     let table = c.in_ok-table.table.items in
     let ns = shown c.in_ok-namespace.namespace in
     let loaded = subst (λ bytes. IsLoaded bytes ns) c.deref.ensures.value c.in_ok-namespace.ensures in
-    faulted g.F.Source.answers _ _ _ _ _ _ c.from_residual-in_err-id.result _ c.from_residual-in_err-id.ensures.1
+    faulted g.F.Source.answers _ _ _ _ _ _ _ c.from_residual-in_err-id.result _ c.from_residual-in_err-id.ensures.1
     (inr (inr (inr (inr (inl (table, ns, c.in_ok-table.ensures, loaded, c.in_err-id.ensures.none.0, c.in_err-id.ensures.none.1))))))
 
 pub returns-in-Err-Refused-clause-printed : goal.returns-in-Err-Refused-clause-printed
@@ -32,8 +33,9 @@ returns-then-not-fits-clause-printed g c =
     let m = c.in_ok-id.method in
     let finds = found_in g.F.Source.answers _ _ _ _ c.in_ok-table.table.items _ ns _ m c.deref.ensures.value c.in_ok-table.ensures c.in_ok-namespace.ensures c.in_ok-id.ensures.found in
     let body = c.in-Ok.ensures m c.in_ok-id.ensures.found.3 in
+    let given = subst (Given (option_map (λ text. text.now) c.args.request.now.args)) (sym c.deref-2.ensures.value) c.in_ok-arguments.ensures.given in
     let refuses : Takes ns m c.deref-2.result.now → ⊥ = λ takes. let fits : c.fits.result ≡ true = c.fits.ensures.1 takes in absurd (cc (fits, c.if-not-fits.true)) in
-    (inr (inr (inr (inr (inr (ns, m, map view c.in-Ok.body.items, c.deref-2.result.now, finds, body, refuses, refl))))), refl)
+    (inr (inr (inr (inr (inr (ns, m, map view c.in-Ok.body.items, c.deref-2.result.now, finds, body, given, refuses, refl))))), refl)
 
 pub returns-clause-printed : goal.returns-clause-printed
 returns-clause-printed g c =
@@ -46,4 +48,4 @@ returns-clause-printed g c =
     let outcome = c.evaluate_terms-outcome.result in
     let goes = rw c.deref-3.ensures.value at (c.evaluate_terms-outcome.ensures m c.in_ok-id.ensures.found.3) in
     let meant = subst (λ a. Evaluates ns m (views c.in-Ok.body.items) a c.args.request.now.steps outcome) c.deref-4.ensures.value goes in
-    (ns, m, finds, inr (map view c.in-Ok.body.items, arguments, outcome, body, takes, meant, c.in_ok-list_evaluation.ensures, c.status_of.ensures.value))
+    (ns, m, finds, inr (map view c.in-Ok.body.items, arguments, outcome, body, c.in_ok-arguments.ensures.given, takes, meant, c.in_ok-list_evaluation.ensures, c.status_of.ensures.value))
