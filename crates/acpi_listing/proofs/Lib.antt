@@ -2,3 +2,4 @@ pub mod Listing
 pub mod Methods
 pub mod FilesListed
 pub mod Evaluations
+pub mod Elements

@@ -1,5 +1,5 @@
 -- The text of `--args`.
-use Rattle.std.specs.Prelude.{◌≡◌, ◌<◌, ◌^◌, ◌⊎◌, ℕ, List, [], ◌∷◌, ◌++◌, Option, Some, None}
+use Rattle.std.specs.Prelude.{◌≡◌, ◌<◌, ◌^◌, ◌⊎◌, ◌==◌, ℕ, List, [], ◌∷◌, ◌++◌, ⊤, Option, Some, None, if◌then◌else◌}
 use Rattle.std.specs.Str.Parse.{IsNumeral, digits_value}
 
 -- an element's integer, below 2^64: decimal digits, or hex digits behind `0x`
@@ -8,14 +8,41 @@ IsInteger text n =
     (n < 2 ^ 64) × ((IsNumeral 10 text × (n ≡ digits_value 10 text))
     ⊎ ((digits : List ℕ) × (text ≡ 48 ∷ 120 ∷ digits) × IsNumeral 16 digits × (n ≡ digits_value 16 digits)))
 
--- integers that a text lists by commas
+-- no integer's element
+abbrev pub IsNoInteger : List ℕ → Type 0
+IsNoInteger text = (n : ℕ) → IsInteger text n → ⊥
+
+-- elements of which the first begins with a further byte
+abbrev pub begun_with : ℕ → List (List ℕ) → List (List ℕ)
+begun_with b [] = (b ∷ []) ∷ []
+begun_with b (element ∷ more) = (b ∷ element) ∷ more
+
+-- the elements of a text, between its commas
+abbrev pub elements : List ℕ → List (List ℕ)
+elements [] = [] ∷ []
+elements (b ∷ rest) = if b == 44 then [] ∷ elements rest else begun_with b (elements rest)
+
+-- elements and their integers
+abbrev pub AreIntegers : List (List ℕ) → List ℕ → Type 0
+AreIntegers [] [] = ⊤
+AreIntegers (element ∷ more) (n ∷ ns) = IsInteger element n × AreIntegers more ns
+AreIntegers _ _ = ⊥
+
+-- a text lists integers by commas
 abbrev pub ListsIntegers : List ℕ → List ℕ → Type 0
-ListsIntegers text [] = ⊥
-ListsIntegers text (n ∷ []) = IsInteger text n
-ListsIntegers text (n ∷ next ∷ more) =
-    (first rest : List ℕ) × (text ≡ first ++ (44 ∷ rest)) × IsInteger first n × ListsIntegers rest (next ∷ more)
+ListsIntegers text ns = AreIntegers (elements text) ns
+
+-- a text has an element that is no integer
+abbrev pub ListsNoIntegers : List ℕ → Type 0
+ListsNoIntegers text =
+    (before behind : List (List ℕ)) × (element : List ℕ) × (elements text ≡ before ++ (element ∷ behind)) × IsNoInteger element
 
 -- the arguments: those of `--args`, without it none
 abbrev pub Given : Option (List ℕ) → List ℕ → Type 0
 Given None arguments = arguments ≡ []
 Given (Some text) arguments = ListsIntegers text arguments
+
+-- `--args` does not list integers
+abbrev pub GivesNone : Option (List ℕ) → Type 0
+GivesNone None = ⊥
+GivesNone (Some text) = ListsNoIntegers text

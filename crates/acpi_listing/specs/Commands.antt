@@ -1,5 +1,5 @@
 -- What the commands do, from words that were read to what is printed.
-use Rattle.std.specs.Prelude.{◌≡◌, ◌≤◌, ◌⊎◌, ◌-◌, ◌^◌, ℕ, List, [], ◌∷◌, All, Bool, length, Option, Some, None, Result, Ok, Err, map, option_map, vec_items}
+use Rattle.std.specs.Prelude.{◌≡◌, ◌≤◌, ◌⊎◌, ◌-◌, ◌^◌, ℕ, List, [], ◌∷◌, All, Bool, codes, length, Option, Some, None, Result, Ok, Err, map, option_map, vec_items}
 use Rattle.std.specs.Str.{IsUtf8}
 use Rattle.std.specs.Io.KnownBytes.{Appends}
 use Rattle.aml_lex.specs.declared.names.NameSeg.{NameSeg}
@@ -15,7 +15,8 @@ use Rattle.aml_namespace.specs.Objects.{method_at, number_of, IsBodyOf, ReadsBod
 use Rattle.aml_plain.specs.Methods.{Evaluates}
 use Rattle.aml_plain.specs.declared.body.Outcome.{Outcome}
 use Rattle.aml_plain.specs.declared.body.Outcome.TheVariants.{Done, AmlError, OutOfSteps}
-use Rattle.acpi_listing.specs.Arguments.{Given}
+use Rattle.acpi_listing.specs.Arguments.{Given, GivesNone}
+use Rattle.acpi_listing.specs.Text.{joined}
 use Rattle.acpi_listing.specs.Evaluation.{outcome_line}
 use Rattle.acpi_listing.specs.Files.{Answers, Opens, ListsFiles}
 use Rattle.acpi_listing.specs.Input.{NextLine, IsRead, hex_answers}
@@ -66,7 +67,7 @@ Finds answers old file word new ns m =
 -- why an evaluation ends with a fault
 abbrev pub FaultyEval : {F : Type 0} → Answers F → F → List ℕ → List ℕ → Option (List ℕ) → F → Fault → Type 0
 FaultyEval answers old file word args new f =
-    (f ≡ fault.NoMemory) ⊎ ((f ≡ fault.BadArgs)
+    (f ≡ fault.NoMemory) ⊎ (((f ≡ fault.BadArgs) × GivesNone args)
     ⊎ (Opens answers old file (Err f) new
     ⊎ (((bytes : List ℕ) × (refusal : LoadRefusal) × Opens answers old file (Ok bytes) new × FaultyLoad bytes refusal × (f ≡ fault.Load refusal))
     ⊎ (((bytes : List ℕ) × (ns : Shown) × Opens answers old file (Ok bytes) new × IsLoaded bytes ns × NamesNone ns word × (f ≡ fault.NoSuchObject))
@@ -99,10 +100,19 @@ abbrev pub fault_status : Fault → ℕ
 fault_status fault.CommandLine = 2
 fault_status _ = 1
 
+-- the line of a fault whose number and name are this text
+unfoldable pub fault_line : List ℕ → List ℕ
+fault_line name = joined (codes "fault " ∷ name ∷ codes "\n" ∷ [])
+
+-- a line that tells a fault: `fault`, its number and name
+abbrev pub TellsFault : Fault → List ℕ → Type 0
+TellsFault fault.NoMemory line = line ≡ codes "fault E524 NoMemory\n"
+TellsFault _ line = (name : List ℕ) × (line ≡ fault_line name)
+
 -- a fault is told on a line of its own, or a beginning of that
 abbrev pub Reports : Fault → Option (List ℕ) → Option (List ℕ) → Result ℕ RunFault → Type 0
 Reports f held holds (Ok ended) =
-    (ended ≡ fault_status f) × ((line : List ℕ) × Appends held holds line)
+    (ended ≡ fault_status f) × ((line : List ℕ) × TellsFault f line × Appends held holds line)
 Reports f held holds (Err _) = (line : List ℕ) × Appends held holds line
 
 -- what follows a command: its status, its fault's line, or its end

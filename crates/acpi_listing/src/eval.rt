@@ -2,7 +2,7 @@
 
 ghost use Rattle.std.specs.Prelude.{◌≡◌, ◌<◌, ◌≤◌, ◌⊎◌, ◌↔◌, ℕ, List, true};
 ghost use Rattle.std.specs.Prelude.{IfOk, IfErr, length, option_map, vec_items};
-ghost use Rattle.acpi_listing.specs.Arguments.{Given};
+ghost use Rattle.acpi_listing.specs.Arguments.{Given, GivesNone};
 ghost use Rattle.aml_namespace.specs.Load.{shown};
 ghost use Rattle.acpi_listing.specs.Lists.{Lists};
 ghost use Rattle.acpi_listing.specs.Commands.{EvaluatesFile, LoadsOrFails, Names, NamesNone};
@@ -58,7 +58,8 @@ pub fn evaluate<F: Source, W: Write>(
 fn arguments_of(alloc: Global, request: &EvalRequest<'_>) -> Result<Vec<u64>, Fault>
     ensures given { IfOk result
         (λ ns. Given (option_map (λ text. text.now) request.now.args) (vec_items ns)) }
-    ensures faults { IfErr result (λ f. (f ≡ fault.NoMemory) ⊎ (f ≡ fault.BadArgs)) }
+    ensures faults { IfErr result (λ f. (f ≡ fault.NoMemory)
+        ⊎ ((f ≡ fault.BadArgs) × GivesNone (option_map (λ text. text.now) request.now.args))) }
 {
     match request.args {
         Some(text) => read_arguments(alloc, text),

@@ -1,7 +1,7 @@
 // The program over any source of files and any writer.
 
-ghost use Rattle.std.specs.Prelude.{◌≤◌, IfOk};
-ghost use Rattle.acpi_listing.specs.Commands.{ObeysWords, Reports, RunsWords, RunsInput};
+ghost use Rattle.std.specs.Prelude.{◌≡◌, ◌≤◌, IfOk, string_bytes};
+ghost use Rattle.acpi_listing.specs.Commands.{ObeysWords, Reports, RunsWords, RunsInput, fault_line};
 
 use crate::eval::evaluate;
 use crate::fault::{Fault, Stop};
@@ -86,9 +86,17 @@ fn report<W: Write>(alloc: Global, out: &mut W, fault: Fault) -> Result<u8, RunF
         put(out, b"fault E524 NoMemory\n")?;
         return Ok(fault.status());
     }
-    let line = format!(in alloc; "fault {fault}\n")?;
+    let name = format!(in alloc; "{fault}")?;
+    let line = fault_line_of(alloc, name.as_str())?;
     put(out, line.as_bytes())?;
     Ok(fault.status())
+}
+
+#[tactic(auto, unfolding(crate::specs::Commands::fault_line))]
+fn fault_line_of(alloc: Global, name: &str) -> Result<String, AllocError>
+    ensures { IfOk result (λ line. string_bytes line ≡ fault_line name.now) }
+{
+    format!(in alloc; "fault {name}\n")
 }
 
 fn obey<S: AsStr, F: Source, W: Write>(

@@ -12,7 +12,7 @@ returns-in_err-id-clause-printed g c =
     let table = c.in_ok-table.table.items in
     let ns = shown c.in_ok-namespace.namespace in
     let loaded = subst (λ bytes. IsLoaded bytes ns) c.deref.ensures.value c.in_ok-namespace.ensures in
-    faulted g.F.Source.answers _ _ _ _ _ _ _ c.from_residual-in_err-id.result _ c.from_residual-in_err-id.ensures.1
+    faulted g.F.Source.answers _ _ _ _ (option_map (λ text. text.now) c.args.request.now.args) c.args.request.now.steps _ c.from_residual-in_err-id.result _ c.from_residual-in_err-id.ensures.1
     (inr (inr (inr (inr (inl (table, ns, c.in_ok-table.ensures, loaded, c.in_err-id.ensures.none.0, c.in_err-id.ensures.none.1))))))
 
 pub returns-in-Err-Refused-clause-printed : goal.returns-in-Err-Refused-clause-printed

@@ -1,4 +1,4 @@
-use Rattle.std.proofs.Common.{◌∙◌, Some, ap, inl, inr, refl, subst}
+use Rattle.std.proofs.Common.{◌∙◌, Some, None, ap, inl, inr, refl, subst}
 use Rattle.acpi_listing.specs.Input.{NextLine}
 use Rattle.acpi_listing.proofs.program.run.Goals as goal
 
@@ -15,3 +15,8 @@ returns-clause-printed g c =
     let rest = c.next_line.new.self.rest.now in
     let next = subst (λ bytes. NextLine bytes (Some line) rest) (ap (λ r. r.now) c.new-lines.ensures ∙ c.deref.ensures.value) c.in-Some.ensures in
     inr (c.in-Ok.input, c.in-Ok.ensures, inr (line, rest, next, inr (inr (_, _, refl, refl, c.run_words.ensures.printed))))
+
+pub returns-in_default-next_line-clause-printed : goal.returns-in_default-next_line-clause-printed
+returns-in_default-next_line-clause-printed g c =
+    let next = subst (λ bytes. NextLine bytes None c.next_line.new.self.rest.now) (ap (λ r. r.now) c.new-lines.ensures ∙ c.deref.ensures.value) c.in_default-next_line.ensures in
+    inr (c.in-Ok.input, c.in-Ok.ensures, inl (next.0, c.report-in_default-next_line.ensures.told))
