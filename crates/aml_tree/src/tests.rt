@@ -6,6 +6,7 @@ mod bodies;
 mod definitions;
 mod faults;
 mod memory;
+mod operators;
 
 use crate::{Arity, Op, Span, Term, TreeFault, read_body, read_module};
 use aml_lex::NameRef;

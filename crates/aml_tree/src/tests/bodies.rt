@@ -160,8 +160,8 @@ fn own_names(rt: HostRuntime) -> Result<(), Fail> {
     )
 }
 
-/// If (One) { Name (ABC1, Zero) } makes no own name, CreateField (Local0, Zero, One, GHI1) makes one,
-/// and `^GHI1` is none. Name (ABC1, Revision) may stand in a body alone.
+/// If (One) { Name (ABC1, Zero) } makes no own name, CreateField (Local0, Zero, One, GHI1) makes
+/// one, and `^GHI1` is none. Name (ABC1, Revision) may stand in a body alone.
 #[test]
 fn own_names_of_the_top(rt: HostRuntime) -> Result<(), Fail> {
     let alloc = rt.alloc();

@@ -346,7 +346,8 @@ fn short_tables(rt: HostRuntime) -> Result<(), Fail> {
     Ok(())
 }
 
-/// A table of 48 bytes cut at each byte. Its length and checksum need not fit: no reader looks at them.
+/// A table of 48 bytes cut at each byte. Its length and checksum need not fit, as no reader looks
+/// at them.
 #[test]
 fn cut_tables(rt: HostRuntime) -> Result<(), Fail> {
     let alloc = rt.alloc();

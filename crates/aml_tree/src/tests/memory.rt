@@ -38,8 +38,8 @@ fn statements_of(alloc: Global, end: usize) -> Result<Vec<Term>, TreeFault>
     }
 }
 
-/// Also for a run in which an allocation fails: the call is then refused for want of memory, and the
-/// next one has its answer.
+/// Also for a run in which an allocation fails: the call is then refused for want of memory, and
+/// the next one has its answer.
 #[test]
 fn want_of_memory(rt: HostRuntime) -> Result<(), Fail> {
     let alloc = rt.alloc();
