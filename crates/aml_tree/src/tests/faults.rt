@@ -192,6 +192,12 @@ fn opcodes_of_a_body(rt: HostRuntime) -> Result<(), Fail> {
             (&[0x9D, 0x01, 0x00], "E204 UnknownOpcode 2"),
             (&[0x70, 0x01, 0x00], "fine"),
             (&[0x70, 0x01, 0x5B, 0x31], "fine"),
+            // 5C 00 and 5E 00 are names: a supername, a simple name and a term; 00 is an Alias's name.
+            (&[0x75, 0x5C, 0x00], "fine"),
+            (&[0x9D, 0x01, 0x5E, 0x00], "fine"),
+            (&[0xA4, 0x5E, 0x5E, 0x00], "fine"),
+            (&[0x06, 0x00, 0x00], "fine"),
+            (&[0x06, 0x00, 0x60], "E203 BadName 2"),
             // An If of two operands in a package of one; the byte behind it is not its own.
             (&[0xA0, 0x03, 0x93, 0x60, 0x01], "E201 Truncated 4"),
             (&[0xA4], "E201 Truncated 1"),
