@@ -1,6 +1,6 @@
 -- Bodies and modules are read as they stand.
-use Rattle.std.proofs.Common.{◌≡◌, ℕ, zero, suc, ◌+◌, ◌≤◌, ◌<◌, ◌⊎◌, inl, inr, List, [], ◌∷◌, ◌++◌, take, length, map, Option, Some, None, Result, Ok, Err, refl, sym, ap, ◌∙◌, subst, arith, append_assoc}
-use Rattle.std.specs.Prelude.{nat_lt, cond, Bool, true, false, Vec}
+use Rattle.std.proofs.Common.{◌≡◌, ℕ, zero, suc, ◌+◌, ◌≤◌, ◌<◌, inl, inr, List, [], ◌∷◌, ◌++◌, length, None, Result, Ok, Err, refl, sym, ap, ◌∙◌, subst, arith, append_assoc}
+use Rattle.std.specs.Prelude.{nat_lt, true, false, Vec}
 use Rattle.std.proofs.lemmas.Bool.{lt-ltb, ltb-true, ltb-false}
 use Rattle.std.proofs.lemmas.List.{append-nil}
 use Rattle.aml_operators.specs.declared.row.Code.TheVariants as code
@@ -16,9 +16,9 @@ use Rattle.aml_tree.specs.declared.fault.Refusal.{Refusal}
 use Rattle.aml_tree.specs.declared.fault.TreeFault.{TreeFault}
 use Rattle.aml_tree.specs.declared.fault.TreeFault.TheVariants.{NoMemory, Refused}
 use Rattle.aml_tree.specs.Answers.{Answers}
-use Rattle.aml_tree.specs.Fault.{◌>>=◌, truncated, Fails, Gives}
+use Rattle.aml_tree.specs.Fault.{Fails, Gives}
 use Rattle.aml_tree.specs.Grammar.{AreTerms, FaultyTerms, IsTerm, Faulty}
-use Rattle.aml_tree.specs.Reading.{term_at, terms_until}
+use Rattle.aml_tree.specs.Reading.{term_at}
 use Rattle.aml_tree.specs.Body.{greatest_depth, with_owns, owns_behind, segment_of, IsStatement, AreStatements, IsBody, FaultyBody, ReadsBody, module_start, no_arguments, IsModule, FaultyModule, ReadsModule, body_until, module_at, trees_of, trees_read}
 use Rattle.aml_tree.proofs.Combining.{and_answers, weaker, by_test, of_ok, of_err}
 use Rattle.aml_tree.proofs.Bounds.{term_in}

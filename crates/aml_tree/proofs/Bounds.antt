@@ -1,6 +1,5 @@
 -- Terms and their parts lie within the bytes, and each goes on.
-use Rattle.std.proofs.Common.{◌≡◌, ℕ, zero, suc, ◌+◌, ◌-◌, ◌≤◌, ◌<◌, ◌⊎◌, inl, inr, List, [], ◌∷◌, ◌++◌, take, drop, length, Option, Some, None, Result, Ok, Err, refl, sym, ap, ◌∙◌, arith}
-use Rattle.std.specs.Prelude.{slice_get, true, false}
+use Rattle.std.proofs.Common.{◌≡◌, ℕ, zero, suc, ◌+◌, ◌≤◌, ◌<◌, inl, inr, List, [], ◌∷◌, take, length, arith}
 use Rattle.std.proofs.lemmas.List.{length-take-le}
 use Rattle.std.proofs.lemmas.Option.{slice_get_within}
 use Rattle.aml_operators.specs.declared.op.Op.{Op}
@@ -10,27 +9,18 @@ use Rattle.aml_operators.specs.declared.row.Spot.{Spot}
 use Rattle.aml_operators.specs.declared.row.Spot.TheVariants as spot
 use Rattle.aml_operators.specs.declared.row.Piece.{Piece}
 use Rattle.aml_operators.specs.declared.row.Piece.TheVariants as piece
-use Rattle.aml_operators.specs.declared.row.Limit.{Limit}
 use Rattle.aml_operators.specs.declared.row.Letter.{Letter}
 use Rattle.aml_operators.specs.declared.row.Letter.TheVariants.{One, Sized, Package, Branch, Terms, Fields, Bytes}
 use Rattle.aml_operators.specs.Table.{letters_of}
-use Rattle.aml_operators.specs.Places.{size_of}
-use Rattle.aml_operators.specs.Fields.{item_of, pieces_of}
-use Rattle.aml_operators.specs.Tree.{Tree, Trees, Node, none, more, trees, stop_of}
+use Rattle.aml_operators.specs.Fields.{pieces_of}
+use Rattle.aml_operators.specs.Tree.{Tree, stop_of}
 use Rattle.aml_lex.specs.NameStrings.{NameString}
-use Rattle.aml_lex.specs.declared.fault.LexCause.TheVariants.{BadName}
-use Rattle.aml_tree.specs.declared.fault.TreeCause.TheVariants.{Lexical, TooDeep, TooLarge}
-use Rattle.aml_tree.specs.declared.fault.Refusal.{Refusal}
-use Rattle.aml_tree.specs.Fault.{refusal, truncated, ◌>>=◌}
-use Rattle.aml_tree.specs.Leaf.{byte_at, end_at, name_at, bits_at, text_at, number_at}
-use Rattle.aml_tree.specs.Opening.{Opening, NoTarget, PlainName, InvokedName, Operator, opening_at, may_be_none}
-use Rattle.aml_tree.specs.Begins.{Begins, FaultyBegin, HasNoTarget}
-use Rattle.aml_tree.specs.Answers.{Answers}
-use Rattle.aml_tree.proofs.Combining.{then_answers, and_answers, weaker, by_test, of_ok, of_err}
-use Rattle.aml_tree.proofs.Leaves.{Any, Ended, byte_is, end_in, name_in, number_in, bits_in, text_in}
-use Rattle.aml_tree.proofs.Beginnings.{Fits, opening_right, opening_full, begins_in}
-use Rattle.aml_tree.specs.Reading.{item_next, is_above, literal_of}
-use Rattle.aml_tree.specs.Grammar.{AreTerms, IsConnection, IsPiece, ArePieces, IsItem, AreItems, IsElse, Meets, Follows, IsTerm, IsNameLeaf, IsPackage, IsName, IsLeaf}
+use Rattle.aml_tree.specs.Opening.{Opening, NoTarget, PlainName, InvokedName, Operator}
+use Rattle.aml_tree.proofs.Combining.{of_ok}
+use Rattle.aml_tree.proofs.Leaves.{end_in, name_in, number_in, bits_in, text_in}
+use Rattle.aml_tree.proofs.Beginnings.{Fits, begins_in}
+use Rattle.aml_tree.specs.Reading.{item_next}
+use Rattle.aml_tree.specs.Grammar.{AreTerms, IsConnection, IsPiece, ArePieces, IsItem, AreItems, IsElse, Meets, Follows, IsTerm, IsNameLeaf}
 
 name_leaf_in : (bytes : List ℕ) (at : ℕ) (t : Tree) → at ≤ length bytes → IsNameLeaf bytes at t → (at < stop_of t) × (stop_of t ≤ length bytes)
 name_leaf_in bytes at t le h = let w = of_ok _ _ _ _ (name_in bytes at le) h.2 in rw h.3 w

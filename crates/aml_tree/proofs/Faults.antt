@@ -1,6 +1,6 @@
 -- A fault stands within the bytes or at their end.
 use Rattle.std.proofs.Common.{◌≡◌, ℕ, zero, suc, ◌+◌, ◌≤◌, ◌<◌, inl, inr, List, [], ◌∷◌, take, length, Result, Ok, Err, refl, arith}
-use Rattle.std.specs.Prelude.{nat_lt, slice_get}
+use Rattle.std.specs.Prelude.{nat_lt}
 use Rattle.std.proofs.lemmas.List.{length-take-le}
 use Rattle.std.proofs.lemmas.Option.{slice_get_within}
 use Rattle.aml_operators.specs.declared.row.Code.{Code}
@@ -25,7 +25,7 @@ use Rattle.aml_tree.specs.Opening.{Opening, NoTarget, PlainName, InvokedName, Op
 use Rattle.aml_tree.specs.Begins.{FaultyBegin, NoByte, NoSecondByte, NameUnknown, NameOutside, NoOperator, OperatorUnknown, OperatorOutside}
 use Rattle.aml_tree.specs.Reading.{item_next}
 use Rattle.aml_tree.specs.Grammar.{FaultyTerms, FaultyConnection, FaultyPiece, FaultyPieces, FaultyItem, FaultyItems, FaultyElse, FaultyParts, FaultyForm, IsTerm, Faulty}
-use Rattle.aml_tree.specs.Body.{FaultyBody, FaultyModule, no_arguments, with_owns, greatest_depth, module_start}
+use Rattle.aml_tree.specs.Body.{no_arguments, with_owns, greatest_depth, module_start}
 use Rattle.aml_tree.specs.Laws.{ModuleFaultsWithin, BodyFaultsWithin}
 use Rattle.aml_operators.specs.declared.row.Code.TheVariants as code
 use Rattle.aml_tree.proofs.Combining.{by_test, of_ok, of_err}

@@ -1,39 +1,32 @@
 -- What is a term is read.
-use Rattle.std.proofs.Common.{◌≡◌, ℕ, zero, suc, ◌+◌, ◌-◌, ◌≤◌, ◌<◌, ◌⊎◌, inl, inr, List, [], ◌∷◌, ◌++◌, take, drop, length, Option, Some, None, Result, Ok, Err, refl, sym, ap, ◌∙◌, arith, append_assoc}
-use Rattle.std.specs.Prelude.{nat_lt, slice_get, cond, Bool, true, false}
+use Rattle.std.proofs.Common.{◌≡◌, ℕ, zero, suc, ◌+◌, ◌≤◌, ◌<◌, inl, inr, List, [], ◌∷◌, ◌++◌, take, length, Option, Some, None, Result, Ok, refl, sym, ap, arith, append_assoc}
+use Rattle.std.specs.Prelude.{nat_lt, slice_get, Bool, true, false}
 use Rattle.std.proofs.lemmas.Bool.{lt-ltb, ltb-true, eqb-true}
 use Rattle.std.proofs.lemmas.List.{append-nil, length-take-le}
 use Rattle.std.proofs.lemmas.Option.{slice_get_within}
-use Rattle.aml_operators.specs.declared.op.Op.{Op}
 use Rattle.aml_operators.specs.declared.op.Op.TheVariants as op
 use Rattle.aml_operators.specs.declared.row.Code.{Code}
 use Rattle.aml_operators.specs.declared.row.Spot.{Spot}
 use Rattle.aml_operators.specs.declared.row.Spot.TheVariants as spot
 use Rattle.aml_operators.specs.declared.row.Piece.{Piece}
 use Rattle.aml_operators.specs.declared.row.Piece.TheVariants as piece
-use Rattle.aml_operators.specs.declared.row.Limit.{Limit}
 use Rattle.aml_operators.specs.declared.row.Letter.{Letter}
 use Rattle.aml_operators.specs.declared.row.Letter.TheVariants.{One, Sized, Package, Branch, Terms, Fields, Bytes}
 use Rattle.aml_operators.specs.Table.{letters_of}
-use Rattle.aml_operators.specs.Places.{size_of}
-use Rattle.aml_operators.specs.Fields.{item_of, pieces_of}
-use Rattle.aml_operators.specs.Tree.{Tree, Trees, Node, none, more, trees, stop_of}
+use Rattle.aml_operators.specs.Fields.{pieces_of}
+use Rattle.aml_operators.specs.Tree.{Tree, Node, none, stop_of}
 use Rattle.aml_lex.specs.NameStrings.{NameString}
-use Rattle.aml_lex.specs.declared.fault.LexCause.TheVariants.{BadName}
-use Rattle.aml_tree.specs.declared.fault.TreeCause.TheVariants.{Lexical, TooDeep, TooLarge}
 use Rattle.aml_tree.specs.declared.fault.Refusal.{Refusal}
-use Rattle.aml_tree.specs.Fault.{refusal, truncated, ◌>>=◌}
-use Rattle.aml_tree.specs.Leaf.{byte_at, end_at, name_at, bits_at, text_at, number_at}
-use Rattle.aml_tree.specs.Opening.{Opening, NoTarget, PlainName, InvokedName, Operator, opening_at, may_be_none}
-use Rattle.aml_tree.specs.Begins.{Begins, FaultyBegin, HasNoTarget}
-use Rattle.aml_tree.specs.Answers.{Answers}
-use Rattle.aml_tree.proofs.Combining.{then_answers, and_answers, weaker, by_test, of_ok, of_err}
-use Rattle.aml_tree.proofs.Leaves.{Any, Ended, byte_is, end_in, name_in, number_in, bits_in, text_in}
-use Rattle.aml_tree.proofs.Beginnings.{Fits, opening_right, opening_full, begins_in}
-use Rattle.aml_tree.specs.Reading.{is_byte, item_next, literal_of, is_above, terms_until, terms_counted, connection_at, piece_at, pieces_at, item_of_kind, item_at, items_until, else_at, parts_at, form_at, deepest_at, term_at}
-use Rattle.aml_tree.specs.Grammar.{AreTerms, IsConnection, IsPiece, ArePieces, IsItem, AreItems, IsElse, Meets, Follows, IsNameLeaf, IsTerm, Faulty}
+use Rattle.aml_tree.specs.Fault.{◌>>=◌}
+use Rattle.aml_tree.specs.Leaf.{byte_at, name_at}
+use Rattle.aml_tree.specs.Opening.{Opening, NoTarget, PlainName, InvokedName, Operator}
+use Rattle.aml_tree.specs.Begins.{HasNoTarget}
+use Rattle.aml_tree.proofs.Combining.{of_ok}
+use Rattle.aml_tree.proofs.Leaves.{end_in}
+use Rattle.aml_tree.proofs.Beginnings.{opening_full}
+use Rattle.aml_tree.specs.Reading.{is_byte, item_next, terms_until, terms_counted, connection_at, piece_at, pieces_at, item_of_kind, item_at, items_until, else_at, parts_at, form_at, deepest_at, term_at}
+use Rattle.aml_tree.specs.Grammar.{AreTerms, IsConnection, IsPiece, ArePieces, IsItem, AreItems, IsElse, Meets, Follows, IsNameLeaf, IsTerm}
 use Rattle.aml_tree.proofs.Bounds.{item_in, term_in}
-use Rattle.aml_tree.proofs.RightTerms.{term_right}
 
 pub not_below : (a b : ℕ) → b ≤ a → (t : Bool) → nat_lt a b ≡ t → t ≡ false
 not_below a b le true e = let lt : a < b = ltb-true _ _ e in absurd (omega arith)

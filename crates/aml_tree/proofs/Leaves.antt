@@ -1,9 +1,8 @@
 -- Parts without parts lie within the bytes.
 use Rattle.std.proofs.Common.{◌≡◌, ℕ, ◌+◌, ◌≤◌, ◌<◌, inl, inr, List, length, Option, Some, None, Result, Ok, Err, refl, arith}
-use Rattle.std.specs.Prelude.{nat_lt, slice_get, cond, Bool, true, false}
+use Rattle.std.specs.Prelude.{nat_lt, slice_get}
 use Rattle.std.proofs.lemmas.Bool.{ltb-false}
-use Rattle.std.proofs.lemmas.Option.{slice_get_within, slice_get_cases}
-use Rattle.aml_lex.specs.NameStrings.{NameString}
+use Rattle.std.proofs.lemmas.Option.{slice_get_cases}
 use Rattle.aml_lex.specs.declared.fault.LexFault.{LexFault}
 use Rattle.aml_lex.specs.Reading.{package_end_at, pkg_length_at, name_string_at, string_data_at}
 use Rattle.aml_lex.proofs.Laws.{package_end_ends, pkg_length_ends, name_string_ends, string_data_ends}
@@ -11,10 +10,10 @@ use Rattle.aml_operators.specs.declared.row.Width.{Width}
 use Rattle.aml_operators.specs.declared.row.Width.TheVariants.{Byte, Word, DWord, QWord}
 use Rattle.aml_operators.specs.Places.{size_of}
 use Rattle.aml_tree.specs.declared.fault.Refusal.{Refusal}
-use Rattle.aml_tree.specs.Fault.{◌>>=◌, refused, truncated}
+use Rattle.aml_tree.specs.Fault.{refused, truncated}
 use Rattle.aml_tree.specs.Leaf.{byte_or, byte_at, end_at, name_at, bits_at, text_at, number_at}
 use Rattle.aml_tree.specs.Answers.{Answers}
-use Rattle.aml_tree.proofs.Combining.{then_answers, and_answers, weaker, by_test, of_ok}
+use Rattle.aml_tree.proofs.Combining.{by_test}
 
 abbrev pub Any : Refusal → Type 0
 Any f = Unit {0}

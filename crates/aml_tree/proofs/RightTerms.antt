@@ -1,35 +1,19 @@
 -- What is read is a term, or faulty.
-use Rattle.std.proofs.Common.{◌≡◌, ℕ, zero, suc, ◌+◌, ◌≤◌, ◌<◌, ◌⊎◌, inl, inr, List, length, Option, Some, None, Result, Ok, Err, refl, sym, ap, ◌∙◌, arith}
-use Rattle.std.specs.Prelude.{◌==◌, ◌&&◌, slice_get, cond, Bool, true, false}
+use Rattle.std.proofs.Common.{◌≡◌, ℕ, zero, suc, inl, inr, List, Some, refl, ap, ◌∙◌}
+use Rattle.std.specs.Prelude.{◌==◌, ◌&&◌, slice_get}
 use Rattle.std.proofs.lemmas.Option.{slice_get_within}
-use Rattle.aml_operators.specs.declared.op.Op.{Op}
-use Rattle.aml_operators.specs.declared.op.Op.TheVariants as op
 use Rattle.aml_operators.specs.declared.row.Code.{Code}
 use Rattle.aml_operators.specs.declared.row.Spot.{Spot}
-use Rattle.aml_operators.specs.declared.row.Spot.TheVariants as spot
-use Rattle.aml_operators.specs.declared.row.Piece.{Piece}
-use Rattle.aml_operators.specs.declared.row.Piece.TheVariants as piece
-use Rattle.aml_operators.specs.declared.row.Limit.{Limit}
-use Rattle.aml_operators.specs.declared.row.Letter.{Letter}
-use Rattle.aml_operators.specs.declared.row.Letter.TheVariants.{One, Sized, Package, Branch, Terms, Fields, Bytes}
-use Rattle.aml_operators.specs.Table.{letters_of}
-use Rattle.aml_operators.specs.Places.{size_of}
-use Rattle.aml_operators.specs.Fields.{item_of, pieces_of}
-use Rattle.aml_operators.specs.Tree.{Tree, Trees, Node, none, more, trees, stop_of}
 use Rattle.aml_lex.specs.NameStrings.{NameString}
-use Rattle.aml_lex.specs.declared.fault.LexCause.TheVariants.{BadName}
-use Rattle.aml_tree.specs.declared.fault.TreeCause.TheVariants.{Lexical, TooDeep, TooLarge}
-use Rattle.aml_tree.specs.declared.fault.Refusal.{Refusal}
-use Rattle.aml_tree.specs.Fault.{refusal, truncated, ◌>>=◌}
-use Rattle.aml_tree.specs.Leaf.{byte_at, end_at, name_at, bits_at, text_at, number_at}
-use Rattle.aml_tree.specs.Opening.{Opening, NoTarget, PlainName, InvokedName, Operator, opening_at, may_be_none}
-use Rattle.aml_tree.specs.Begins.{Begins, FaultyBegin, HasNoTarget}
+use Rattle.aml_tree.specs.Leaf.{byte_at}
+use Rattle.aml_tree.specs.Opening.{opening_at, may_be_none}
+use Rattle.aml_tree.specs.Begins.{Begins, FaultyBegin}
 use Rattle.aml_tree.specs.Answers.{Answers}
-use Rattle.aml_tree.proofs.Combining.{then_answers, and_answers, weaker, by_test, of_ok, of_err}
-use Rattle.aml_tree.proofs.Leaves.{Any, Ended, byte_is, end_in, name_in, number_in, bits_in, text_in}
-use Rattle.aml_tree.proofs.Beginnings.{Fits, opening_right, opening_full, begins_in}
-use Rattle.aml_tree.specs.Reading.{form_at, deepest_at, term_at}
-use Rattle.aml_tree.specs.Grammar.{Follows, IsLeaf, IsTerm, Faulty, FaultyForm}
+use Rattle.aml_tree.proofs.Combining.{and_answers, weaker, by_test}
+use Rattle.aml_tree.proofs.Leaves.{Ended, byte_is}
+use Rattle.aml_tree.proofs.Beginnings.{opening_right, begins_in}
+use Rattle.aml_tree.specs.Reading.{deepest_at, term_at}
+use Rattle.aml_tree.specs.Grammar.{Follows, IsTerm, Faulty, FaultyForm}
 use Rattle.aml_tree.proofs.Bounds.{term_in}
 use Rattle.aml_tree.proofs.Right.{form_right}
 use Rattle.aml_tree.proofs.Beginnings.{targets, no_target}

@@ -1,5 +1,5 @@
 -- One more term of a list.
-use Rattle.std.proofs.Common.{◌≡◌, ℕ, zero, suc, ◌+◌, ◌-◌, ◌≤◌, ◌<◌, List, [], ◌∷◌, ◌++◌, length, Result, Ok, Err, refl, arith}
+use Rattle.std.proofs.Common.{◌≡◌, ℕ, zero, suc, ◌+◌, ◌-◌, ◌≤◌, ◌<◌, List, [], ◌∷◌, ◌++◌, length, Result, Ok, arith}
 use Rattle.std.specs.Prelude.{nat_lt, true}
 use Rattle.std.proofs.lemmas.Bool.{lt-ltb}
 use Rattle.aml_operators.specs.declared.row.Spot.{Spot}
@@ -7,7 +7,6 @@ use Rattle.aml_operators.specs.declared.row.Spot.TheVariants as spot
 use Rattle.aml_operators.specs.Tree.{Tree, stop_of}
 use Rattle.aml_lex.specs.NameStrings.{NameString}
 use Rattle.aml_tree.specs.declared.fault.Refusal.{Refusal}
-use Rattle.aml_tree.specs.Fault.{◌>>=◌}
 use Rattle.aml_tree.specs.Reading.{terms_until, terms_counted, item_at, items_until}
 
 module _ (arity : NameString → ℕ → ℕ) (below : ℕ → Spot → List ℕ → ℕ → Result Tree Refusal) where

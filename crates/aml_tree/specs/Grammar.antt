@@ -1,6 +1,6 @@
 -- What the bytes of a term are (ACPI 6.5, 20.2.5): its opcode, and operands that meet its letters end to end. The faulty one goes by the
 -- same cases: the parts before have trees, the next has the fault.
-use Rattle.std.specs.Prelude.{◌≡◌, ◌≤◌, ◌<◌, ◌⊎◌, ℕ, zero, suc, ◌+◌, ◌-◌, List, [], ◌∷◌, ◌++◌, length, take, drop, Option, Some, None, Result, Ok, Err, slice_get, true, false}
+use Rattle.std.specs.Prelude.{◌≡◌, ◌≤◌, ◌<◌, ◌⊎◌, ℕ, zero, suc, ◌+◌, ◌-◌, List, [], ◌∷◌, ◌++◌, length, take, Some, None, Ok, Err, slice_get, true, false}
 use Rattle.aml_operators.specs.declared.op.Op.{Op}
 use Rattle.aml_operators.specs.declared.op.Op.TheVariants as op
 use Rattle.aml_operators.specs.declared.row.Code.{Code}
@@ -13,7 +13,7 @@ use Rattle.aml_operators.specs.declared.row.Letter.TheVariants.{One, Sized, Pack
 use Rattle.aml_operators.specs.Table.{letters_of}
 use Rattle.aml_operators.specs.Places.{size_of}
 use Rattle.aml_operators.specs.Fields.{item_of, pieces_of}
-use Rattle.aml_operators.specs.Tree.{Tree, Trees, Node, none, more, trees, stop_of}
+use Rattle.aml_operators.specs.Tree.{Tree, Node, none, trees, stop_of}
 use Rattle.aml_lex.specs.NameStrings.{NameString}
 use Rattle.aml_lex.specs.declared.fault.LexCause.TheVariants.{BadName}
 use Rattle.aml_tree.specs.declared.fault.TreeCause.TheVariants.{Lexical, TooDeep, TooLarge}

@@ -4,7 +4,7 @@ use Rattle.byteorder.specs.Endian.{little_number}
 use Rattle.aml_lex.specs.NameStrings.{NameString}
 use Rattle.aml_lex.specs.Reading.{package_end_at, pkg_length_at, name_string_at, string_data_at}
 use Rattle.aml_tree.specs.declared.fault.Refusal.{Refusal}
-use Rattle.aml_tree.specs.Fault.{truncated, refused, ◌>>=◌}
+use Rattle.aml_tree.specs.Fault.{truncated, refused}
 
 abbrev pub byte_or : ℕ → Option ℕ → Result ℕ Refusal
 byte_or end None = Err (truncated end)

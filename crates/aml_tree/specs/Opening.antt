@@ -1,5 +1,5 @@
 -- What the first bytes of a term and the place where it stands decide.
-use Rattle.std.specs.Prelude.{◌≡◌, ◌<◌, ◌≤◌, ◌⊎◌, ℕ, ◌+◌, ◌==◌, ◌&&◌, ◌||◌, List, length, Option, Some, None, Result, Ok, Err, slice_get, if◌then◌else◌, Bool, true, false}
+use Rattle.std.specs.Prelude.{ℕ, ◌+◌, ◌==◌, ◌&&◌, ◌||◌, List, Option, Some, None, Result, Ok, Err, if◌then◌else◌, Bool, true, false}
 use Rattle.aml_operators.specs.declared.op.Op.{Op}
 use Rattle.aml_operators.specs.declared.row.Code.{Code}
 use Rattle.aml_operators.specs.declared.row.Spot.{Spot}
@@ -8,12 +8,12 @@ use Rattle.aml_operators.specs.declared.row.Ruling.{Ruling}
 use Rattle.aml_operators.specs.declared.row.Ruling.TheVariants as ruled
 use Rattle.aml_operators.specs.declared.row.Naming.{Naming}
 use Rattle.aml_operators.specs.declared.row.Naming.TheVariants as named
-use Rattle.aml_operators.specs.Table.{row, class_of, op_of}
+use Rattle.aml_operators.specs.Table.{class_of, op_of}
 use Rattle.aml_operators.specs.Places.{ruling, naming}
 use Rattle.aml_operators.specs.Fields.{is_segment_lead}
 use Rattle.aml_tree.specs.declared.fault.TreeCause.TheVariants.{UnknownOpcode, ModuleCode}
 use Rattle.aml_tree.specs.declared.fault.Refusal.{Refusal}
-use Rattle.aml_tree.specs.Fault.{refusal, truncated, ◌>>=◌}
+use Rattle.aml_tree.specs.Fault.{refusal, ◌>>=◌}
 use Rattle.aml_tree.specs.Leaf.{byte_at}
 
 -- how a term begins

@@ -31,7 +31,8 @@ pub struct Span {
 impl Span {
     /// Whether the span lies within the bytes.
     pub fn is_within(&self, bytes: &[u8]) -> bool
-        ensures { IsTrue result ↔ ((self.now.at ≤ self.now.end) × (self.now.end ≤ length bytes.now)) }
+        ensures { IsTrue result ↔
+            ((self.now.at ≤ self.now.end) × (self.now.end ≤ length bytes.now)) }
     {
         self.at <= self.end && self.end <= bytes.len()
     }
@@ -137,7 +138,9 @@ fn read_statement<A: Arity>(
     bytes: &[u8],
     at: usize,
 ) -> Result<Term, TreeFault>
-    ensures gives { Gives view result (term_at code.Body (with_owns (A.counts arity.now) owns.now.keys) greatest_depth at spot.Statement bytes.now at) }
+    ensures gives { Gives view result (term_at code.Body
+        (with_owns (A.counts arity.now) owns.now.keys)
+        greatest_depth at spot.Statement bytes.now at) }
     ensures ahead { IfOk result (λ t. at < (out-Term t).end) }
     ensures within { IfOk result (λ t. (out-Term t).end ≤ length bytes.now) }
 {
@@ -152,8 +155,8 @@ fn read_statement<A: Arity>(
 
 /// Reads the statements of a method's body, whose span a Method term of the table gave.
 ///
-/// A name takes as many terms as `arity` tells for its place; a lone segment that an earlier Name or
-/// CreateField form at the top of the body made takes none.
+/// A name takes as many terms as `arity` tells for its place; a lone segment that an earlier Name
+/// or CreateField form at the top of the body made takes none.
 ///
 /// Faults: E201 to E208, each with its place in the table, the first in the order of the bytes.
 pub fn read_body<A: Arity>(
@@ -175,7 +178,8 @@ fn read_statements<A: Arity>(
     start: usize,
     arity: &A,
 ) -> Result<Vec<Term>, TreeFault>
-    ensures { Gives trees_of result (body_until (A.counts arity.now) bytes.now (length bytes.now) [] [] start) }
+    ensures { Gives trees_of result
+        (body_until (A.counts arity.now) bytes.now (length bytes.now) [] [] start) }
 {
     let mut owns = IndexSet::new(alloc);
     let mut statements = Vec::new(alloc);

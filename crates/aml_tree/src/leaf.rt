@@ -16,7 +16,8 @@ use byteorder::{ByteOrder, LittleEndian};
 
 /// The fault of bytes that end too early.
 fn truncated(bytes: &[u8]) -> TreeFault
-    ensures { result ≡ TreeFault.Refused (refusal (TreeCause.Lexical Truncated) (length bytes.now)) }
+    ensures { result ≡
+        TreeFault.Refused (refusal (TreeCause.Lexical Truncated) (length bytes.now)) }
 {
     TreeFault::Refused(Refusal {
         cause: TreeCause::Lexical(LexCause::Truncated),

@@ -1,8 +1,8 @@
 //! Terms of AML, read from the bytes of a table by the operator table (ACPI 6.5, 20.2.5).
 //!
-//! A definition block's module is read first, its methods' bodies skipped; a body is read once it is
-//! known how many arguments each name takes. Each reader answers the tree that the grammar ties to the
-//! bytes, or the first fault in the order of the bytes, or want of memory.
+//! A definition block's module is read first, its methods' bodies skipped; a body is read once it
+//! is known how many arguments each name takes. Each reader answers the tree that the grammar ties
+//! to the bytes, or the first fault in the order of the bytes, or want of memory.
 #![tactic(auto)]
 
 mod arity;

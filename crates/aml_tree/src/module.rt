@@ -20,8 +20,8 @@ const HEADER_SIZE: usize = 36;
 /// Reads the definitions of a table's module. A method's body is skipped: its term's last part is a
 /// `ByteList` with the body's places.
 ///
-/// Faults: E201 to E209, each with its place in the table, the first in the order of the bytes; a table
-/// that ends within its header is E201.
+/// Faults: E201 to E209, each with its place in the table, the first in the order of the bytes; a
+/// table that ends within its header is E201.
 pub fn read_module(alloc: Global, bytes: &[u8]) -> Result<Vec<Term>, TreeFault>
     ensures { ReadsModule bytes.now (trees_read result) }
 {

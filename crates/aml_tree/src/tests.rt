@@ -5,6 +5,8 @@ ghost use Rattle.std.specs.Prelude.{◌-◌, get_or, []};
 mod bodies;
 mod definitions;
 mod faults;
+mod memory;
+mod operators;
 
 use crate::{Arity, Op, Span, Term, TreeFault, read_body, read_module};
 use aml_lex::NameRef;
@@ -52,22 +54,33 @@ fn body_of(alloc: Global, body: &[u8]) -> Result<Vec<Term>, TreeFault> {
 }
 
 /// Puts terms on a stack, so that the first comes off first.
-fn push_all<'a>(left: &mut Vec<&'a Term>, terms: &'a [Term]) -> Result<(), Fail> {
+fn push_all<'a>(left: &mut Vec<&'a Term>, terms: &'a [Term]) -> Result<(), TreeFault> {
     for term in terms.iter().rev() {
         left.push(term)?;
     }
     Ok(())
 }
 
-/// Compares every part, each before its own parts.
-fn compare(rt: &impl Abort, alloc: Global, terms: &[Term], rows: &[Part]) -> Result<(), Fail> {
+/// The parts, each before its own; no more than one beyond so many.
+fn parts_of(alloc: Global, terms: &[Term], most: usize) -> Result<Vec<Part>, TreeFault> {
     let mut left = Vec::new(alloc);
     push_all(&mut left, terms)?;
-    for row in rows {
-        let term = left.pop().ok_or("too few parts")?;
-        assert_eq!(rt; (term.op, term.at, term.end, term.parts.len()), *row);
-        push_all(&mut left, &term.parts)?;
+    let mut parts = Vec::new(alloc);
+    for _ in 0..=most {
+        if let Some(term) = left.pop() {
+            parts.push((term.op, term.at, term.end, term.parts.len()))?;
+            push_all(&mut left, &term.parts)?;
+        }
     }
-    assert!(rt; left.is_empty(), "too many parts");
+    Ok(parts)
+}
+
+/// Compares every part; where memory is wanted for that, once more.
+fn compare(rt: &impl Abort, alloc: Global, terms: &[Term], rows: &[Part]) -> Result<(), Fail> {
+    let parts = match parts_of(alloc, terms, rows.len()) {
+        Err(TreeFault::NoMemory) => parts_of(alloc, terms, rows.len())?,
+        told => told?,
+    };
+    assert_eq!(rt; parts.as_slice(), rows);
     Ok(())
 }

@@ -80,7 +80,8 @@ impl<'a, A: Arity> Reader<'a, A> {
         at: usize,
         depth: u8,
     ) -> Result<Term, TreeFault>
-        ensures gives { Gives view result (term_at self.now.code (A.counts self.now.arity.now) depth asker spot bytes.now at) }
+        ensures gives { Gives view result (term_at self.now.code (A.counts self.now.arity.now) depth
+            asker spot bytes.now at) }
         ensures ahead { IfOk result (λ t. at < (out-Term t).end) }
         ensures within { IfOk result (λ t. (out-Term t).end ≤ length bytes.now) }
     {
@@ -97,7 +98,9 @@ impl<'a, A: Arity> Reader<'a, A> {
     fn form(&self, opening: Opening, bytes: &[u8], at: usize, depth: u8) -> Result<Term, TreeFault>
         requires within { at < length bytes.now }
         requires next { IsWithin at (length bytes.now) opening }
-        ensures gives { Gives view result (form_at (A.counts self.now.arity.now) (term_at self.now.code (A.counts self.now.arity.now) depth) (opening_of opening) bytes.now at) }
+        ensures gives { Gives view result (form_at (A.counts self.now.arity.now)
+            (term_at self.now.code (A.counts self.now.arity.now) depth)
+            (opening_of opening) bytes.now at) }
         ensures ahead { IfOk result (λ t. at < (out-Term t).end) }
         ensures within { IfOk result (λ t. (out-Term t).end ≤ length bytes.now) }
     {
@@ -140,7 +143,9 @@ impl<'a, A: Arity> Reader<'a, A> {
         depth: u8,
     ) -> Result<Term, TreeFault>
         requires { at ≤ length bytes.now }
-        ensures gives { Gives view result (piece_at (A.counts self.now.arity.now) (term_at self.now.code (A.counts self.now.arity.now) depth) piece own bytes.now at) }
+        ensures gives { Gives view result (piece_at (A.counts self.now.arity.now)
+            (term_at self.now.code (A.counts self.now.arity.now) depth)
+            piece own bytes.now at) }
         ensures ahead { IfOk result (λ t. at < (out-Term t).end) }
         ensures within { IfOk result (λ t. (out-Term t).end ≤ length bytes.now) }
     {
@@ -186,7 +191,10 @@ impl<'a, A: Arity> Reader<'a, A> {
     ) -> Result<usize, TreeFault>
         requires within { at ≤ length bytes.now }
         requires short { length letters.now ≤ 8 }
-        ensures gives { Adds result (map view parts.new.items) (parts_at (A.counts self.now.arity.now) (term_at self.now.code (A.counts self.now.arity.now) depth) letters.now own bytes.now (map view parts.old.items) at) }
+        ensures gives { Adds result (map view parts.new.items)
+            (parts_at (A.counts self.now.arity.now)
+            (term_at self.now.code (A.counts self.now.arity.now) depth)
+            letters.now own bytes.now (map view parts.old.items) at) }
         ensures ahead { IfOk result (λ next. at ≤ next) }
         ensures within { IfOk result (λ next. next ≤ length bytes.now) }
     {
@@ -238,7 +246,10 @@ impl<'a, A: Arity> Reader<'a, A> {
         depth: u8,
     ) -> Result<usize, TreeFault>
         requires { at ≤ length bytes.now }
-        ensures gives { Adds result (map view parts.new.items) (else_at (A.counts self.now.arity.now) (term_at self.now.code (A.counts self.now.arity.now) depth) own (map view parts.old.items) bytes.now at) }
+        ensures gives { Adds result (map view parts.new.items)
+            (else_at (A.counts self.now.arity.now)
+            (term_at self.now.code (A.counts self.now.arity.now) depth)
+            own (map view parts.old.items) bytes.now at) }
         ensures ahead { IfOk result (λ next. at ≤ next) }
         ensures within { IfOk result (λ next. next ≤ length bytes.now) }
     {
@@ -276,7 +287,10 @@ impl<'a, A: Arity> Reader<'a, A> {
         depth: u8,
     ) -> Result<usize, TreeFault>
         requires { start ≤ length bytes.now }
-        ensures gives { Adds result (map view parts.new.items) (terms_until (A.counts self.now.arity.now) (term_at self.now.code (A.counts self.now.arity.now) depth) own spot bytes.now (length bytes.now) (map view parts.old.items) start) }
+        ensures gives { Adds result (map view parts.new.items)
+            (terms_until (A.counts self.now.arity.now)
+            (term_at self.now.code (A.counts self.now.arity.now) depth)
+            own spot bytes.now (length bytes.now) (map view parts.old.items) start) }
         ensures ahead { IfOk result (λ next. start ≤ next) }
         ensures within { IfOk result (λ next. next ≤ length bytes.now) }
     {
@@ -301,7 +315,10 @@ impl<'a, A: Arity> Reader<'a, A> {
         depth: u8,
     ) -> Result<usize, TreeFault>
         requires { start ≤ length bytes.now }
-        ensures gives { Adds result (map view parts.new.items) (terms_counted (A.counts self.now.arity.now) (term_at self.now.code (A.counts self.now.arity.now) depth) own bytes.now count (map view parts.old.items) start) }
+        ensures gives { Adds result (map view parts.new.items)
+            (terms_counted (A.counts self.now.arity.now)
+            (term_at self.now.code (A.counts self.now.arity.now) depth)
+            own bytes.now count (map view parts.old.items) start) }
         ensures ahead { IfOk result (λ next. start ≤ next) }
         ensures within { IfOk result (λ next. next ≤ length bytes.now) }
     {
@@ -327,7 +344,10 @@ impl<'a, A: Arity> Reader<'a, A> {
         depth: u8,
     ) -> Result<usize, TreeFault>
         requires { start ≤ length bytes.now }
-        ensures gives { Adds result (map view parts.new.items) (items_until (A.counts self.now.arity.now) (term_at self.now.code (A.counts self.now.arity.now) depth) own bytes.now (length bytes.now) (map view parts.old.items) start) }
+        ensures gives { Adds result (map view parts.new.items)
+            (items_until (A.counts self.now.arity.now)
+            (term_at self.now.code (A.counts self.now.arity.now) depth)
+            own bytes.now (length bytes.now) (map view parts.old.items) start) }
         ensures ahead { IfOk result (λ next. start ≤ next) }
         ensures within { IfOk result (λ next. next ≤ length bytes.now) }
     {
@@ -344,7 +364,9 @@ impl<'a, A: Arity> Reader<'a, A> {
     #[cycle(read)]
     #[tactic(auto, unfolding(crate::specs::Reading::item_at, crate::specs::Reading::item_of_kind), using(aml_operators::proofs::Views::view_roll))]
     fn item(&self, own: usize, bytes: &[u8], at: usize, depth: u8) -> Result<Term, TreeFault>
-        ensures gives { Gives view result (item_at (A.counts self.now.arity.now) (term_at self.now.code (A.counts self.now.arity.now) depth) own bytes.now at) }
+        ensures gives { Gives view result (item_at (A.counts self.now.arity.now)
+            (term_at self.now.code (A.counts self.now.arity.now) depth)
+            own bytes.now at) }
         ensures ahead { IfOk result (λ t. at < (out-Term t).end) }
         ensures within { IfOk result (λ t. (out-Term t).end ≤ length bytes.now) }
     {
@@ -380,7 +402,10 @@ impl<'a, A: Arity> Reader<'a, A> {
     ) -> Result<usize, TreeFault>
         requires within { at ≤ length bytes.now }
         requires short { length pieces.now ≤ 4 }
-        ensures gives { Adds result (map view parts.new.items) (pieces_at (A.counts self.now.arity.now) (term_at self.now.code (A.counts self.now.arity.now) depth) pieces.now own bytes.now (map view parts.old.items) at) }
+        ensures gives { Adds result (map view parts.new.items)
+            (pieces_at (A.counts self.now.arity.now)
+            (term_at self.now.code (A.counts self.now.arity.now) depth)
+            pieces.now own bytes.now (map view parts.old.items) at) }
         ensures ahead { IfOk result (λ next. at + length pieces.now ≤ next) }
         ensures within { IfOk result (λ next. next ≤ length bytes.now) }
     {

@@ -4,7 +4,8 @@ use super::{body_of, compare};
 use crate::{NoArguments, Op, Span, read_body, read_module};
 use std::test::Fail;
 
-const TABLE: [u8; 48] = [
+/// A table of one method, Return (Add (Arg0, One)).
+pub(super) const TABLE: [u8; 48] = [
     0x44, 0x53, 0x44, 0x54, 0x30, 0x00, 0x00, 0x00, 0x02, 0x1f, 0x41, 0x43, 0x50, 0x49, 0x43, 0x4b,
     0x52, 0x4f, 0x57, 0x53, 0x30, 0x30, 0x30, 0x31, 0x01, 0x00, 0x00, 0x00, 0x52, 0x4f, 0x57, 0x53,
     0x01, 0x00, 0x00, 0x00, 0x14, 0x0b, 0x4d, 0x30, 0x30, 0x30, 0x01, 0xa4, 0x72, 0x68, 0x01, 0x00,
@@ -155,6 +156,52 @@ fn own_names(rt: HostRuntime) -> Result<(), Fail> {
             (Op::NameString, 26, 30, 0),
             (Op::Invocation, 30, 36, 1),
             (Op::NameString, 30, 36, 0),
+        ],
+    )
+}
+
+/// If (One) { Name (ABC1, Zero) } makes no own name, CreateField (Local0, Zero, One, GHI1) makes
+/// one, and `^GHI1` is none. Name (ABC1, Revision) may stand in a body alone.
+#[test]
+fn own_names_of_the_top(rt: HostRuntime) -> Result<(), Fail> {
+    let alloc = rt.alloc();
+    let statements = body_of(
+        alloc,
+        &[
+            0xA0, 0x08, 0x01, 0x08, b'A', b'B', b'C', b'1', 0x00, b'A', b'B', b'C', b'1', 0x01,
+            0x5B, 0x13, 0x60, 0x00, 0x01, b'G', b'H', b'I', b'1', b'G', b'H', b'I', b'1', 0x5E,
+            b'G', b'H', b'I', b'1', 0x01, 0x08, b'A', b'B', b'C', b'1', 0x5B, 0x30, b'A', b'B',
+            b'C', b'1',
+        ],
+    )?;
+    compare(
+        &rt,
+        alloc,
+        &statements,
+        &[
+            (Op::If, 0, 9, 2),
+            (Op::One, 2, 3, 0),
+            (Op::Name, 3, 9, 2),
+            (Op::NameString, 4, 8, 0),
+            (Op::Zero, 8, 9, 0),
+            (Op::Invocation, 9, 14, 2),
+            (Op::NameString, 9, 13, 0),
+            (Op::One, 13, 14, 0),
+            (Op::CreateField, 14, 23, 4),
+            (Op::Local0, 16, 17, 0),
+            (Op::Zero, 17, 18, 0),
+            (Op::One, 18, 19, 0),
+            (Op::NameString, 19, 23, 0),
+            (Op::Invocation, 23, 27, 1),
+            (Op::NameString, 23, 27, 0),
+            (Op::Invocation, 27, 33, 2),
+            (Op::NameString, 27, 32, 0),
+            (Op::One, 32, 33, 0),
+            (Op::Name, 33, 40, 2),
+            (Op::NameString, 34, 38, 0),
+            (Op::Revision, 38, 40, 0),
+            (Op::Invocation, 40, 44, 1),
+            (Op::NameString, 40, 44, 0),
         ],
     )
 }

@@ -91,6 +91,36 @@ fn names(rt: HostRuntime) -> Result<(), Fail> {
     )
 }
 
+/// Names of the integers that are one byte or two.
+#[test]
+fn names_of_small_numbers(rt: HostRuntime) -> Result<(), Fail> {
+    let alloc = rt.alloc();
+    let definitions = module_of(
+        alloc,
+        &[
+            0x08, b'N', b'A', b'M', b'6', 0x01, 0x08, b'N', b'A', b'M', b'7', 0xFF, 0x08, b'N',
+            b'A', b'M', b'8', 0x0A, 0x7F,
+        ],
+    )?;
+    compare(
+        &rt,
+        alloc,
+        &definitions,
+        &[
+            (Op::Name, 36, 42, 2),
+            (Op::NameString, 37, 41, 0),
+            (Op::One, 41, 42, 0),
+            (Op::Name, 42, 48, 2),
+            (Op::NameString, 43, 47, 0),
+            (Op::Ones, 47, 48, 0),
+            (Op::Name, 48, 55, 2),
+            (Op::NameString, 49, 53, 0),
+            (Op::ByteConst, 53, 55, 1),
+            (Op::Number(0x7F), 54, 55, 0),
+        ],
+    )
+}
+
 /// Package (3) { ABCD, One, Package (1) { Ones } } and VarPackage (2) { ^ABCD, Zero }.
 #[test]
 fn packages(rt: HostRuntime) -> Result<(), Fail> {

@@ -1,9 +1,12 @@
 // Faults as they are printed; a module begins at 36, a body at 0.
 
-use super::{body_of, table_of};
+use super::bodies::TABLE;
+use super::{body_of, compare, table_of};
 use crate::{
-    Span, Term, TreeFault, bodies_are_unique, faults_stand_within, modules_are_unique, read_module,
+    NoArguments, Op, Refusal, Span, Term, TreeCause, TreeFault, bodies_are_unique,
+    faults_stand_within, modules_are_unique, read_body, read_module,
 };
+use aml_lex::LexCause;
 use std::alloc::Global;
 use std::process::Abort;
 use std::test::Fail;
@@ -171,6 +174,12 @@ fn opcodes_of_a_body(rt: HostRuntime) -> Result<(), Fail> {
         &[
             (&[0x5B, 0x2A], "E204 UnknownOpcode 0"),
             (&[0xA1, 0x02, 0xA3], "E204 UnknownOpcode 0"),
+            // If (One) { }, Noop, and an Else that does not stand behind the If.
+            (
+                &[0xA0, 0x02, 0x01, 0xA3, 0xA1, 0x01],
+                "E204 UnknownOpcode 4",
+            ),
+            (&[0xA0, 0x02, 0x01, 0xA1, 0x01, 0xA3], "fine"),
             (&[0x5B, 0x31], "E204 UnknownOpcode 0"),
             (&[0xA4, 0xA3], "E204 UnknownOpcode 1"),
             (&[0xA4, 0x5B, 0x31], "E204 UnknownOpcode 1"),
@@ -183,6 +192,12 @@ fn opcodes_of_a_body(rt: HostRuntime) -> Result<(), Fail> {
             (&[0x9D, 0x01, 0x00], "E204 UnknownOpcode 2"),
             (&[0x70, 0x01, 0x00], "fine"),
             (&[0x70, 0x01, 0x5B, 0x31], "fine"),
+            // 5C 00 and 5E 00 are names: a supername, a simple name and a term; 00 is an Alias's name.
+            (&[0x75, 0x5C, 0x00], "fine"),
+            (&[0x9D, 0x01, 0x5E, 0x00], "fine"),
+            (&[0xA4, 0x5E, 0x5E, 0x00], "fine"),
+            (&[0x06, 0x00, 0x00], "fine"),
+            (&[0x06, 0x00, 0x60], "E203 BadName 2"),
             // An If of two operands in a package of one; the byte behind it is not its own.
             (&[0xA0, 0x03, 0x93, 0x60, 0x01], "E201 Truncated 4"),
             (&[0xA4], "E201 Truncated 1"),
@@ -231,10 +246,12 @@ fn long_initialisers(rt: HostRuntime) -> Result<(), Fail> {
     Ok(())
 }
 
-/// A Return, so many LNots, and bytes behind them.
-fn nested(alloc: Global, depth: u8, behind: &[u8]) -> Result<Vec<u8>, Fail> {
-    let mut body = [0xA4u8].to_vec(alloc)?;
-    body.resize(1 + depth as usize, 0x92)?;
+/// Bytes, so many LNots, and bytes behind them.
+fn nested(alloc: Global, front: &[u8], depth: u8, behind: &[u8]) -> Result<Vec<u8>, Fail> {
+    let mut body = front.to_vec(alloc)?;
+    for _ in 0..depth {
+        body.push(0x92)?;
+    }
     body.extend_from_slice(behind)?;
     Ok(body)
 }
@@ -242,7 +259,7 @@ fn nested(alloc: Global, depth: u8, behind: &[u8]) -> Result<Vec<u8>, Fail> {
 #[test]
 fn depths(rt: HostRuntime) -> Result<(), Fail> {
     let alloc = rt.alloc();
-    let rows: [(u8, &[u8], &str); 8] = [
+    let rows: [(u8, &[u8], &str); 10] = [
         (62, &[0x01], "fine"),
         (63, &[0x01], "E205 TooDeep 64"),
         // Too deep is told before what stands there, and not where nothing does.
@@ -253,6 +270,9 @@ fn depths(rt: HostRuntime) -> Result<(), Fail> {
         (62, &[0x80, 0x60, 0x00], "E205 TooDeep 64"),
         // Name strings and a target that is none have no depth: Load (ABCD, none).
         (62, &[0x5B, 0x20, b'A', b'B', b'C', b'D', 0x00], "fine"),
+        // An argument is one deeper than its name.
+        (61, b"MTH1\x01", "fine"),
+        (62, b"MTH1\x01", "E205 TooDeep 67"),
         (
             62,
             &[0x5B, 0x20, b'A', b'B', b'C', b'D', 0x60],
@@ -260,8 +280,51 @@ fn depths(rt: HostRuntime) -> Result<(), Fail> {
         ),
     ];
     for (depth, behind, wanted) in rows {
-        let body = nested(alloc, depth, behind)?;
+        let body = nested(alloc, &[0xA4], depth, behind)?;
         let fault = told(alloc, body_of(alloc, &body))?;
+        assert_eq!(rt; fault.as_str(), wanted);
+    }
+    Ok(())
+}
+
+/// If (One) { } Else { Return (LNot (.. (One))) }: the Return has depth 2.
+#[test]
+fn depths_of_an_else(rt: HostRuntime) -> Result<(), Fail> {
+    let alloc = rt.alloc();
+    for (lead, depth, wanted) in [(0x41, 61, "fine"), (0x42, 62, "E205 TooDeep 69")] {
+        let front = [0xA0, 0x02, 0x01, 0xA1, lead, 0x04, 0xA4];
+        let body = nested(alloc, &front, depth, &[0x01])?;
+        let fault = told(alloc, body_of(alloc, &body))?;
+        assert_eq!(rt; fault.as_str(), wanted);
+    }
+    Ok(())
+}
+
+/// Method (M015) { Return (LNot (.. (One))) }, whose body begins at 44 of its table.
+#[test]
+fn depths_of_a_method(rt: HostRuntime) -> Result<(), Fail> {
+    let alloc = rt.alloc();
+    for (lead, depth, wanted) in [(0x47, 62, "fine"), (0x48, 63, "E205 TooDeep 108")] {
+        let front = [0x14, lead, 0x04, b'M', b'0', b'1', b'5', 0x00, 0xA4];
+        let table = table_of(alloc, &nested(alloc, &front, depth, &[0x01])?)?;
+        let definitions = read_module(alloc, &table)?;
+        compare(
+            &rt,
+            alloc,
+            &definitions,
+            &[
+                (Op::Method, 36, table.len(), 3),
+                (Op::NameString, 39, 43, 0),
+                (Op::Number(0), 43, 44, 0),
+                (Op::ByteList, 44, table.len(), 0),
+            ],
+        )?;
+        let span = Span {
+            at: 44,
+            end: table.len(),
+        };
+        assert!(rt; span.is_within(&table));
+        let fault = told(alloc, read_body(alloc, &table, span, &NoArguments))?;
         assert_eq!(rt; fault.as_str(), wanted);
     }
     Ok(())
@@ -286,5 +349,28 @@ fn short_tables(rt: HostRuntime) -> Result<(), Fail> {
     modules_are_unique();
     bodies_are_unique();
     faults_stand_within();
+    Ok(())
+}
+
+/// A table of 48 bytes cut at each byte. Its length and checksum need not fit, as no reader looks
+/// at them.
+#[test]
+fn cut_tables(rt: HostRuntime) -> Result<(), Fail> {
+    let alloc = rt.alloc();
+    for cut in 0..49 {
+        let lexical = if cut == 36 || cut == 48 {
+            None
+        } else if cut > 37 {
+            Some((LexCause::Overrun, 37))
+        } else {
+            Some((LexCause::Truncated, cut))
+        };
+        let wanted = lexical.map(|(cause, at)| TreeFault::Refused(Refusal {
+            cause: TreeCause::Lexical(cause),
+            at,
+        }));
+        let answer = read_module(alloc, &TABLE[..cut]);
+        assert_eq!(rt; answer.err(), wanted, "cut at {cut}");
+    }
     Ok(())
 }

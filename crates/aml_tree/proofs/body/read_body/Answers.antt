@@ -1,4 +1,4 @@
-use Rattle.std.proofs.Common.{take, length, ◌≡◌, ◌≤◌, arith}
+use Rattle.std.proofs.Common.{take, length, ◌≡◌, arith}
 use Rattle.std.proofs.lemmas.List.{length-take-le}
 use Rattle.aml_tree.proofs.Bodies.{body_reads}
 use Rattle.aml_tree.proofs.body.read_body.Goals as goal

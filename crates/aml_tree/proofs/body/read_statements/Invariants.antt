@@ -1,4 +1,4 @@
-use Rattle.std.proofs.Common.{◌≡◌, ℕ, ◌≤◌, ◌+◌, ◌-◌, length, [], map}
+use Rattle.std.proofs.Common.{◌≡◌, ℕ, ◌≤◌, ◌+◌, ◌-◌, length, []}
 use Rattle.aml_tree.specs.Body.{body_until, trees_of}
 use Rattle.aml_tree.proofs.body.read_statements.Given as goal
 

@@ -1,5 +1,4 @@
 use Rattle.std.proofs.Common.{sym}
-use Rattle.aml_tree.specs.Body.{segment_at}
 use Rattle.aml_tree.proofs.Bodies.{nothing_past}
 use Rattle.aml_tree.proofs.body.segment_made.Goals as goal
 
