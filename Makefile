@@ -1,4 +1,4 @@
-.PHONY: run test check fmt rows
+.PHONY: run test growths check fmt
 
 # Builds acpicheck, proofs included, and evaluates the method of the stored run.
 run:
@@ -7,6 +7,10 @@ run:
 # The gate: every crate proved from nothing, must-fail edits refused, tests and programs run.
 test:
 	rt ci
+
+# Each growth of memory refused in turn, in the tests that `make test` left.
+growths:
+	@python3 bench/growths.py
 
 # Every crate, over what earlier checks kept.
 check:

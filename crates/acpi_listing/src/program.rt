@@ -55,6 +55,10 @@ pub fn run<R: Read, W: Write>(alloc: Global, input: &mut R, out: &mut W) -> Resu
     let Some(first) = lines.next_line() else {
         return report(alloc, out, Fault::File);
     };
+    if !input.is_whole && first.len() == input.bytes.len() {
+        // The words themselves may go on.
+        return report(alloc, out, Fault::File);
+    }
     let Ok(text) = str::from_utf8(first) else {
         return report(alloc, out, Fault::CommandLine);
     };

@@ -2,7 +2,8 @@
 
 use super::TABLE_1;
 use crate::{
-    Source, SourceFault, Table, list_evaluation, list_tables, read_input, read_table, run_words,
+    Source, SourceFault, Table, list_evaluation, list_tables, read_input, read_table, run,
+    run_words,
 };
 use acpi_tables::{TableCause, TableFault};
 use aml_meaning::{AmlCause, AmlError};
@@ -191,5 +192,8 @@ fn inputs_that_end_or_fail(rt: HostRuntime) -> Result<(), Fail> {
     let torn = read_input(alloc, &mut Torn { left: 5 })?;
     assert!(rt; !torn.is_whole);
     assert_eq!(rt; torn.bytes.as_slice(), b"xxxxx".as_slice());
+    let mut out = Vec::new(alloc);
+    assert_eq!(rt; run(alloc, &mut Torn { left: 5 }, &mut out), Ok(1));
+    assert_eq!(rt; out.as_slice(), b"fault E523 File\n".as_slice());
     Ok(())
 }
