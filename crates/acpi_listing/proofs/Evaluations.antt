@@ -1,11 +1,12 @@
 -- Laws of evaluating a file's method.
-use Rattle.std.proofs.Common.{◌≡◌, ℕ, List, Option, Result, Ok, Err, sym, refl, subst}
+use Rattle.std.proofs.Common.{◌≡◌, ◌∙◌, ℕ, List, Option, Result, Ok, Err, sym, refl, subst}
 use Rattle.std.specs.Prelude.{IsErr, IsErrAnd, []}
 use Rattle.std.proofs.KnownBytes.{Appends-nil}
 use Rattle.acpi_listing.specs.declared.put.RunFault.{RunFault}
 use Rattle.aml_namespace.specs.declared.method.Method.{Method}
 use Rattle.aml_namespace.specs.Load.{Shown, IsLoaded}
 use Rattle.acpi_listing.specs.Files.{Answers, Opens}
+use Rattle.acpi_listing.specs.Input.{NextLine}
 use Rattle.acpi_listing.specs.Commands.{Names, Finds, FaultyEval, EvaluatesFile, Reports}
 use Rattle.acpi_listing.specs.declared.fault.Fault.{Fault}
 use Rattle.acpi_listing.specs.declared.fault.Stop.{Stop}
@@ -30,3 +31,7 @@ faulted answers old new file word args steps held (Err s) f e faulty =
 pub untold : (f : Fault) (held : Option (List ℕ)) (r : Result ℕ RunFault) → IsErr r → Reports f held held r
 untold f held (Ok n) e = absurd (cc)
 untold f held (Err x) e = ([], Appends-nil held)
+
+-- the next line of bytes that are lent
+pub next_line_of : (bytes lent held : List ℕ) (line : Option (List ℕ)) (rest : List ℕ) → held ≡ lent → lent ≡ bytes → NextLine held line rest → NextLine bytes line rest
+next_line_of bytes lent held line rest first second next = subst (λ b. NextLine b line rest) (first ∙ second) next

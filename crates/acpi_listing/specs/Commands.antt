@@ -1,5 +1,5 @@
 -- What the commands do, from words that were read to what is printed.
-use Rattle.std.specs.Prelude.{◌≡◌, ◌≤◌, ◌⊎◌, ◌-◌, ◌^◌, ℕ, List, [], ◌∷◌, All, Bool, false, codes, length, Option, Some, None, Result, Ok, Err, map, option_map, vec_items}
+use Rattle.std.specs.Prelude.{◌≡◌, ◌≤◌, ◌⊎◌, ◌-◌, ◌^◌, ℕ, List, [], ◌∷◌, All, Bool, codes, length, Option, Some, None, Result, Ok, Err, map, option_map, vec_items}
 use Rattle.std.specs.Str.{IsUtf8}
 use Rattle.std.specs.Io.KnownBytes.{Appends}
 use Rattle.aml_lex.specs.declared.names.NameSeg.{NameSeg}
@@ -19,7 +19,7 @@ use Rattle.acpi_listing.specs.Arguments.{Given, GivesNone}
 use Rattle.acpi_listing.specs.Text.{joined}
 use Rattle.acpi_listing.specs.Evaluation.{outcome_line}
 use Rattle.acpi_listing.specs.Files.{Answers, Opens, ListsFiles}
-use Rattle.acpi_listing.specs.Input.{NextLine, IsRead, hex_answers}
+use Rattle.acpi_listing.specs.Input.{NextLine, IsTorn, IsRead, hex_answers}
 use Rattle.acpi_listing.specs.declared.fault.Fault.{Fault}
 use Rattle.acpi_listing.specs.declared.fault.Fault.TheVariants as fault
 use Rattle.acpi_listing.specs.declared.fault.Stop.{Stop}
@@ -131,10 +131,10 @@ abbrev pub RunsBytes : List ℕ → Bool → Option (List ℕ) → Option (List 
 RunsBytes bytes whole held holds r =
     ((bytes ≡ []) × Reports fault.File held holds r)
     ⊎ ((line rest : List ℕ) × NextLine bytes (Some line) rest
-    × (((whole ≡ false) × (length line ≡ length bytes) × Reports fault.File held holds r)
-    ⊎ (((IsUtf8 line → ⊥) × Reports fault.CommandLine held holds r)
+    × ((IsTorn whole line bytes × Reports fault.File held holds r)
+    ⊎ ((IsTorn whole line bytes → ⊥) × (((IsUtf8 line → ⊥) × Reports fault.CommandLine held holds r)
     ⊎ (Reports fault.NoMemory held holds r
-    ⊎ ((old new : HexLines) × (old.lines.rest.now ≡ rest) × (old.is_whole ≡ whole) × RunsWords hex_answers old new held holds r)))))
+    ⊎ ((old new : HexLines) × (old.lines.rest.now ≡ rest) × (old.is_whole ≡ whole) × RunsWords hex_answers old new held holds r))))))
 
 abbrev pub RunsInput : Option (List ℕ) → Option (List ℕ) → Option (List ℕ) → Option (List ℕ) → Result ℕ RunFault → Type 0
 RunsInput old new held holds r =

@@ -1,5 +1,5 @@
 -- Standard input: its bytes, its lines, and the files that stand on them in hex.
-use Rattle.std.specs.Prelude.{◌≡◌, ◌≤◌, ◌<◌, ◌⊎◌, ◌==◌, ℕ, List, [], ◌∷◌, length, ◌++◌, true, false, All, Option, Some, None, Result, Ok, Err, codes, not, vec_items}
+use Rattle.std.specs.Prelude.{◌≡◌, ◌≤◌, ◌<◌, ◌⊎◌, ◌==◌, ℕ, List, [], ◌∷◌, length, ◌++◌, Bool, true, false, All, Option, Some, None, Result, Ok, Err, codes, not, vec_items}
 use Rattle.std.specs.Io.KnownBytes.{Consumes, IsAtEnd}
 use Rattle.hex.specs.Hex.{decode_of}
 use Rattle.hex.specs.declared.error.FromHexError.{FromHexError}
@@ -19,6 +19,10 @@ abbrev pub NextLine : List ℕ → Option (List ℕ) → List ℕ → Type 0
 NextLine bytes None rest = (bytes ≡ []) × (rest ≡ [])
 NextLine bytes (Some line) rest =
     All (λ b. not (b == 10) ≡ true) line × ((bytes ≡ line ++ (10 ∷ rest)) ⊎ ((bytes ≡ line) × (0 < length line) × (rest ≡ [])))
+
+-- a first line that may go on, as the input failed behind it
+abbrev pub IsTorn : Bool → List ℕ → List ℕ → Type 0
+IsTorn whole line bytes = (whole ≡ false) × (length line ≡ length bytes)
 
 -- a file `@` is the next line's hex text
 abbrev pub hex_answers : HexLines → List ℕ → Result (List ℕ) SourceFault → HexLines → Type 0

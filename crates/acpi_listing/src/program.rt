@@ -1,12 +1,13 @@
 // The program over any source of files and any writer.
 
-ghost use Rattle.std.specs.Prelude.{◌≡◌, ◌≤◌, IfOk, string_bytes};
+ghost use Rattle.std.specs.Prelude.{◌≡◌, ◌≤◌, ◌↔◌, IsTrue, IfOk, string_bytes, vec_items};
+ghost use Rattle.acpi_listing.specs.Input.{IsTorn};
 ghost use Rattle.acpi_listing.specs.Commands.{ObeysWords, Reports, RunsWords, RunsInput, fault_line};
 
 use crate::eval::evaluate;
 use crate::fault::{Fault, Stop};
 use crate::files::list_files;
-use crate::input::read_input;
+use crate::input::{Input, read_input};
 use crate::lines_of_input::{HexLines, Lines};
 use crate::put::{RunFault, put};
 use crate::source::Source;
@@ -55,8 +56,7 @@ pub fn run<R: Read, W: Write>(alloc: Global, input: &mut R, out: &mut W) -> Resu
     let Some(first) = lines.next_line() else {
         return report(alloc, out, Fault::File);
     };
-    if !input.is_whole && first.len() == input.bytes.len() {
-        // The words themselves may go on.
+    if is_torn(&input, first) {
         return report(alloc, out, Fault::File);
     }
     let Ok(text) = str::from_utf8(first) else {
@@ -71,6 +71,13 @@ pub fn run<R: Read, W: Write>(alloc: Global, input: &mut R, out: &mut W) -> Resu
         is_whole: input.is_whole,
     };
     run_words(alloc, words.as_slice(), &mut files, out)
+}
+
+// Whether the first line may go on behind what was read.
+fn is_torn(input: &Input, first: &[u8]) -> bool
+    ensures { IsTrue result ↔ IsTorn input.now.is_whole first.now (vec_items input.now.bytes) }
+{
+    !input.is_whole && first.len() == input.bytes.len()
 }
 
 fn split_words(alloc: Global, text: &str) -> Result<Vec<&str>, AllocError> {

@@ -4,7 +4,7 @@
 ghost use Rattle.std.specs.Prelude.{◌≤◌, ◌<◌, ◌^◌, length};
 
 use crate::bytes::byte_sum;
-use crate::{Entry, Fadt, Header, Isa, Madt, Rsdp, TableCause, TableFault, Xsdt};
+use crate::{Entry, Fadt, Header, Isa, Madt, Rsdp, TableCause, TableFault, Xsdt, read_table};
 use byteorder::{ByteOrder, LittleEndian};
 use std::test::Fail;
 
@@ -60,6 +60,26 @@ fn headers(rt: HostRuntime) -> Result<(), Fail> {
             assert_eq!(rt; told, fault(TableCause::BadLength, 4));
         }
     }
+    Ok(())
+}
+
+#[test]
+fn tables_of_a_signature(rt: HostRuntime) -> Result<(), Fail> {
+    assert_eq!(rt; read_table(&DSDT, b"DSDT")?.length, 48);
+    assert_eq!(rt;
+        read_table(&DSDT, b"SSDT").err(),
+        fault(TableCause::BadSignature, 0)
+    );
+    assert_eq!(rt;
+        read_table(&DSDT[..35], b"SSDT").err(),
+        fault(TableCause::Short, 35)
+    );
+    let mut changed = DSDT;
+    changed[47] = 1;
+    assert_eq!(rt;
+        read_table(&changed, b"SSDT").err(),
+        fault(TableCause::BadSum, 9)
+    );
     Ok(())
 }
 
