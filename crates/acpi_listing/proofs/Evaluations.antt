@@ -1,13 +1,14 @@
 -- Laws of evaluating a file's method.
-use Rattle.std.proofs.Common.{◌≡◌, ◌∙◌, ℕ, List, Option, Result, Ok, Err, sym, refl, subst}
+use Rattle.std.proofs.Common.{◌≡◌, ◌∙◌, ℕ, List, Option, Result, Ok, Err, inl, inr, sym, refl, subst}
 use Rattle.std.specs.Prelude.{IsErr, IsErrAnd, []}
 use Rattle.std.proofs.KnownBytes.{Appends-nil}
 use Rattle.acpi_listing.specs.declared.put.RunFault.{RunFault}
 use Rattle.aml_namespace.specs.declared.method.Method.{Method}
-use Rattle.aml_namespace.specs.Load.{Shown, IsLoaded}
+use Rattle.aml_namespace.specs.Load.{Shown, IsLoaded, FaultyLoad}
 use Rattle.acpi_listing.specs.Files.{Answers, Opens}
 use Rattle.acpi_listing.specs.Input.{NextLine}
-use Rattle.acpi_listing.specs.Commands.{Names, Finds, FaultyEval, EvaluatesFile, Reports}
+use Rattle.acpi_listing.specs.Commands.{Names, Finds, LoadsOrFails, FaultyEval, EvaluatesFile, Reports}
+use Rattle.acpi_listing.specs.Arguments.{Given}
 use Rattle.acpi_listing.specs.declared.fault.Fault.{Fault}
 use Rattle.acpi_listing.specs.declared.fault.Stop.{Stop}
 use Rattle.acpi_listing.specs.declared.fault.Stop.TheVariants.{Fault as Faulty}
@@ -26,6 +27,14 @@ pub faulted : {F : Type 0} (answers : Answers F) (old new : F) (file word : List
 faulted answers old new file word args steps held (Ok n) f e faulty = absurd e
 faulted answers old new file word args steps held (Err s) f e faulty =
     subst (λ stop. EvaluatesFile answers old file word args steps new held held (Err stop)) (sym e) (faulty, refl)
+
+-- a table that was not loaded
+pub not_loaded : {F : Type 0} (answers : Answers F) (old new : F) (file word bytes lent : List ℕ) (args : Option (List ℕ)) (arguments : List ℕ) (f : Fault)
+    → lent ≡ bytes → Given args arguments → Opens answers old file (Ok bytes) new → LoadsOrFails lent (Err f)
+    → FaultyEval answers old file word args new f
+not_loaded answers old new file word bytes lent args arguments f same given opens (inl memory) = inl memory
+not_loaded answers old new file word bytes lent args arguments f same given opens (inr (refusal, faulty, is)) =
+    inr (inr (arguments, given, inr (inl (bytes, refusal, opens, subst (λ b. FaultyLoad b refusal) same faulty, is))))
 
 -- a fault whose line could not be made
 pub untold : (f : Fault) (held : Option (List ℕ)) (r : Result ℕ RunFault) → IsErr r → Reports f held held r

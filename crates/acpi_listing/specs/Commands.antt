@@ -64,15 +64,21 @@ abbrev pub Finds : {F : Type 0} → Answers F → F → List ℕ → List ℕ �
 Finds answers old file word new ns m =
     (bytes : List ℕ) × (id : ℕ) × Opens answers old file (Ok bytes) new × IsLoaded bytes ns × Names ns word id m
 
--- why an evaluation ends with a fault
-abbrev pub FaultyEval : {F : Type 0} → Answers F → F → List ℕ → List ℕ → Option (List ℕ) → F → Fault → Type 0
-FaultyEval answers old file word args new f =
-    (f ≡ fault.NoMemory) ⊎ (((f ≡ fault.BadArgs) × GivesNone args)
-    ⊎ (Opens answers old file (Err f) new
+-- why a file's method is not evaluated with arguments: the file, its table, no such method, or arguments that do not fit a body that parses
+abbrev pub FaultyFile : {F : Type 0} → Answers F → F → List ℕ → List ℕ → List ℕ → F → Fault → Type 0
+FaultyFile answers old file word arguments new f =
+    Opens answers old file (Err f) new
     ⊎ (((bytes : List ℕ) × (refusal : LoadRefusal) × Opens answers old file (Ok bytes) new × FaultyLoad bytes refusal × (f ≡ fault.Load refusal))
     ⊎ (((bytes : List ℕ) × (ns : Shown) × Opens answers old file (Ok bytes) new × IsLoaded bytes ns × NamesNone ns word × (f ≡ fault.NoSuchObject))
-    ⊎ ((ns : Shown) × (m : Method) × (ts : List Tree) × (arguments : List ℕ) × Finds answers old file word new ns m × IsBodyOf ns m ts
-    × Given args arguments × (Takes ns m arguments → ⊥) × (f ≡ fault.ArgsDontFit))))))
+    ⊎ ((ns : Shown) × (m : Method) × (ts : List Tree) × Finds answers old file word new ns m × IsBodyOf ns m ts
+    × (Takes ns m arguments → ⊥) × (f ≡ fault.ArgsDontFit))))
+
+-- why an evaluation ends with a fault: memory, the text of the arguments, and only then the file
+abbrev pub FaultyEval : {F : Type 0} → Answers F → F → List ℕ → List ℕ → Option (List ℕ) → F → Fault → Type 0
+FaultyEval answers old file word args new f =
+    (f ≡ fault.NoMemory)
+    ⊎ (((f ≡ fault.BadArgs) × GivesNone args × (new ≡ old))
+    ⊎ ((arguments : List ℕ) × Given args arguments × FaultyFile answers old file word arguments new f))
 
 -- how `eval` ends: a refused body's line, or the line of the meaning's outcome; a fault, and nothing is printed; or a beginning of a line
 abbrev pub EvaluatesFile : {F : Type 0} → Answers F → F → List ℕ → List ℕ → Option (List ℕ) → ℕ → F → Option (List ℕ) → Option (List ℕ) → Result ℕ Stop → Type 0

@@ -2,10 +2,15 @@ use Rattle.std.proofs.Common.{◌≡◌, inl, inr, refl, map, subst, sym, true, 
 use Rattle.aml_namespace.specs.Load.{shown, IsLoaded}
 use Rattle.aml_operators.specs.Tree.{view, views}
 use Rattle.aml_plain.specs.Methods.{Evaluates}
-use Rattle.acpi_listing.specs.Arguments.{Given}
 use Rattle.acpi_listing.specs.Commands.{Takes}
-use Rattle.acpi_listing.proofs.Evaluations.{found_in, faulted}
+use Rattle.acpi_listing.proofs.Evaluations.{found_in, faulted, not_loaded}
 use Rattle.acpi_listing.proofs.eval.evaluate.Goals as goal
+
+pub returns-in_err-namespace-clause-printed : goal.returns-in_err-namespace-clause-printed
+returns-in_err-namespace-clause-printed g c =
+    faulted g.F.Source.answers _ _ _ _ (option_map (λ text. text.now) c.args.request.now.args) c.args.request.now.steps _ c.from_residual-in_err-namespace.result _ c.from_residual-in_err-namespace.ensures.1
+    (not_loaded g.F.Source.answers _ _ _ _ c.in_ok-table.table.items c.deref.result.now _ c.in_ok-arguments.arguments.items _
+    c.deref.ensures.value c.in_ok-arguments.ensures.given c.in_ok-table.ensures c.in_err-namespace.ensures)
 
 pub returns-in_err-id-clause-printed : goal.returns-in_err-id-clause-printed
 returns-in_err-id-clause-printed g c =
@@ -13,7 +18,7 @@ returns-in_err-id-clause-printed g c =
     let ns = shown c.in_ok-namespace.namespace in
     let loaded = subst (λ bytes. IsLoaded bytes ns) c.deref.ensures.value c.in_ok-namespace.ensures in
     faulted g.F.Source.answers _ _ _ _ (option_map (λ text. text.now) c.args.request.now.args) c.args.request.now.steps _ c.from_residual-in_err-id.result _ c.from_residual-in_err-id.ensures.1
-    (inr (inr (inr (inr (inl (table, ns, c.in_ok-table.ensures, loaded, c.in_err-id.ensures.none.0, c.in_err-id.ensures.none.1))))))
+    (inr (inr (c.in_ok-arguments.arguments.items, c.in_ok-arguments.ensures.given, inr (inr (inl (table, ns, c.in_ok-table.ensures, loaded, c.in_err-id.ensures.none.0, c.in_err-id.ensures.none.1))))))
 
 pub returns-in-Err-Refused-clause-printed : goal.returns-in-Err-Refused-clause-printed
 returns-in-Err-Refused-clause-printed g c =
@@ -33,9 +38,10 @@ returns-then-not-fits-clause-printed g c =
     let m = c.in_ok-id.method in
     let finds = found_in g.F.Source.answers _ _ _ _ c.in_ok-table.table.items _ ns _ m c.deref.ensures.value c.in_ok-table.ensures c.in_ok-namespace.ensures c.in_ok-id.ensures.found in
     let body = c.in-Ok.ensures m c.in_ok-id.ensures.found.3 in
-    let given = subst (Given (option_map (λ text. text.now) c.args.request.now.args)) (sym c.deref-2.ensures.value) c.in_ok-arguments.ensures.given in
-    let refuses : Takes ns m c.deref-2.result.now → ⊥ = λ takes. let fits : c.fits.result ≡ true = c.fits.ensures.1 takes in absurd (cc (fits, c.if-not-fits.true)) in
-    (inr (inr (inr (inr (inr (ns, m, map view c.in-Ok.body.items, c.deref-2.result.now, finds, body, given, refuses, refl))))), refl)
+    let arguments = c.in_ok-arguments.arguments.items in
+    let refuses : Takes ns m arguments → ⊥ =
+    λ takes. let fits : c.fits.result ≡ true = c.fits.ensures.1 (subst (Takes ns m) (sym c.deref-2.ensures.value) takes) in absurd (cc (fits, c.if-not-fits.true)) in
+    (inr (inr (arguments, c.in_ok-arguments.ensures.given, inr (inr (inr (ns, m, map view c.in-Ok.body.items, finds, body, refuses, refl))))), refl)
 
 pub returns-clause-printed : goal.returns-clause-printed
 returns-clause-printed g c =
