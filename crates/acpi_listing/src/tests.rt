@@ -135,19 +135,31 @@ fn rows_of_tables(rt: HostRuntime) -> Result<(), Fail> {
     Ok(())
 }
 
+// What a command prints, into a writer that takes a byte at a time, and into one that fails at each
+// byte: a listing, an outcome, a fault's line and the line of a body that cannot be read.
 #[test]
 fn writers(rt: HostRuntime) -> Result<(), Fail> {
     let alloc = rt.alloc();
-    let input = format!(in alloc; "tables @ @\n{TABLE_1}\n{TABLE_1}\n")?;
-    let whole = told(alloc, input.as_str(), 4096, 4096)?;
-    assert_eq!(rt; whole.ended, Ok(0));
-    let slow = told(alloc, input.as_str(), 1, 4096)?;
-    assert_eq!(rt; slow.ended, Ok(0));
-    assert_eq!(rt; slow.text.as_slice(), whole.text.as_slice());
-    for room in 0..whole.text.len() {
-        let front = told(alloc, input.as_str(), 7, room)?;
-        assert_eq!(rt; front.ended, Err(RunFault::Write));
-        assert_eq!(rt; front.text.as_slice(), &whole.text[..room]);
+    let torn = dsdt(alloc, 2, "14084d30303000a45c").ok_or("a table")?;
+    let rows = [
+        ("tables @ @", TABLE_1, 0),
+        ("eval --plain 9 --method \\M000 --args 41 @", TABLE_1, 0),
+        ("eval --plain 9 --method \\M001 @", TABLE_1, 1),
+        ("eval --plain 9 --method \\M000 @", torn.as_str(), 3),
+    ];
+    for (words, table, status) in rows {
+        let input = format!(in alloc; "{words}\n{table}\n{table}\n")?;
+        let whole = told(alloc, input.as_str(), 4096, 4096)?;
+        assert_eq!(rt; whole.ended, Ok(status), "at {words}");
+        assert!(rt; !whole.text.is_empty());
+        let slow = told(alloc, input.as_str(), 1, 4096)?;
+        assert_eq!(rt; slow.ended, Ok(status), "at {words}");
+        assert_eq!(rt; slow.text.as_slice(), whole.text.as_slice());
+        for room in 0..whole.text.len() {
+            let front = told(alloc, input.as_str(), 7, room)?;
+            assert_eq!(rt; front.ended, Err(RunFault::Write), "at {words}");
+            assert_eq!(rt; front.text.as_slice(), &whole.text[..room]);
+        }
     }
     Ok(())
 }
