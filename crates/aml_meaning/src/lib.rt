@@ -8,12 +8,10 @@
 mod action;
 mod error;
 mod law;
-mod width;
 
 pub use action::{Action, Arithmetic, Constant, action_of};
-pub use error::{AmlCause, AmlError, NoMemory};
+pub use error::{AmlCause, AmlError};
 pub use law::done_is_stable;
-pub use width::Width;
 
 #[cfg(test)]
 mod tests;

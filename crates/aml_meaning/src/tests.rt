@@ -1,6 +1,6 @@
 // What errors are printed as, and each call once.
 
-use crate::{Action, AmlCause, AmlError, Arithmetic, NoMemory, Width, action_of, done_is_stable};
+use crate::{Action, AmlCause, AmlError, Arithmetic, action_of, done_is_stable};
 use aml_operators::Op;
 use std::test::Fail;
 
@@ -26,8 +26,6 @@ fn printed_errors(rt: HostRuntime) -> Result<(), Fail> {
         let printed = format!(in rt.alloc(); "{error}")?;
         assert_eq!(rt; printed.as_str(), text);
     }
-    let printed = format!(in rt.alloc(); "{}", NoMemory)?;
-    assert_eq!(rt; printed.as_str(), "no memory");
     Ok(())
 }
 
@@ -36,8 +34,5 @@ fn calls(rt: HostRuntime) {
     assert_eq!(rt; action_of(Op::Add), Action::Binary(Arithmetic::Add));
     assert_eq!(rt; action_of(Op::Arg6), Action::Argument(6));
     assert_eq!(rt; action_of(Op::Noop), Action::Unwritten);
-    assert_eq!(rt; Width::Bits32.bits(), 32);
-    assert_eq!(rt; Width::Bits32.greatest(), 0xffff_ffff);
-    assert_eq!(rt; Width::Bits64.greatest(), 0xffff_ffff_ffff_ffff);
     done_is_stable();
 }

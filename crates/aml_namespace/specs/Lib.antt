@@ -1,4 +1,5 @@
 pub mod Fault
+pub mod Widths
 pub mod Define
 pub mod Sound
 pub mod Entries

@@ -1,11 +1,9 @@
 -- What a loaded DSDT makes, or the first fault (ACPI 6.5, 5.2.11 and 5.3).
-use Rattle.std.specs.Prelude.{◌≡◌, ◌⊎◌, ◌<◌, ℕ, List, [], ◌∷◌, Option, Some, None, Result, Ok, Err, nat_lt, if◌then◌else◌, slice_get}
+use Rattle.std.specs.Prelude.{◌≡◌, ◌⊎◌, ◌<◌, ℕ, List, [], ◌∷◌, Option, Some, None, Result, Ok, Err}
 use Rattle.acpi_tables.specs.Bytes.{number_at}
 use Rattle.acpi_tables.specs.Fault.{first_fault}
 use Rattle.acpi_tables.specs.Table.{IsTableOf, table_checks}
 use Rattle.acpi_tables.specs.declared.fault.TableFault.{TableFault}
-use Rattle.aml_meaning.specs.declared.width.Width.{Width}
-use Rattle.aml_meaning.specs.declared.width.Width.TheVariants.{Bits32, Bits64}
 use Rattle.aml_operators.specs.Tree.{Tree}
 use Rattle.aml_tree.specs.declared.fault.Refusal.{Refusal}
 use Rattle.aml_tree.specs.Body.{IsModule, FaultyModule}
@@ -13,16 +11,14 @@ use Rattle.aml_namespace.specs.declared.fault.LoadFault.{LoadFault}
 use Rattle.aml_namespace.specs.declared.fault.LoadFault.TheVariants.{NoMemory, Refused}
 use Rattle.aml_namespace.specs.declared.fault.LoadRefusal.{LoadRefusal}
 use Rattle.aml_namespace.specs.declared.namespace.Namespace.{Namespace}
+use Rattle.aml_namespace.specs.declared.width.Width.{Width}
+use Rattle.aml_namespace.specs.Widths.{width_by}
 use Rattle.aml_namespace.specs.Fault.{table_refusal, tree_refusal}
 use Rattle.aml_namespace.specs.Define.{Entries, defined_from}
 
 -- `DSDT`
 abbrev pub dsdt_signature : List ℕ
 dsdt_signature = 68 ∷ 83 ∷ 68 ∷ 84 ∷ []
-
--- below revision 2 integers have 32 bits (19.6, DefinitionBlock)
-abbrev pub width_by : ℕ → Width
-width_by revision = if nat_lt revision 2 then Bits32 else Bits64
 
 -- what a namespace shows: its table's bytes, the width of integers, and its objects in order of definition
 pub record Shown : Type 0 where

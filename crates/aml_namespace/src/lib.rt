@@ -7,14 +7,17 @@
 mod define;
 mod fault;
 mod law;
+mod memory;
 mod method;
 mod namespace;
 mod width;
 
 pub use fault::{LoadCause, LoadFault, LoadRefusal};
 pub use law::faults_stand_within;
+pub use memory::NoMemory;
 pub use method::{Method, ObjectId};
 pub use namespace::Namespace;
+pub use width::Width;
 
 #[cfg(test)]
 mod tests;

@@ -6,10 +6,9 @@ ghost use Rattle.aml_namespace.specs.Sound.{BodiesWithin};
 use crate::define::define_all;
 use crate::fault::LoadFault;
 use crate::method::{Method, ObjectId};
-use crate::width::width_of;
+use crate::width::Width;
 use acpi_tables::read_table;
 use aml_lex::{NameRef, NameSeg};
-use aml_meaning::Width;
 use aml_tree::{Arity, Term, TreeFault, read_body, read_module};
 use indexmap::IndexMap;
 use std::alloc::Global;
@@ -46,7 +45,7 @@ impl<'a> Namespace<'a> {
         let methods = define_all(alloc, dsdt, &definitions)?;
         Ok(Namespace {
             table: dsdt,
-            width: width_of(header.revision),
+            width: Width::by_revision(header.revision),
             methods,
         })
     }

@@ -3,9 +3,8 @@
 mod faults;
 mod names;
 
-use crate::{LoadCause, LoadFault, LoadRefusal, Namespace, ObjectId};
+use crate::{LoadCause, LoadFault, LoadRefusal, Namespace, ObjectId, Width};
 use aml_lex::NameSeg;
-use aml_meaning::Width;
 use aml_tree::Span;
 use std::alloc::Global;
 use std::test::Fail;

@@ -1,17 +1,44 @@
-// The width of integers.
+// The width of integers (ACPI 6.5, 19.6, DefinitionBlock).
 
-ghost use Rattle.std.specs.Prelude.{◌≡◌};
-ghost use Rattle.aml_namespace.specs.Load.{width_by};
+ghost use Rattle.std.specs.Prelude.{◌≡◌, ◌-◌, ◌^◌};
+ghost use Rattle.aml_namespace.specs.Widths.{bits_of, width_by};
 
-use aml_meaning::Width;
+/// How wide the integers of a table are: 64 bits from the DSDT's revision 2 on.
+#[derive(Clone, Copy, Debug, PartialEq, Eq)]
+pub enum Width {
+    Bits32,
+    Bits64,
+}
 
-/// The width of integers by the revision of the DSDT (ACPI 6.5, 19.6, DefinitionBlock).
-pub(crate) fn width_of(revision: u8) -> Width
-    ensures { result ≡ width_by revision }
-{
-    if revision < 2 {
-        Width::Bits32
-    } else {
-        Width::Bits64
+impl Width {
+    /// The width that a DSDT's revision tells.
+    pub(crate) fn by_revision(revision: u8) -> Width
+        ensures { result ≡ width_by revision }
+    {
+        if revision < 2 {
+            Width::Bits32
+        } else {
+            Width::Bits64
+        }
+    }
+
+    /// The number of bits.
+    pub fn bits(self) -> u8
+        ensures { result ≡ bits_of self }
+    {
+        match self {
+            Width::Bits32 => 32,
+            Width::Bits64 => 64,
+        }
+    }
+
+    /// The greatest integer.
+    pub fn greatest(self) -> u64
+        ensures { result ≡ 2 ^ bits_of self - 1 }
+    {
+        match self {
+            Width::Bits32 => u64::from(u32::MAX),
+            Width::Bits64 => u64::MAX,
+        }
     }
 }

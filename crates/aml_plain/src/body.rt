@@ -3,7 +3,7 @@
 ghost use Rattle.std.specs.Prelude.{map, List};
 ghost use Rattle.aml_operators.specs.Tree.{views};
 ghost use Rattle.aml_meaning.specs.Event.{Event};
-ghost use Rattle.aml_meaning.specs.Meaning.{bits_of};
+ghost use Rattle.aml_namespace.specs.Widths.{bits_of};
 ghost use Rattle.aml_meaning.specs.State.{Int};
 ghost use Rattle.aml_meaning.specs.Whole.{evaluated};
 ghost use Rattle.aml_plain.specs.Tells.{Tells};
@@ -11,7 +11,8 @@ ghost use Rattle.aml_plain.specs.Tells.{Tells};
 use crate::eval::eval_all;
 use crate::frame::Frame;
 use crate::halt::{Halt, Setting};
-use aml_meaning::{AmlError, Width};
+use aml_meaning::AmlError;
+use aml_namespace::Width;
 use aml_operators::Term;
 
 /// How an evaluation ends.

@@ -8,7 +8,8 @@ ghost use Rattle.aml_meaning.specs.Runs.{By, Runs, state};
 ghost use Rattle.aml_meaning.specs.State.{error};
 ghost use Rattle.aml_plain.specs.Tells.{halted, went};
 
-use aml_meaning::{AmlCause, AmlError, Width};
+use aml_meaning::{AmlCause, AmlError};
+use aml_namespace::Width;
 
 /// Which table a body stands in, and how wide its integers are.
 #[derive(Clone, Copy, Debug)]

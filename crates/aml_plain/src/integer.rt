@@ -1,9 +1,11 @@
 // Integers modulo 2 to the width.
 
 ghost use Rattle.std.specs.Prelude.{◌≡◌, ◌%◌, ◌^◌};
-ghost use Rattle.aml_meaning.specs.Meaning.{apply, bits_of};
+ghost use Rattle.aml_meaning.specs.Meaning.{apply};
+ghost use Rattle.aml_namespace.specs.Widths.{bits_of};
 
-use aml_meaning::{Arithmetic, Width};
+use aml_meaning::Arithmetic;
+use aml_namespace::Width;
 
 /// An integer, modulo 2 to the width.
 pub fn wrapped(width: Width, n: u64) -> u64

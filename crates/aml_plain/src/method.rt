@@ -9,8 +9,7 @@ ghost use Rattle.aml_namespace.specs.Objects.{method_at, IsBodyOf};
 ghost use Rattle.aml_plain.specs.Methods.{Evaluates};
 
 use crate::body::{Outcome, evaluate_body};
-use aml_meaning::NoMemory;
-use aml_namespace::{Namespace, ObjectId};
+use aml_namespace::{Namespace, NoMemory, ObjectId};
 use aml_tree::{Term, TreeFault};
 use std::alloc::Global;
 

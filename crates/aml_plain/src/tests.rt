@@ -3,7 +3,8 @@
 mod methods;
 
 use crate::{Outcome, evaluate_body};
-use aml_meaning::{AmlCause, AmlError, Width};
+use aml_meaning::{AmlCause, AmlError};
+use aml_namespace::Width;
 use aml_operators::{Op, Term};
 use std::alloc::{AllocError, Global};
 use std::test::Fail;

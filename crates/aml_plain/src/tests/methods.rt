@@ -5,8 +5,8 @@ ghost use Rattle.aml_namespace.specs.Load.{shown};
 
 use super::unset;
 use crate::{Outcome, evaluate_plain, evaluate_terms};
-use aml_meaning::{AmlCause, AmlError, NoMemory};
-use aml_namespace::{LoadFault, Namespace, ObjectId};
+use aml_meaning::{AmlCause, AmlError};
+use aml_namespace::{LoadFault, Namespace, NoMemory, ObjectId};
 use std::alloc::Global;
 use std::process::Abort;
 use std::test::Fail;
