@@ -1,30 +1,22 @@
--- With more steps a body goes just so.
-use Rattle.std.proofs.Common.{◌≡◌, ℕ, ◌+◌, List, Option, ap, subst}
+-- With more steps a method goes just so.
+use Rattle.std.proofs.Common.{ℕ, ◌+◌, List, subst}
 use Rattle.aml_operators.specs.Tree.{Trees}
-use Rattle.aml_meaning.specs.declared.error.AmlError.{AmlError}
-use Rattle.aml_meaning.specs.Event.{Event}
-use Rattle.aml_meaning.specs.State.{Value, State, with_steps, Error, Returned, Broke, Continued, Out, Goes, Halts, NoAnswer, Spent}
+use Rattle.aml_kinds.specs.Values.{Value}
+use Rattle.aml_regions.specs.Events.{Event}
+use Rattle.aml_meaning.specs.State.{State, with_steps}
 use Rattle.aml_meaning.specs.Parts.{Stays}
+use Rattle.aml_meaning.specs.Calls.{framed}
 use Rattle.aml_meaning.specs.Meaning.{Setting, mean_all}
-use Rattle.aml_meaning.specs.Whole.{begun, ended, evaluated}
+use Rattle.aml_meaning.specs.Whole.{evaluated, DoneIsStable, ErrorIsStable}
 
-ended_stays : (table k : ℕ) (o p : Out (Unit {0})) → Stays k o p → Stays k (ended table o) (ended table p)
-ended_stays table k (Goes v s) p h = ap (ended table) h
-ended_stays table k (Halts (Error e) s) p h = ap (ended table) h
-ended_stays table k (Halts (Returned v) s) p h = ap (ended table) h
-ended_stays table k (Halts (Broke at) s) p h = ap (ended table) h
-ended_stays table k (Halts (Continued at) s) p h = ap (ended table) h
-ended_stays table k (NoAnswer s) p h = ap (ended table) h
-ended_stays table k (Spent s) p h = tt
+-- whatever comes of a method with so many steps
+evaluated_stays : (here : Setting) (body : Trees) (values : List Value) (script : List Event) (s : State) (k : ℕ) → Stays k (evaluated here body values script s) (evaluated here body values script (with_steps s (s.steps + k)))
+evaluated_stays here body values script s k = (framed here.table values (mean_all here body)).stays script s k
 
--- whatever comes of a body with so many steps
-pub evaluated_stays : (setting : Setting) (body : Trees) (values : List Value) (script : List Event) (n k : ℕ) → Stays k (evaluated setting body values n script) (evaluated setting body values (n + k) script)
-evaluated_stays setting body values script n k =
-    let m = mean_all setting body in
-    ended_stays setting.table k (m.run script (begun values n)) (m.run script (begun values (n + k))) (m.stays script (begun values n) k)
+pub done_stays : DoneIsStable
+done_stays here body values script s more value last e =
+    subst (λ o. Stays more o (evaluated here body values script (with_steps s (s.steps + more)))) e (evaluated_stays here body values script s more)
 
-pub done_stays : (setting : Setting) (body : Trees) (values : List Value) (script : List Event) (n k : ℕ) (value : Option Value) (s : State) → evaluated setting body values n script ≡ Goes value s → evaluated setting body values (n + k) script ≡ Goes value (with_steps s (s.steps + k))
-done_stays setting body values script n k value s e = subst (λ o. Stays k o (evaluated setting body values (n + k) script)) e (evaluated_stays setting body values script n k)
-
-pub error_stays : (setting : Setting) (body : Trees) (values : List Value) (script : List Event) (n k : ℕ) (error : AmlError) (s : State) → evaluated setting body values n script ≡ Halts (Error error) s → evaluated setting body values (n + k) script ≡ Halts (Error error) (with_steps s (s.steps + k))
-error_stays setting body values script n k error s e = subst (λ o. Stays k o (evaluated setting body values (n + k) script)) e (evaluated_stays setting body values script n k)
+pub error_stays : ErrorIsStable
+error_stays here body values script s more error last e =
+    subst (λ o. Stays more o (evaluated here body values script (with_steps s (s.steps + more)))) e (evaluated_stays here body values script s more)

@@ -1,7 +1,8 @@
-pub mod Event
 pub mod State
 pub mod Parts
+pub mod Calls
+pub mod Rules
 pub mod Actions
 pub mod Meaning
-pub mod Whole
 pub mod Runs
+pub mod Whole

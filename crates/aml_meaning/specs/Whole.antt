@@ -1,40 +1,31 @@
--- What a method's body means, from its beginning to its end.
-use Rattle.std.specs.Prelude.{◌≡◌, ℕ, ◌+◌, List, [], Option, Some, None}
+-- What a method means, from its beginning to its end.
+use Rattle.std.specs.Prelude.{◌≡◌, ℕ, ◌+◌, List, [], Option}
 use Rattle.aml_operators.specs.Tree.{Trees}
-use Rattle.aml_meaning.specs.declared.error.AmlCause.TheVariants as cause
+use Rattle.aml_kinds.specs.Values.{Value}
+use Rattle.aml_regions.specs.Events.{Event}
 use Rattle.aml_meaning.specs.declared.error.AmlError.{AmlError}
-use Rattle.aml_meaning.specs.Event.{Event}
-use Rattle.aml_meaning.specs.State.{Value, State, with_steps, entered, Error, Returned, Broke, Continued, error, Out, Goes, Halts, NoAnswer, Spent}
+use Rattle.aml_meaning.specs.State.{State, with_steps, entered, Error, Out, Goes, Halts}
+use Rattle.aml_meaning.specs.Calls.{framed}
 use Rattle.aml_meaning.specs.Meaning.{Setting, mean_all}
 
--- a method's beginning, with its arguments and so many steps
-abbrev pub begun : List Value → ℕ → State
-begun values n = record { frame = entered values; steps = n; log = [] }
+-- before a method begins: the contents of names, so many steps, and the events so far
+abbrev pub before : List (Option Value) → ℕ → List Event → State
+before names n log = record { frame = entered []; names = names; steps = n; log = log }
 
--- how a body ends: a Return has the value, the end of the body none; a Break or Continue outside a loop is an error at its place
-abbrev pub ended : ℕ → Out (Unit {0}) → Out (Option Value)
-ended table (Goes v s) = Goes None s
-ended table (Halts (Error e) s) = Halts (Error e) s
-ended table (Halts (Returned v) s) = Goes (Some v) s
-ended table (Halts (Broke at) s) = Halts (error cause.Outside table at) s
-ended table (Halts (Continued at) s) = Halts (error cause.Outside table at) s
-ended table (NoAnswer s) = NoAnswer s
-ended table (Spent s) = Spent s
-
--- the evaluation of a body with its arguments, with at most so many steps, fed with a script of answers
-abbrev pub evaluated : Setting → Trees → List Value → ℕ → List Event → Out (Option Value)
-evaluated setting body values n script = ended setting.table ((mean_all setting body).run script (begun values n))
+-- a method's evaluation where its body stands, with its arguments, fed with a script of answers, from a state
+abbrev pub evaluated : Setting → Trees → List Value → List Event → State → Out (Option Value)
+evaluated here body values script s = (framed here.table values (mean_all here body)).run script s
 
 -- what is done with n steps is done with more, and they are left over
 abbrev pub DoneIsStable : Type 0
 DoneIsStable =
-    (setting : Setting) (body : Trees) (values : List Value) (script : List Event) (n more : ℕ) (value : Option Value) (s : State) →
-    evaluated setting body values n script ≡ Goes value s →
-    evaluated setting body values (n + more) script ≡ Goes value (with_steps s (s.steps + more))
+    (here : Setting) (body : Trees) (values : List Value) (script : List Event) (s : State) (more : ℕ) (value : Option Value) (last : State) →
+    evaluated here body values script s ≡ Goes value last →
+    evaluated here body values script (with_steps s (s.steps + more)) ≡ Goes value (with_steps last (last.steps + more))
 
 -- an error with n steps is the same error with more
 abbrev pub ErrorIsStable : Type 0
 ErrorIsStable =
-    (setting : Setting) (body : Trees) (values : List Value) (script : List Event) (n more : ℕ) (e : AmlError) (s : State) →
-    evaluated setting body values n script ≡ Halts (Error e) s →
-    evaluated setting body values (n + more) script ≡ Halts (Error e) (with_steps s (s.steps + more))
+    (here : Setting) (body : Trees) (values : List Value) (script : List Event) (s : State) (more : ℕ) (e : AmlError) (last : State) →
+    evaluated here body values script s ≡ Halts (Error e) last →
+    evaluated here body values script (with_steps s (s.steps + more)) ≡ Halts (Error e) (with_steps last (last.steps + more))

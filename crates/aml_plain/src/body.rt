@@ -1,12 +1,8 @@
 // A method's body, from its beginning to its end.
 
-ghost use Rattle.std.specs.Prelude.{map, List};
 ghost use Rattle.aml_operators.specs.Tree.{views};
-ghost use Rattle.aml_meaning.specs.Event.{Event};
 ghost use Rattle.aml_namespace.specs.Widths.{bits_of};
-ghost use Rattle.aml_meaning.specs.State.{Int};
-ghost use Rattle.aml_meaning.specs.Whole.{evaluated};
-ghost use Rattle.aml_plain.specs.Tells.{Tells};
+ghost use Rattle.aml_plain.specs.Tells.{EvaluatesBody};
 
 use crate::eval::eval_all;
 use crate::frame::Frame;
@@ -34,12 +30,13 @@ pub fn evaluate_body(
     arguments: &[u64],
     fuel: u64,
 ) -> Outcome
-    ensures { (script : List Event) → Tells result (evaluated (record { table = table; width = bits_of width }) (views body.now) (map Int arguments.now) fuel script) }
+    ensures { EvaluatesBody (record { table = table; width = bits_of width }) (views body.now)
+        arguments.now fuel result }
 {
-    let setting = Setting { table, width };
+    let here = Setting { table, width };
     let mut frame = Frame::new(arguments);
     let mut steps = fuel;
-    match eval_all(setting, body, &mut frame, &mut steps) {
+    match eval_all(here, body, &mut frame, &mut steps) {
         Ok(()) => Outcome::Done(None),
         Err(Halt::Returned(value)) => Outcome::Done(Some(value)),
         Err(Halt::Error(error)) => Outcome::AmlError(error),

@@ -35,29 +35,27 @@ pub fn three(parts: &[Term]) -> Option<(&Term, &Term, &Term)>
 }
 
 /// The number that stands beside an opcode.
-#[tactic(auto, using(aml_operators::proofs::Views::view_out, crate::proofs::Forms::no_number_of_many))]
+#[tactic(auto, using(aml_operators::proofs::Views::view_out))]
 fn number_beside(parts: &[Term]) -> Option<u64>
     ensures { result ≡ literal_of Constant.Number (views parts.now) }
 {
     match parts {
-        [part] => match part.op {
+        [part, ..] => match part.op {
             Op::Number(n) => Some(n),
             _ => None,
         },
-        _ => None,
+        [] => None,
     }
 }
 
 /// The number that a literal spells.
-#[tactic(auto, using(crate::proofs::Forms::no_number_with_parts))]
 pub fn literal_of(constant: Constant, parts: &[Term]) -> Option<u64>
     ensures { result ≡ literal_of constant (views parts.now) }
 {
-    match (constant, parts) {
-        (Constant::Zero, []) => Some(0),
-        (Constant::One, []) => Some(1),
-        (Constant::Ones, []) => Some(u64::MAX),
-        (Constant::Number, _) => number_beside(parts),
-        _ => None,
+    match constant {
+        Constant::Zero => Some(0),
+        Constant::One => Some(1),
+        Constant::Ones => Some(u64::MAX),
+        Constant::Number => number_beside(parts),
     }
 }

@@ -1,12 +1,13 @@
 // What a running method has of its own.
 
 ghost use Rattle.std.specs.Prelude.{◌≡◌, map, slice_get, slice_set, Some};
-ghost use Rattle.aml_meaning.specs.State.{Int, entered};
+ghost use Rattle.aml_kinds.specs.Values.{Int};
+ghost use Rattle.aml_meaning.specs.State.{entered};
 ghost use Rattle.aml_meaning.specs.Runs.{content};
-ghost use Rattle.aml_plain.specs.Tells.{frame_of, slot_of, told};
+ghost use Rattle.aml_plain.specs.Tells.{frame_of, value_of, told};
 
-use crate::halt::{Halt, Setting};
-use aml_meaning::{AmlCause, AmlError};
+use crate::halt::{Halt, Setting, fails};
+use aml_meaning::AmlCause;
 
 /// Locals and arguments, unset or with a value.
 #[derive(Debug, Drop)]
@@ -36,22 +37,18 @@ impl Frame {
 }
 
 /// What a local or an argument holds. A1 at the term's place where it is unset.
-pub fn held(setting: Setting, at: usize, slots: &[Option<u64>], k: u8) -> Result<u64, Halt>
-    ensures { told result ≡ content setting.table at (slice_get (map slot_of slots.now) k) }
+pub fn held(here: Setting, at: usize, slots: &[Option<u64>], k: u8) -> Result<u64, Halt>
+    ensures { told Int result ≡ content here.table at (slice_get (map value_of slots.now) k) }
 {
     match slots.get(usize::from(k)) {
         Some(Some(value)) => Ok(*value),
-        _ => Err(Halt::Error(AmlError {
-            table: setting.table,
-            at,
-            cause: AmlCause::Unset,
-        })),
+        _ => Err(fails(AmlCause::Unset, here, at)),
     }
 }
 
 /// Puts a value into a local or an argument.
 pub fn hold(slots: &mut [Option<u64>], k: u8, value: u64)
-    ensures { map slot_of slots.new ≡ slice_set (map slot_of slots.old) k (Some (Int value)) }
+    ensures { map value_of slots.new ≡ slice_set (map value_of slots.old) k (Some (Int value)) }
 {
     let place = usize::from(k);
     if place < slots.len() {

@@ -1,8 +1,9 @@
-// Why an evaluation ends before its end.
+// Where a body stands, and why an evaluation ends before its end.
 
-ghost use Rattle.std.specs.Prelude.{◌≡◌, suc, OnOk};
+ghost use Rattle.std.specs.Prelude.{◌≡◌, suc, OnOk, List, Option};
+ghost use Rattle.aml_kinds.specs.Values.{Value};
+ghost use Rattle.aml_regions.specs.Events.{Event};
 ghost use Rattle.aml_meaning.specs.declared.error.AmlCause.TheVariants as cause;
-ghost use Rattle.aml_meaning.specs.Event.{Event};
 ghost use Rattle.aml_meaning.specs.Parts.{tick};
 ghost use Rattle.aml_meaning.specs.Runs.{By, Runs, state};
 ghost use Rattle.aml_meaning.specs.State.{error};
@@ -26,20 +27,22 @@ pub enum Halt {
     Returned(u64),
 }
 
-/// An operator outside the profile, at its place.
-pub fn outside(setting: Setting, at: usize) -> Halt
-    ensures { halted result ≡ By (error cause.Outside setting.table at) }
+/// An error at a place of the body's table.
+pub fn fails(cause: AmlCause, here: Setting, at: usize) -> Halt
+    ensures { halted result ≡ By (error cause here.table at) }
 {
     Halt::Error(AmlError {
-        table: setting.table,
+        table: here.table,
         at,
-        cause: AmlCause::Outside,
+        cause,
     })
 }
 
 /// Takes a step, where one is left.
 pub fn take_step(steps: &mut u64) -> Result<(), Halt>
-    ensures means { (frame : _) (log : _) → Runs (went result) tick (state frame steps.old log) (state frame steps.new log) }
+    ensures means { (frame : _) (names : List (Option Value)) (log : List Event) →
+        Runs (went result) tick (state frame names steps.old log)
+        (state frame names steps.new log) }
     ensures takes { OnOk result (steps.old ≡ suc steps.new) }
 {
     if *steps == 0 {

@@ -1,7 +1,7 @@
 // Integers modulo 2 to the width.
 
 ghost use Rattle.std.specs.Prelude.{◌≡◌, ◌%◌, ◌^◌};
-ghost use Rattle.aml_meaning.specs.Meaning.{apply};
+ghost use Rattle.aml_meaning.specs.Rules.{apply};
 ghost use Rattle.aml_namespace.specs.Widths.{bits_of};
 
 use aml_meaning::Arithmetic;
@@ -18,7 +18,7 @@ pub fn wrapped(width: Width, n: u64) -> u64
 }
 
 /// Two integers joined, modulo 2 to the width.
-pub fn combine(width: Width, arithmetic: Arithmetic, x: u64, y: u64) -> u64
+pub fn combined(width: Width, arithmetic: Arithmetic, x: u64, y: u64) -> u64
     ensures { result ≡ apply arithmetic x y % 2 ^ bits_of width }
 {
     let joined = match arithmetic {

@@ -1,7 +1,6 @@
 // A method's evaluation, from the bytes of its table.
 
 ghost use Rattle.std.specs.Prelude.{◌≡◌, ◌<◌, List, Some, IfOk, length};
-ghost use Rattle.aml_meaning.specs.Event.{Event};
 ghost use Rattle.aml_operators.specs.Tree.{Tree, trees, views};
 ghost use Rattle.aml_namespace.specs.declared.method.Method.{Method};
 ghost use Rattle.aml_namespace.specs.Load.{shown};

@@ -6,17 +6,17 @@ use Rattle.aml_plain.proofs.Statements.{views_at}
 use Rattle.aml_plain.proofs.eval.eval_all.Goals as goal
 
 pub returns : goal.returns
-returns c =
+returns c = λ names log.
     let over : drop c.loop-statement.statement-index c.args.statements.now ≡ [] = drop_of_length-le c.args.statements.now c.loop-statement-test.false in
-    c.loop-statement.invariant _ _ (rw over (runs_give _ _))
+    c.loop-statement.invariant names log _ _ (rw over (runs_give _ _))
 
 pub returns-in_err-eval : goal.returns-in_err-eval
-returns-in_err-eval c =
+returns-in_err-eval c = λ names log.
     let p = err_from_is_err_and c.from_residual.result c.from_residual.ensures.1 in
     let e = views_at c.args.statements.now c.loop-statement.statement-index c.statement-item.result c.loop-statement-test.true c.statement-item.is in
-    rw (p.1, p.2) (c.loop-statement.invariant _ _ (rw e (runs_stop _ c.in_err-eval.ensures.means)))
+    rw (p.1, p.2) (c.loop-statement.invariant names log _ _ (rw e (runs_stop _ (c.in_err-eval.ensures.means names log))))
 
 pub loop-statement-preserved : goal.loop-statement-preserved
 loop-statement-preserved c =
     let e = views_at c.args.statements.now c.loop-statement.statement-index c.statement-item.result c.loop-statement-test.true c.statement-item.is in
-    λ r last rest. c.loop-statement.invariant r last (rw e (runs_then _ c.in_ok-eval.ensures.means rest))
+    λ names log r last rest. c.loop-statement.invariant names log r last (rw e (runs_then _ (c.in_ok-eval.ensures.means names log) rest))

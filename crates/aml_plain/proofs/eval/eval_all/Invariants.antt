@@ -1,4 +1,6 @@
-use Rattle.std.proofs.Common.{drop, Result}
+use Rattle.std.proofs.Common.{drop, List, Option, Result}
+use Rattle.aml_kinds.specs.Values.{Value}
+use Rattle.aml_regions.specs.Events.{Event}
 use Rattle.aml_operators.specs.Tree.{views}
 use Rattle.aml_meaning.specs.State.{State}
 use Rattle.aml_meaning.specs.Meaning.{mean_all}
@@ -9,6 +11,6 @@ use Rattle.aml_plain.proofs.eval.eval_all.Given as goal
 -- what the rest gives, all give
 abbrev pub invariant-loop-statement : goal.invariant-loop-statement
 invariant-loop-statement l =
-    (r : Result (Unit {0}) Halt) (last : State) →
-    Runs r (mean_all (setting_of l.setting) (views (drop l.statement-index l.statements))) (now l.frame l.steps) last →
-    Runs r (mean_all (setting_of l.setting) (views l.statements)) (now l.fn.frame l.fn.steps) last
+    (names : List (Option Value)) (log : List Event) (r : Result (Unit {0}) Halt) (last : State) →
+    Runs r (mean_all (setting_of l.here) (views (drop l.statement-index l.statements))) (now l.frame names l.steps log) last →
+    Runs r (mean_all (setting_of l.here) (views l.statements)) (now l.fn.frame names l.fn.steps log) last

@@ -1,11 +1,6 @@
 -- What others see of an evaluation.
 use Rattle.std.specs.Prelude.{◌≡◌, ℕ, ◌<◌, ◌^◌, List, Some, slice_get}
-
--- one access of one unit: its address space (ACPI 6.5, 5.5.2.4), its address there, its width in bits
-pub record Access : Type 0 where
-  pub space : ℕ
-  pub address : ℕ
-  pub width : ℕ
+use Rattle.aml_regions.specs.declared.access.Access.{Access}
 
 -- a read with what was answered, a write, a Notify of an object, a Sleep, a Stall
 pub data Event : Type 0 where
