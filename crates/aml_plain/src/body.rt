@@ -1,8 +1,9 @@
 // A method's body, from its beginning to its end.
 
+ghost use Rattle.std.specs.Prelude.{◌≡◌};
 ghost use Rattle.aml_operators.specs.Tree.{views};
 ghost use Rattle.aml_namespace.specs.Widths.{bits_of};
-ghost use Rattle.aml_plain.specs.Tells.{EvaluatesBody};
+ghost use Rattle.aml_plain.specs.Tells.{EvaluatesBody, outcome_of};
 
 use crate::eval::eval_all;
 use crate::frame::Frame;
@@ -36,7 +37,14 @@ pub fn evaluate_body(
     let here = Setting { table, width };
     let mut frame = Frame::new(arguments);
     let mut steps = fuel;
-    match eval_all(here, body, &mut frame, &mut steps) {
+    outcome_of(eval_all(here, body, &mut frame, &mut steps))
+}
+
+/// How a method ends whose statements ended so.
+fn outcome_of(ended: Result<(), Halt>) -> Outcome
+    ensures { result ≡ outcome_of ended }
+{
+    match ended {
         Ok(()) => Outcome::Done(None),
         Err(Halt::Returned(value)) => Outcome::Done(Some(value)),
         Err(Halt::Error(error)) => Outcome::AmlError(error),
