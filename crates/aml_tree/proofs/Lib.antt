@@ -8,3 +8,5 @@ pub mod Turns
 pub mod Full
 pub mod Bodies
 pub mod Faults
+pub mod Names
+pub mod Shaped
