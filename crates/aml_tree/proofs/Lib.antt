@@ -10,3 +10,4 @@ pub mod Bodies
 pub mod Faults
 pub mod Names
 pub mod Shaped
+pub mod Made
