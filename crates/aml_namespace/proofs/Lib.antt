@@ -2,3 +2,4 @@ pub mod Names
 pub mod Definitions
 pub mod Spans
 pub mod Places
+pub mod Numbered

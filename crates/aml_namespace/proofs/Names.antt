@@ -1,5 +1,5 @@
 -- Names past the end of the bytes.
-use Rattle.std.proofs.Common.{◌≡◌, ℕ, ◌<◌, List, length, Option, None, Result, Ok, Err, refl, sym, arith}
+use Rattle.std.proofs.Common.{◌≡◌, ℕ, ◌<◌, List, length, None, Result, Ok, Err, refl, sym, arith}
 use Rattle.aml_lex.specs.NameStrings.{NameString}
 use Rattle.aml_lex.specs.Reading.{name_string_at}
 use Rattle.aml_lex.specs.declared.fault.LexFault.{LexFault}

@@ -1,24 +1,21 @@
 -- The faults of a load stand within the table.
-use Rattle.std.proofs.Common.{◌≡◌, ℕ, zero, suc, ◌+◌, ◌-◌, ◌≤◌, ◌<◌, ◌⊎◌, inl, inr, List, [], ◌∷◌, ◌++◌, take, length, Option, Some, None, Result, Ok, Err, Bool, true, false, refl, sym, ap, ◌∙◌, subst, arith}
+use Rattle.std.proofs.Common.{◌≡◌, ℕ, ◌≤◌, ◌⊎◌, inl, inr, List, [], ◌∷◌, ◌++◌, length, Option, Some, None, Result, Ok, Err, Bool, true, false, refl, sym, ap, subst, arith}
 use Rattle.std.specs.Prelude.{cond, nat_lt, nat_eq, not, sum, ◌==◌, ◌%◌}
 use Rattle.std.specs.List.{starts_with}
 use Rattle.std.proofs.lemmas.Bool.{ltb-false}
-use Rattle.std.proofs.lemmas.List.{length-take-le}
 use Rattle.aml_operators.specs.declared.op.Op.{Op}
 use Rattle.aml_operators.specs.declared.op.Op.TheVariants as op
 use Rattle.aml_operators.specs.declared.row.Code.TheVariants as code
 use Rattle.aml_operators.specs.declared.row.Spot.TheVariants as spot
-use Rattle.aml_operators.specs.declared.row.Piece.TheVariants as piece
 use Rattle.aml_operators.specs.Tree.{Tree, Trees, Node, none, more, trees, stop_of}
 use Rattle.aml_operators.specs.Table.{letters_of}
-use Rattle.aml_lex.specs.declared.names.NameSeg.{NameSeg}
 use Rattle.aml_tree.specs.Opening.{Opening, NoTarget, PlainName, InvokedName, Operator}
 use Rattle.aml_tree.specs.Begins.{Begins}
 use Rattle.aml_tree.specs.Grammar.{Meets, Follows, IsTerm, AreTerms}
 use Rattle.aml_tree.specs.Body.{greatest_depth, no_arguments, module_start, IsModule}
 use Rattle.aml_tree.proofs.Combining.{of_ok}
 use Rattle.aml_tree.proofs.Leaves.{end_in}
-use Rattle.aml_tree.proofs.Bounds.{piece_in, term_in}
+use Rattle.aml_tree.proofs.Bounds.{term_in}
 use Rattle.aml_tree.proofs.Beginnings.{begins_in}
 use Rattle.aml_tree.proofs.Faults.{module_fault}
 use Rattle.acpi_tables.specs.declared.fault.TableCause.TheVariants.{Short, BadLength, BadSum, BadSignature}
@@ -28,34 +25,40 @@ use Rattle.acpi_tables.specs.Fault.{check, first_fault}
 use Rattle.aml_namespace.specs.declared.fault.LoadCause.TheVariants.{Duplicate}
 use Rattle.aml_namespace.specs.declared.fault.LoadRefusal.{LoadRefusal}
 use Rattle.aml_namespace.specs.declared.method.Method.{Method}
-use Rattle.aml_namespace.specs.Fault.{◌>>=◌, refusal}
+use Rattle.aml_namespace.specs.Fault.{◌>>=◌, load_refusal}
 use Rattle.aml_namespace.specs.Load.{dsdt_signature, FaultyLoad}
-use Rattle.aml_namespace.specs.Define.{Entries, Definition, at_of, number_of, root_segment_at, method_with, named, method_from, method_in, definition_in, definition_of, is_defined, add, defined_from}
+use Rattle.aml_namespace.specs.Entries.{Entries}
+use Rattle.aml_namespace.specs.Laws.{StandsWithin, FaultsWithin}
+use Rattle.aml_namespace.specs.Define.{Definition, at_of, flags_of, root_segment_at, method_with, definition_under, method_from, method_in, definition_of, is_defined, add, define_one, defined_from}
+
+-- a fault of the first table, of so many bytes
+abbrev StandsAt : ℕ → LoadRefusal → Type 0
+StandsAt end f = (f.table ≡ 0) × (f.at ≤ end)
 
 -- an answer's places: of a definition that of its name, of a refusal its own
 abbrev Placed : ℕ → Result Definition LoadRefusal → Type 0
 Placed end (Ok d) = d.1 ≤ end
-Placed end (Err f) = f.at ≤ end
+Placed end (Err f) = StandsAt end f
 
 -- where a Method term's name stands
 abbrev NameWithin : ℕ → Trees → Type 0
 NameWithin end none = Unit {0}
 NameWithin end (more name rest) = at_of name ≤ end
 
-named_placed : (end : ℕ) (o : Option (List ℕ)) (name_at : ℕ) (m : Method) → name_at ≤ end → Placed end (named o name_at m)
-named_placed end None name_at m le = le
+named_placed : (end : ℕ) (o : Option (List ℕ)) (name_at : ℕ) (m : Method) → name_at ≤ end → Placed end (definition_under o name_at m)
+named_placed end None name_at m le = (refl, le)
 named_placed end (Some b) name_at m le = le
 
 from_placed : (bytes : List ℕ) (end at : ℕ) (name body : Tree) (o : Option ℕ) → at ≤ end → at_of name ≤ end → Placed end (method_from bytes at name body o)
-from_placed bytes end at name body None le n = le
+from_placed bytes end at name body None le n = (refl, le)
 from_placed bytes end at name body (Some flags) le n = named_placed end (root_segment_at bytes (at_of name)) (at_of name) (method_with flags at (at_of body) (stop_of body)) n
 
 method_placed : (bytes : List ℕ) (end at : ℕ) (parts : Trees) → at ≤ end → NameWithin end parts → Placed end (method_in bytes at parts)
-method_placed bytes end at none le n = le
-method_placed bytes end at (more a none) le n = le
-method_placed bytes end at (more a (more b none)) le n = le
-method_placed bytes end at (more a (more b (more c none))) le n = from_placed bytes end at a c (number_of b) le n
-method_placed bytes end at (more a (more b (more c (more d ts)))) le n = le
+method_placed bytes end at none le n = (refl, le)
+method_placed bytes end at (more a none) le n = (refl, le)
+method_placed bytes end at (more a (more b none)) le n = (refl, le)
+method_placed bytes end at (more a (more b (more c none))) le n = from_placed bytes end at a c (flags_of b) le n
+method_placed bytes end at (more a (more b (more c (more d ts)))) le n = (refl, le)
 
 name_within : (bytes : List ℕ) (next stop : ℕ) (parts : List Tree) (d own : ℕ) → next ≤ length bytes → Meets no_arguments (IsTerm code.Module no_arguments d) (letters_of op.Method) own bytes next stop parts → NameWithin (length bytes) (trees parts)
 name_within bytes next stop parts d own le h =
@@ -86,7 +89,7 @@ IsDefinition bytes from t = IsTerm code.Module no_arguments greatest_depth modul
 
 by_op : (bytes : List ℕ) (from : ℕ) (t : Tree) → at_of t ≤ length bytes → IsDefinition bytes from t → Placed (length bytes) (definition_of bytes t)
 by_op bytes from (Node op.Method at stop parts) le h = method_placed bytes (length bytes) at parts le (name_follows h.0 bytes from at stop parts 63 h.1 h.2)
-by_op bytes from (Node o at stop parts) le h = le
+by_op bytes from (Node o at stop parts) le h = (refl, le)
 
 definition_placed : (bytes : List ℕ) (from : ℕ) (t : Tree) → IsDefinition bytes from t → Placed (length bytes) (definition_of bytes t)
 definition_placed bytes from t h =
@@ -94,39 +97,38 @@ definition_placed bytes from t h =
     let e = begins_at h.0 bytes from t 63 h.2 in
     by_op bytes from t (omega (arith, e, w)) h
 
-added_placed : (end : ℕ) (b : Bool) (es : Entries) (d : Definition) (f : LoadRefusal) → d.1 ≤ end → cond b (Err (refusal Duplicate d.1)) (Ok (es ++ (d.0, d.2) ∷ [])) ≡ Err f → f.at ≤ end
-added_placed end true es d f le e = let same : refusal Duplicate d.1 ≡ f = cc in subst (λ (y : LoadRefusal). y.at ≤ end) same le
+added_placed : (end : ℕ) (b : Bool) (es : Entries) (d : Definition) (f : LoadRefusal) → d.1 ≤ end → cond b (Err (load_refusal Duplicate d.1)) (Ok (es ++ (d.0, d.2) ∷ [])) ≡ Err f → StandsAt end f
+added_placed end true es d f le e = let same : load_refusal Duplicate d.1 ≡ f = cc in subst (λ (y : LoadRefusal). StandsAt end y) same (refl, le)
 added_placed end false es d f le e = absurd cc
 
 bind_err : {X Y : Type 0} (r : Result X LoadRefusal) (k : X → Result Y LoadRefusal) (f : LoadRefusal) → (r >>= k) ≡ Err f → (r ≡ Err f) ⊎ ((x : X) × (r ≡ Ok x) × (k x ≡ Err f))
 bind_err (Ok x) k f e = inr (x, refl, e)
 bind_err (Err g) k f e = let same : g ≡ f = cc in inl (ap Err same)
 
-placed_err : (end : ℕ) (r : Result Definition LoadRefusal) (f : LoadRefusal) → Placed end r → r ≡ Err f → f.at ≤ end
+placed_err : (end : ℕ) (r : Result Definition LoadRefusal) (f : LoadRefusal) → Placed end r → r ≡ Err f → StandsAt end f
 placed_err end (Ok d) f p e = absurd cc
-placed_err end (Err g) f p e = let same : g ≡ f = cc in subst (λ (y : LoadRefusal). y.at ≤ end) same p
+placed_err end (Err g) f p e = let same : g ≡ f = cc in subst (λ (y : LoadRefusal). StandsAt end y) same p
 
 placed_ok : (end : ℕ) (r : Result Definition LoadRefusal) (d : Definition) → Placed end r → r ≡ Ok d → d.1 ≤ end
 placed_ok end (Ok c) d p e = let same : c ≡ d = cc in subst (λ (y : Definition). y.1 ≤ end) same p
 placed_ok end (Err g) d p e = absurd cc
 
-behind_placed : (bytes : List ℕ) (es : Entries) (t : Tree) (ts : List Tree) (f : LoadRefusal) (d : Definition) → Placed (length bytes) (definition_of bytes t) → definition_of bytes t ≡ Ok d → ((m : Entries) → defined_from bytes m ts ≡ Err f → f.at ≤ length bytes)
-    → (add es d ≡ Err f) ⊎ ((m : Entries) × (add es d ≡ Ok m) × (defined_from bytes m ts ≡ Err f)) → f.at ≤ length bytes
-behind_placed bytes es t ts f d placed is later (inl h) = added_placed (length bytes) (is_defined d.0 es) es d f (placed_ok (length bytes) (definition_of bytes t) d placed is) h
-behind_placed bytes es t ts f d placed is later (inr h) = later h.0 h.2
+one_placed : (bytes : List ℕ) (es : Entries) (t : Tree) (f : LoadRefusal) → Placed (length bytes) (definition_of bytes t) → (definition_of bytes t ≡ Err f) ⊎ ((d : Definition) × (definition_of bytes t ≡ Ok d) × (add es d ≡ Err f)) → StandsAt (length bytes) f
+one_placed bytes es t f placed (inl h) = placed_err (length bytes) (definition_of bytes t) f placed h
+one_placed bytes es t f placed (inr h) = added_placed (length bytes) (is_defined h.0.0 es) es h.0 f (placed_ok (length bytes) (definition_of bytes t) h.0 placed h.1) h.2
 
-step_placed : (bytes : List ℕ) (es : Entries) (t : Tree) (ts : List Tree) (f : LoadRefusal) → Placed (length bytes) (definition_of bytes t) → ((m : Entries) → defined_from bytes m ts ≡ Err f → f.at ≤ length bytes)
-    → (definition_of bytes t ≡ Err f) ⊎ ((d : Definition) × (definition_of bytes t ≡ Ok d) × ((add es d >>= λ m. defined_from bytes m ts) ≡ Err f)) → f.at ≤ length bytes
-step_placed bytes es t ts f placed later (inl h) = placed_err (length bytes) (definition_of bytes t) f placed h
-step_placed bytes es t ts f placed later (inr h) = behind_placed bytes es t ts f h.0 placed h.1 later (bind_err (add es h.0) _ f h.2)
+step_placed : (bytes : List ℕ) (es : Entries) (t : Tree) (ts : List Tree) (f : LoadRefusal) → Placed (length bytes) (definition_of bytes t) → ((m : Entries) → defined_from bytes m ts ≡ Err f → StandsAt (length bytes) f)
+    → (define_one bytes es t ≡ Err f) ⊎ ((m : Entries) × (define_one bytes es t ≡ Ok m) × (defined_from bytes m ts ≡ Err f)) → StandsAt (length bytes) f
+step_placed bytes es t ts f placed later (inl h) = one_placed bytes es t f placed (bind_err (definition_of bytes t) _ f h)
+step_placed bytes es t ts f placed later (inr h) = later h.0 h.2
 
-all_placed : (bytes : List ℕ) (from stop : ℕ) (es : Entries) (ts : List Tree) (f : LoadRefusal) → AreTerms no_arguments (IsTerm code.Module no_arguments greatest_depth) module_start spot.Statement bytes from stop ts → defined_from bytes es ts ≡ Err f → f.at ≤ length bytes
+all_placed : (bytes : List ℕ) (from stop : ℕ) (es : Entries) (ts : List Tree) (f : LoadRefusal) → AreTerms no_arguments (IsTerm code.Module no_arguments greatest_depth) module_start spot.Statement bytes from stop ts → defined_from bytes es ts ≡ Err f → StandsAt (length bytes) f
 all_placed bytes from stop es [] f a e = absurd cc
 all_placed bytes from stop es (t ∷ ts) f a e =
-    step_placed bytes es t ts f (definition_placed bytes from t a.0) (λ m h. all_placed bytes (stop_of t) stop m ts f a.1 h) (bind_err (definition_of bytes t) _ f e)
+    step_placed bytes es t ts f (definition_placed bytes from t a.0) (λ m h. all_placed bytes (stop_of t) stop m ts f a.1 h) (bind_err (define_one bytes es t) _ f e)
 
 -- where a module's definitions are refused
-pub module_placed : (bytes : List ℕ) (ts : List Tree) (f : LoadRefusal) → IsModule bytes ts → defined_from bytes [] ts ≡ Err f → f.at ≤ length bytes
+pub module_placed : (bytes : List ℕ) (ts : List Tree) (f : LoadRefusal) → IsModule bytes ts → defined_from bytes [] ts ≡ Err f → StandsAt (length bytes) f
 module_placed bytes ts f a e = all_placed bytes module_start (length bytes) [] ts f a.1 e
 
 -- where a table is refused
@@ -137,9 +139,18 @@ table_placed false false true e n f long is = let same : record { cause = BadSum
 table_placed false false false true n f long is = let same : record { cause = BadSignature; at = 0 } ≡ f = cc in subst (λ (y : TableFault). y.at ≤ n) same (omega arith)
 table_placed false false false false n f long is = absurd cc
 
-pub load_placed : (bytes : List ℕ) (f : LoadRefusal) → FaultyLoad bytes f → f.at ≤ length bytes
+load_placed : (bytes : List ℕ) (f : LoadRefusal) → FaultyLoad bytes f → StandsAt (length bytes) f
 load_placed bytes f (inl h) =
     let w = table_placed (nat_lt (length bytes) 36) (not (number_at 4 4 bytes == length bytes)) (not (sum bytes % 256 == 0)) (not (starts_with nat_eq bytes dsdt_signature)) (length bytes) h.0 (λ e. ltb-false _ _ e) h.1 in
-    subst (λ (y : LoadRefusal). y.at ≤ length bytes) (sym h.2) w
-load_placed bytes f (inr (inl h)) = let w = module_fault bytes h.1.0 h.1.1 in subst (λ (y : LoadRefusal). y.at ≤ length bytes) (sym h.1.2) w
+    subst (λ (y : LoadRefusal). StandsAt (length bytes) y) (sym h.2) (refl, w)
+load_placed bytes f (inr (inl h)) = let w = module_fault bytes h.1.0 h.1.1 in subst (λ (y : LoadRefusal). StandsAt (length bytes) y) (sym h.1.2) (refl, w)
 load_placed bytes f (inr (inr h)) = module_placed bytes h.1.0 f h.1.1 h.1.2
+
+stands_within : (bytes : List ℕ) (f : LoadRefusal) → StandsAt (length bytes) f → StandsWithin (bytes ∷ []) f
+stands_within bytes f h = record {
+  table = omega (arith, h.0);
+  place = rw h.0 h.1;
+}
+
+pub faults_within : FaultsWithin
+faults_within bytes f h = stands_within bytes f (load_placed bytes f h)

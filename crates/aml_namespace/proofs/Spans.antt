@@ -1,8 +1,7 @@
 -- The body of each method that is defined lies within its table.
-use Rattle.std.proofs.Common.{◌≡◌, ℕ, zero, suc, ◌+◌, ◌-◌, ◌≤◌, ◌<◌, List, [], ◌∷◌, ◌++◌, take, length, Option, Some, None, Result, Ok, Err, Bool, true, false, refl, sym, ap, ◌∙◌, subst, arith}
+use Rattle.std.proofs.Common.{◌≡◌, ℕ, zero, suc, ◌≤◌, List, [], ◌∷◌, ◌++◌, take, length, Option, Some, None, Result, Ok, Err, Bool, true, false, refl, sym, ap, ◌∙◌, subst, arith}
 use Rattle.std.specs.Prelude.{slice_get, cond}
 use Rattle.std.proofs.lemmas.List.{length-take-le}
-use Rattle.std.proofs.lemmas.Option.{slice_get_within}
 use Rattle.aml_operators.specs.declared.op.Op.{Op}
 use Rattle.aml_operators.specs.declared.op.Op.TheVariants as op
 use Rattle.aml_operators.specs.declared.row.Code.TheVariants as code
@@ -22,9 +21,11 @@ use Rattle.aml_tree.proofs.Bounds.{piece_in, term_in}
 use Rattle.aml_tree.proofs.Beginnings.{begins_in}
 use Rattle.aml_namespace.specs.declared.fault.LoadCause.TheVariants.{Duplicate}
 use Rattle.aml_namespace.specs.declared.fault.LoadRefusal.{LoadRefusal}
-use Rattle.aml_namespace.specs.Fault.{◌>>=◌, refusal}
+use Rattle.aml_namespace.specs.Fault.{◌>>=◌, load_refusal}
 use Rattle.aml_namespace.specs.declared.method.Method.{Method}
-use Rattle.aml_namespace.specs.Define.{Entries, Definition, at_of, number_of, root_segment_at, method_with, named, method_from, method_in, definition_of, is_defined, add, defined_from}
+use Rattle.aml_namespace.specs.Entries.{Entries}
+use Rattle.aml_namespace.specs.Sound.{BodiesWithin}
+use Rattle.aml_namespace.specs.Define.{Definition, at_of, flags_of, root_segment_at, method_with, definition_under, method_from, method_in, definition_of, is_defined, define_one, defined_from}
 
 -- a span within so many bytes
 pub record IsSound (end : ℕ) (m : Method) : Type 0 where
@@ -59,7 +60,7 @@ method_follows (Operator o next) bytes from at stop parts d b h =
     (has_body bytes next h.0 h.1 d from fits.1 (subst (λ (x : Op). Meets no_arguments (IsTerm code.Module no_arguments d) (letters_of x) from bytes next h.0 h.1) same_op h.2))
 
 -- a method that is defined has its term's body
-named_sound : (end : ℕ) (o : Option (List ℕ)) (name_at : ℕ) (m : Method) (x : Definition) → IsSound end m → named o name_at m ≡ Ok x → IsSound end x.2
+named_sound : (end : ℕ) (o : Option (List ℕ)) (name_at : ℕ) (m : Method) (x : Definition) → IsSound end m → definition_under o name_at m ≡ Ok x → IsSound end x.2
 named_sound end None name_at m x h e = absurd cc
 named_sound end (Some b) name_at m x h e =
     let same : (record { bytes = b }, name_at, m) ≡ x = cc in
@@ -73,7 +74,7 @@ has_sound : (bytes : List ℕ) (at : ℕ) (parts : Trees) (x : Definition) → H
 has_sound bytes at none x h e = absurd h
 has_sound bytes at (more a none) x h e = absurd h
 has_sound bytes at (more a (more b none)) x h e = absurd h
-has_sound bytes at (more a (more b (more c none))) x h e = from_sound bytes at a c (number_of b) x h.0 h.1 e
+has_sound bytes at (more a (more b (more c none))) x h e = from_sound bytes at a c (flags_of b) x h.0 h.1 e
 has_sound bytes at (more a (more b (more c (more d ts)))) x h e = absurd h
 
 abbrev IsDefinition : List ℕ → ℕ → Tree → Type 0
@@ -84,7 +85,7 @@ definition_sound bytes from (Node op.Method at stop parts) x h e = has_sound byt
 definition_sound bytes from (Node o at stop parts) x h e = absurd cc
 
 -- each of these methods has its body within so many bytes
-abbrev pub AreSound : ℕ → Entries → Type 0
+abbrev AreSound : ℕ → Entries → Type 0
 AreSound end [] = Unit {0}
 AreSound end (e ∷ es) = IsSound end e.1 × AreSound end es
 
@@ -92,7 +93,7 @@ one_more : (end : ℕ) (es : Entries) (x : NameSeg × Method) → AreSound end e
 one_more end [] x h s = (s, tt)
 one_more end (e ∷ es) x h s = (h.0, one_more end es x h.1 s)
 
-pub sound_at : (end : ℕ) (es : Entries) (i : ℕ) (x : NameSeg × Method) → AreSound end es → slice_get es i ≡ Some x → IsSound end x.1
+sound_at : (end : ℕ) (es : Entries) (i : ℕ) (x : NameSeg × Method) → AreSound end es → slice_get es i ≡ Some x → IsSound end x.1
 sound_at end [] i x h e = absurd cc
 sound_at end (e ∷ es) zero x h is = let same : e ≡ x = cc in subst (λ (y : NameSeg × Method). IsSound end y.1) same h.0
 sound_at end (e ∷ es) (suc i) x h is = sound_at end es i x h.1 is
@@ -108,11 +109,16 @@ bind_ok (Err f) k y e = absurd cc
 all_sound : (bytes : List ℕ) (from stop : ℕ) (es : Entries) (ts : List Tree) (out : Entries) → AreTerms no_arguments (IsTerm code.Module no_arguments greatest_depth) module_start spot.Statement bytes from stop ts → AreSound (length bytes) es → defined_from bytes es ts ≡ Ok out → AreSound (length bytes) out
 all_sound bytes from stop es [] out a h e = let same : es ≡ out = cc in subst (λ (y : Entries). AreSound (length bytes) y) same h
 all_sound bytes from stop es (t ∷ ts) out a h e =
-    let d = bind_ok (definition_of bytes t) _ out e in
-    let m = bind_ok (add es d.0) _ out d.2 in
+    let m = bind_ok (define_one bytes es t) _ out e in
+    let d = bind_ok (definition_of bytes t) _ m.0 m.1 in
     let s = definition_sound bytes from t d.0 a.0 d.1 in
-    all_sound bytes (stop_of t) stop m.0 ts out a.1 (added (length bytes) (is_defined d.0.0 es) es d.0 m.0 (refusal Duplicate d.0.1) h s m.1) m.2
+    all_sound bytes (stop_of t) stop m.0 ts out a.1 (added (length bytes) (is_defined d.0.0 es) es d.0 m.0 (load_refusal Duplicate d.0.1) h s d.2) m.2
 
 -- what a module defines has its bodies within the table
-pub module_sound : (bytes : List ℕ) (ts : List Tree) (out : Entries) → IsModule bytes ts → defined_from bytes [] ts ≡ Ok out → AreSound (length bytes) out
+module_sound : (bytes : List ℕ) (ts : List Tree) (out : Entries) → IsModule bytes ts → defined_from bytes [] ts ≡ Ok out → AreSound (length bytes) out
 module_sound bytes ts out a e = all_sound bytes module_start (length bytes) [] ts out a.1 tt e
+
+pub module_bodies : (bytes : List ℕ) (ts : List Tree) (entries : Entries) → IsModule bytes ts → defined_from bytes [] ts ≡ Ok entries → BodiesWithin (length bytes) entries
+module_bodies bytes ts entries is_module defined i e is =
+    let s = sound_at (length bytes) entries i e (module_sound bytes ts entries is_module defined) is in
+    (s.ordered, s.within)

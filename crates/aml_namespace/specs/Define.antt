@@ -1,6 +1,5 @@
 -- What a module's definitions make, in the order of the bytes (ACPI 6.5, 5.3 and 19.6, Method).
-use Rattle.std.specs.Prelude.{◌≡◌, ℕ, ◌+◌, ◌%◌, ◌==◌, List, [], ◌∷◌, ◌++◌, Option, Some, None, Result, Ok, Err, if◌then◌else◌, Bool, is_some}
-use Rattle.std.specs.Map.{lookup}
+use Rattle.std.specs.Prelude.{ℕ, ◌%◌, ◌==◌, List, [], ◌∷◌, ◌++◌, Option, Some, None, Result, Ok, Err, if◌then◌else◌, Bool, is_some}
 use Rattle.aml_operators.specs.declared.op.Op.{Op}
 use Rattle.aml_operators.specs.declared.op.Op.TheVariants as op
 use Rattle.aml_operators.specs.Tree.{Tree, Trees, Node, none, more, stop_of}
@@ -10,15 +9,11 @@ use Rattle.aml_lex.specs.Reading.{name_string_at}
 use Rattle.aml_lex.specs.declared.fault.LexFault.{LexFault}
 use Rattle.aml_lex.specs.declared.names.NameSeg.{NameSeg}
 use Rattle.aml_tree.specs.declared.fault.TreeCause.TheVariants.{ModuleCode}
-use Rattle.aml_tree.specs.Body.{same_segment}
 use Rattle.aml_namespace.specs.declared.fault.LoadCause.TheVariants.{Tree as InTree, Duplicate, ScopeMissing}
 use Rattle.aml_namespace.specs.declared.fault.LoadRefusal.{LoadRefusal}
 use Rattle.aml_namespace.specs.declared.method.Method.{Method}
-use Rattle.aml_namespace.specs.Fault.{refusal, ◌>>=◌}
-
--- the objects at the root, each with its segment, in order of definition
-abbrev pub Entries : Type 0
-Entries = List (NameSeg × Method)
+use Rattle.aml_namespace.specs.Entries.{Entries, index_of}
+use Rattle.aml_namespace.specs.Fault.{load_refusal, ◌>>=◌}
 
 -- the segment of a name that is one segment, at the root or relative to it
 abbrev pub root_segment : NameString → Option (List ℕ)
@@ -39,29 +34,30 @@ Definition = NameSeg × ℕ × Method
 abbrev pub method_with : ℕ → ℕ → ℕ → ℕ → Method
 method_with flags at from to = record { args = flags % 8; table = 0; at = at; body = record { at = from; end = to } }
 
--- a name of any other form has no parent that is there
-abbrev pub named : Option (List ℕ) → ℕ → Method → Result Definition LoadRefusal
-named None name_at method = Err (refusal ScopeMissing name_at)
-named (Some bytes) name_at method = Ok (record { bytes = bytes }, name_at, method)
+-- a definition under the name at a place; a name of any other form has no parent that is there
+abbrev pub definition_under : Option (List ℕ) → ℕ → Method → Result Definition LoadRefusal
+definition_under None name_at method = Err (load_refusal ScopeMissing name_at)
+definition_under (Some bytes) name_at method = Ok (record { bytes = bytes }, name_at, method)
 
-abbrev pub number_of : Tree → Option ℕ
-number_of (Node (op.Number n) at stop parts) = Some n
-number_of t = None
+-- the flags that a part is
+abbrev pub flags_of : Tree → Option ℕ
+flags_of (Node (op.Number n) at stop parts) = Some n
+flags_of t = None
 
 abbrev pub at_of : Tree → ℕ
 at_of (Node o at stop parts) = at
 
 -- a term that defines nothing that is known yet may not stand in a module
 abbrev pub unknown : ℕ → Result Definition LoadRefusal
-unknown at = Err (refusal (InTree ModuleCode) at)
+unknown at = Err (load_refusal (InTree ModuleCode) at)
 
 -- a method from the parts of its term: its name, its body and its flags
 abbrev pub method_from : List ℕ → ℕ → Tree → Tree → Option ℕ → Result Definition LoadRefusal
 method_from bytes at name body None = unknown at
-method_from bytes at name body (Some flags) = named (root_segment_at bytes (at_of name)) (at_of name) (method_with flags at (at_of body) (stop_of body))
+method_from bytes at name body (Some flags) = definition_under (root_segment_at bytes (at_of name)) (at_of name) (method_with flags at (at_of body) (stop_of body))
 
 abbrev pub method_in : List ℕ → ℕ → Trees → Result Definition LoadRefusal
-method_in bytes at (more name (more flags (more body none))) = method_from bytes at name body (number_of flags)
+method_in bytes at (more name (more flags (more body none))) = method_from bytes at name body (flags_of flags)
 method_in bytes at parts = unknown at
 
 -- what a term defines
@@ -74,16 +70,21 @@ definition_of bytes (Node o at stop parts) = definition_in bytes o at parts
 
 -- whether a segment names an object that is there
 abbrev pub is_defined : NameSeg → Entries → Bool
-is_defined segment entries = is_some (lookup (same_segment segment) entries)
+is_defined segment entries = is_some (index_of entries segment)
 
 -- one more definition, whose path must be new
 abbrev pub add : Entries → Definition → Result Entries LoadRefusal
-add entries d = if is_defined d.0 entries then Err (refusal Duplicate d.1) else Ok (entries ++ (d.0, d.2) ∷ [])
+add entries d = if is_defined d.0 entries then Err (load_refusal Duplicate d.1) else Ok (entries ++ (d.0, d.2) ∷ [])
 
--- a module's definitions, behind those that are there
+-- the object that a term defines, behind those that are there
+abbrev pub define_one : List ℕ → Entries → Tree → Result Entries LoadRefusal
+define_one bytes entries t = do
+  d ← definition_of bytes t
+  add entries d
+
+-- the objects that a module's terms define, behind those that are there
 abbrev pub defined_from : List ℕ → Entries → List Tree → Result Entries LoadRefusal
 defined_from bytes entries [] = Ok entries
 defined_from bytes entries (t ∷ ts) = do
-  d ← definition_of bytes t
-  more_entries ← add entries d
+  more_entries ← define_one bytes entries t
   defined_from bytes more_entries ts

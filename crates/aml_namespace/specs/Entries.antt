@@ -1,23 +1,14 @@
--- The objects of the program's map.
-use Rattle.std.specs.Prelude.{◌≡◌, List, Result, Ok, Err}
-use Rattle.indexmap.specs.IndexMap.{IndexMap}
+-- The objects of a namespace: so far methods, all at the root (ACPI 6.5, 5.3).
+use Rattle.std.specs.Prelude.{ℕ, List, Option, position}
+use Rattle.std.specs.Map.{keys_of}
 use Rattle.aml_lex.specs.declared.names.NameSeg.{NameSeg}
-use Rattle.aml_namespace.specs.declared.fault.LoadFault.{LoadFault}
-use Rattle.aml_namespace.specs.declared.fault.LoadRefusal.{LoadRefusal}
+use Rattle.aml_tree.specs.Body.{same_segment}
 use Rattle.aml_namespace.specs.declared.method.Method.{Method}
-use Rattle.aml_namespace.specs.Define.{Entries, Definition}
-use Rattle.aml_namespace.specs.declared.define.Definition as program
-use Rattle.aml_namespace.specs.Fault.{Fails}
 
--- a definition of the program
-abbrev pub seen : program.Definition → Definition
-seen d = (d.segment, d.name_at, d.method)
+-- the objects, each with its segment, in order of definition
+abbrev pub Entries : Type 0
+Entries = List (NameSeg × Method)
 
--- a map's objects, in order of definition
-abbrev pub entries_of : {S : Type 0} → IndexMap NameSeg Method S → Entries
-entries_of methods = methods.entries
-
--- what a function left is what a definition makes, or its fault is the definition's, unless memory ran out
-abbrev pub Adds : {X : Type 0} → Result X LoadFault → Entries → Result Entries LoadRefusal → Type 0
-Adds (Ok x) left answer = answer ≡ Ok left
-Adds (Err fault) left answer = Fails fault answer
+-- the number of the first object with such a segment
+abbrev pub index_of : Entries → NameSeg → Option ℕ
+index_of entries segment = position (same_segment segment) (keys_of entries)

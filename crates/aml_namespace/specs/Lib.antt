@@ -1,8 +1,10 @@
 pub mod Fault
 pub mod Widths
-pub mod Define
-pub mod Sound
 pub mod Entries
+pub mod Define
+pub mod Index
+pub mod Sound
+pub mod Defines
 pub mod Load
 pub mod Names
 pub mod Objects

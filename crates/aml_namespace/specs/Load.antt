@@ -1,5 +1,5 @@
 -- What a loaded DSDT makes, or the first fault (ACPI 6.5, 5.2.11 and 5.3).
-use Rattle.std.specs.Prelude.{◌≡◌, ◌⊎◌, ◌<◌, ℕ, List, [], ◌∷◌, Option, Some, None, Result, Ok, Err}
+use Rattle.std.specs.Prelude.{◌≡◌, ◌⊎◌, ℕ, List, [], ◌∷◌, Some, Result, Ok, Err}
 use Rattle.acpi_tables.specs.Bytes.{number_at}
 use Rattle.acpi_tables.specs.Fault.{first_fault}
 use Rattle.acpi_tables.specs.Table.{IsTableOf, table_checks}
@@ -14,7 +14,9 @@ use Rattle.aml_namespace.specs.declared.namespace.Namespace.{Namespace}
 use Rattle.aml_namespace.specs.declared.width.Width.{Width}
 use Rattle.aml_namespace.specs.Widths.{width_by}
 use Rattle.aml_namespace.specs.Fault.{table_refusal, tree_refusal}
-use Rattle.aml_namespace.specs.Define.{Entries, defined_from}
+use Rattle.aml_namespace.specs.Entries.{Entries}
+use Rattle.aml_namespace.specs.Define.{defined_from}
+use Rattle.aml_namespace.specs.Defines.{entries_of}
 
 -- `DSDT`
 abbrev pub dsdt_signature : List ℕ
@@ -27,7 +29,7 @@ pub record Shown : Type 0 where
   pub entries : Entries
 
 abbrev pub shown : Namespace → Shown
-shown ns = record { table = ns.table.now; width = ns.width; entries = ns.methods.entries }
+shown ns = record { table = ns.table.now; width = ns.width; entries = entries_of ns.objects }
 
 -- a namespace holds just what the definitions of the table's module make
 abbrev pub IsLoaded : List ℕ → Shown → Type 0

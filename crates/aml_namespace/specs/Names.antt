@@ -1,11 +1,11 @@
 -- What a name in a method's body names: the methods are at the root (ACPI 6.5, 5.3).
-use Rattle.std.specs.Prelude.{ℕ, List, [], ◌∷◌, Option, Some, None, nat_le, if◌then◌else◌}
+use Rattle.std.specs.Prelude.{ℕ, List, Option, Some, None, nat_le, if◌then◌else◌}
 use Rattle.std.specs.Map.{lookup}
 use Rattle.aml_lex.specs.NameStrings.{NameString}
 use Rattle.aml_lex.specs.Names.{only_segment}
 use Rattle.aml_tree.specs.Body.{same_segment}
 use Rattle.aml_namespace.specs.declared.method.Method.{Method}
-use Rattle.aml_namespace.specs.Define.{Entries}
+use Rattle.aml_namespace.specs.Entries.{Entries}
 
 -- the object at the root with such a segment
 abbrev pub at_root : Entries → Option (List ℕ) → Option Method

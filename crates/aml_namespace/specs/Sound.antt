@@ -2,7 +2,7 @@
 use Rattle.std.specs.Prelude.{◌≡◌, ◌≤◌, ℕ, Some, slice_get}
 use Rattle.aml_lex.specs.declared.names.NameSeg.{NameSeg}
 use Rattle.aml_namespace.specs.declared.method.Method.{Method}
-use Rattle.aml_namespace.specs.Define.{Entries}
+use Rattle.aml_namespace.specs.Entries.{Entries}
 
 -- the body of each method lies within so many bytes
 abbrev pub BodiesWithin : ℕ → Entries → Type 0

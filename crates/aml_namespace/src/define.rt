@@ -3,15 +3,14 @@
 ghost use Rattle.std.specs.Prelude.{◌≡◌, [], map};
 ghost use Rattle.aml_operators.specs.Tree.{view, views};
 ghost use Rattle.aml_lex.specs.Names.{name_of, seg_bytes};
-ghost use Rattle.aml_namespace.specs.Fault.{Gives, refusal};
-ghost use Rattle.aml_namespace.specs.Define.{root_segment, root_segment_at, named, number_of, method_from, method_in, definition_of, add, defined_from};
-ghost use Rattle.aml_namespace.specs.Entries.{entries_of, seen, Adds};
+ghost use Rattle.aml_namespace.specs.Define.{root_segment, root_segment_at, definition_under, flags_of, method_from, method_in, definition_of, add, define_one, defined_from};
+ghost use Rattle.aml_namespace.specs.Defines.{Defines, AddsObject, definition_seen, entries_of};
 
-use crate::fault::{LoadCause, LoadFault, LoadRefusal};
+use crate::fault::{LoadCause, LoadFault, refuse};
 use crate::method::Method;
+use crate::objects::Objects;
 use aml_lex::{NameRef, NameSeg, name_string};
 use aml_tree::{Op, Span, Term, TreeCause};
-use indexmap::IndexMap;
 use std::alloc::Global;
 
 /// What a Method term defines.
@@ -21,17 +20,6 @@ struct Definition {
     /// The place of the name.
     name_at: usize,
     method: Method,
-}
-
-/// A refusal in the first table.
-pub(crate) fn refuse(cause: LoadCause, at: usize) -> LoadFault
-    ensures { result ≡ LoadFault.Refused (refusal cause at) }
-{
-    LoadFault::Refused(LoadRefusal {
-        cause,
-        table: 0,
-        at,
-    })
 }
 
 /// The segment of a name that stands at the root.
@@ -60,7 +48,7 @@ fn root_name_at(bytes: &[u8], at: usize) -> Option<NameSeg>
 /// What a term of a module defines.
 #[tactic(auto, using(aml_operators::proofs::Views::view_out))]
 fn definition_of(bytes: &[u8], term: &Term) -> Result<Definition, LoadFault>
-    ensures { Gives seen result (definition_of bytes.now (view term.now)) }
+    ensures { Defines definition_seen result (definition_of bytes.now (view term.now)) }
 {
     match term.op {
         Op::Method => method_of(bytes, term.at, &term.parts),
@@ -71,18 +59,18 @@ fn definition_of(bytes: &[u8], term: &Term) -> Result<Definition, LoadFault>
 /// The method that a Method term with these parts defines.
 #[tactic(auto, using(crate::proofs::Definitions::misfit))]
 fn method_of(bytes: &[u8], at: usize, parts: &[Term]) -> Result<Definition, LoadFault>
-    ensures { Gives seen result (method_in bytes.now at (views parts.now)) }
+    ensures { Defines definition_seen result (method_in bytes.now at (views parts.now)) }
 {
     match parts {
-        [name, flags, body] => method_from(bytes, at, name, body, number_of(flags)),
+        [name, flags, body] => method_from(bytes, at, name, body, flags_of(flags)),
         _ => Err(refuse(LoadCause::Tree(TreeCause::ModuleCode), at)),
     }
 }
 
-/// The number that a part is.
+/// The flags that a part is.
 #[tactic(auto, using(aml_operators::proofs::Views::view_out))]
-fn number_of(part: &Term) -> Option<u64>
-    ensures { result ≡ number_of (view part.now) }
+fn flags_of(part: &Term) -> Option<u64>
+    ensures { result ≡ flags_of (view part.now) }
 {
     match part.op {
         Op::Number(n) => Some(n),
@@ -99,7 +87,7 @@ fn method_from(
     body: &Term,
     flags: Option<u64>,
 ) -> Result<Definition, LoadFault>
-    ensures { Gives seen result (method_from bytes.now at (view name.now) (view body.now) flags) }
+    ensures { Defines definition_seen result (method_from bytes.now at (view name.now) (view body.now) flags) }
 {
     let Some(flags) = flags else {
         return Err(refuse(LoadCause::Tree(TreeCause::ModuleCode), at));
@@ -113,12 +101,16 @@ fn method_from(
             end: body.end,
         },
     };
-    named(root_name_at(bytes, name.at), name.at, method)
+    definition_under(root_name_at(bytes, name.at), name.at, method)
 }
 
 /// A definition under a name, which must stand at the root.
-fn named(segment: Option<NameSeg>, name_at: usize, method: Method) -> Result<Definition, LoadFault>
-    ensures { Gives seen result (named (seg_bytes segment) name_at method) }
+fn definition_under(
+    segment: Option<NameSeg>,
+    name_at: usize,
+    method: Method,
+) -> Result<Definition, LoadFault>
+    ensures { Defines definition_seen result (definition_under (seg_bytes segment) name_at method) }
 {
     match segment {
         Some(segment) => Ok(Definition {
@@ -131,28 +123,31 @@ fn named(segment: Option<NameSeg>, name_at: usize, method: Method) -> Result<Def
 }
 
 /// Adds an object, whose path must be new.
-fn add(methods: &mut IndexMap<NameSeg, Method>, definition: Definition) -> Result<(), LoadFault>
-    ensures { Adds result methods.new.entries (add methods.old.entries (definition.segment, definition.name_at, definition.method)) }
+fn add(objects: &mut Objects, definition: Definition) -> Result<(), LoadFault>
+    ensures { AddsObject result (entries_of objects.new) (add (entries_of objects.old) (definition_seen definition)) }
 {
-    if methods.contains_key(&definition.segment) {
+    if objects.index_of(&definition.segment).is_some() {
         return Err(refuse(LoadCause::Duplicate, definition.name_at));
     }
-    methods.insert(definition.segment, definition.method)?;
+    objects.push(definition.segment, definition.method)?;
     Ok(())
 }
 
-/// The objects that a module's definitions make.
-pub(crate) fn define_all(
-    alloc: Global,
-    bytes: &[u8],
-    definitions: &[Term],
-) -> Result<IndexMap<NameSeg, Method>, LoadFault>
-    ensures { Gives entries_of result (defined_from bytes.now [] (map view definitions.now)) }
+/// Adds the object that a term defines.
+fn define_one(bytes: &[u8], objects: &mut Objects, term: &Term) -> Result<(), LoadFault>
+    ensures { AddsObject result (entries_of objects.new) (define_one bytes.now (entries_of objects.old) (view term.now)) }
 {
-    let mut methods = IndexMap::new(alloc);
-    for term in definitions {
-        let definition = definition_of(bytes, term)?;
-        add(&mut methods, definition)?;
+    let definition = definition_of(bytes, term)?;
+    add(objects, definition)
+}
+
+/// The objects that a module's terms define.
+pub(crate) fn define_all(alloc: Global, bytes: &[u8], terms: &[Term]) -> Result<Objects, LoadFault>
+    ensures { Defines entries_of result (defined_from bytes.now [] (map view terms.now)) }
+{
+    let mut objects = Objects::new(alloc);
+    for term in terms {
+        define_one(bytes, &mut objects, term)?;
     }
-    Ok(methods)
+    Ok(objects)
 }

@@ -2,7 +2,7 @@
 
 ghost use Rattle.std.specs.Prelude.{◌≡◌, ⊤};
 ghost use Rattle.aml_namespace.specs.declared.fault.LoadFault.TheVariants.{NoMemory, Refused};
-ghost use Rattle.aml_namespace.specs.Fault.{table_refusal, tree_fault};
+ghost use Rattle.aml_namespace.specs.Fault.{load_refusal, table_refusal, tree_fault};
 
 use acpi_tables::{TableCause, TableFault};
 use aml_tree::{TreeCause, TreeFault};
@@ -46,6 +46,17 @@ pub enum LoadFault {
     Refused(LoadRefusal),
 }
 
+/// A refusal in the first table.
+pub(crate) fn refuse(cause: LoadCause, at: usize) -> LoadFault
+    ensures { result ≡ LoadFault.Refused (load_refusal cause at) }
+{
+    LoadFault::Refused(LoadRefusal {
+        cause,
+        table: 0,
+        at,
+    })
+}
+
 impl From<AllocError> for LoadFault {
     ghost from_gives = { λ _ fault. fault ≡ NoMemory };
 
@@ -66,11 +77,7 @@ impl From<TableFault> for LoadFault {
     ghost from_gives = { λ table fault. fault ≡ Refused (table_refusal table) };
 
     fn from(fault: TableFault) -> LoadFault {
-        LoadFault::Refused(LoadRefusal {
-            cause: LoadCause::Table(fault.cause),
-            table: 0,
-            at: fault.at,
-        })
+        refuse(LoadCause::Table(fault.cause), fault.at)
     }
 }
 
@@ -80,11 +87,7 @@ impl From<TreeFault> for LoadFault {
     fn from(fault: TreeFault) -> LoadFault {
         match fault {
             TreeFault::NoMemory => LoadFault::NoMemory,
-            TreeFault::Refused(refusal) => LoadFault::Refused(LoadRefusal {
-                cause: LoadCause::Tree(refusal.cause),
-                table: 0,
-                at: refusal.at,
-            }),
+            TreeFault::Refused(refusal) => refuse(LoadCause::Tree(refusal.cause), refusal.at),
         }
     }
 }

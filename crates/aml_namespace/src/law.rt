@@ -2,7 +2,7 @@
 
 ghost use Rattle.aml_namespace.specs.Laws.{FaultsWithin};
 
-/// Each fault of a load stands within the table or at its end.
+/// Each fault of a load names the table that was handed in, and a place of at most its number of bytes.
 pub fn faults_stand_within()
     ensures { FaultsWithin }
 {}

@@ -10,6 +10,7 @@ mod law;
 mod memory;
 mod method;
 mod namespace;
+mod objects;
 mod width;
 
 pub use fault::{LoadCause, LoadFault, LoadRefusal};

@@ -6,11 +6,11 @@ ghost use Rattle.aml_namespace.specs.Sound.{BodiesWithin};
 use crate::define::define_all;
 use crate::fault::LoadFault;
 use crate::method::{Method, ObjectId};
+use crate::objects::Objects;
 use crate::width::Width;
 use acpi_tables::read_table;
 use aml_lex::{NameRef, NameSeg};
 use aml_tree::{Arity, Term, TreeFault, read_body, read_module};
-use indexmap::IndexMap;
 use std::alloc::Global;
 
 /// The objects that a DSDT defines, lent from its bytes.
@@ -18,9 +18,8 @@ use std::alloc::Global;
 pub struct Namespace<'a> {
     table: &'a [u8],
     width: Width,
-    /// Methods at the root, by their segments, in order of definition.
-    methods: IndexMap<NameSeg, Method>,
-    ghost bodies: { BodiesWithin (length table.now) methods.entries },
+    objects: Objects,
+    ghost bodies: { BodiesWithin (length table.now) objects.entries.items },
 }
 
 impl<'a> Namespace<'a> {
@@ -30,23 +29,24 @@ impl<'a> Namespace<'a> {
     ghost use Rattle.aml_tree.specs.Body.{trees_read};
     ghost use Rattle.aml_namespace.specs.Load.{Loads, shown};
     ghost use Rattle.aml_namespace.specs.Names.{resolve, args_of};
-    ghost use Rattle.aml_namespace.specs.Objects.{method_at, segment_at, number_of, ReadsBodyOf};
+    ghost use Rattle.aml_namespace.specs.Objects.{method_at, object_segment, number_of, ReadsBodyOf};
 
     /// Loads a DSDT: its header, then its whole module, then its definitions in the order of the bytes.
     ///
     /// Faults: E101 to E104 of the table; E201 to E209 of its module; E209 at a definition that is no
     /// method, E302 at a name that is not one segment at the root, E301 at a name that is defined already.
     /// After a refusal there is no namespace.
+    #[tactic(auto, using(crate::proofs::Spans::module_bodies))]
     pub fn load(alloc: Global, dsdt: &'a [u8]) -> Result<Self, LoadFault>
         ensures { Loads dsdt.now result }
     {
         let header = read_table(dsdt, b"DSDT")?;
         let definitions = read_module(alloc, dsdt)?;
-        let methods = define_all(alloc, dsdt, &definitions)?;
+        let objects = define_all(alloc, dsdt, &definitions)?;
         Ok(Namespace {
             table: dsdt,
             width: Width::by_revision(header.revision),
-            methods,
+            objects,
         })
     }
 
@@ -61,35 +61,35 @@ impl<'a> Namespace<'a> {
     pub fn len(&self) -> usize
         ensures { result ≡ length (shown self.now).entries }
     {
-        self.methods.len()
+        self.objects.len()
     }
 
     /// Whether no object is defined.
     pub fn is_empty(&self) -> bool
         ensures { result ≡ (length (shown self.now).entries == 0) }
     {
-        self.methods.is_empty()
+        self.len() == 0
     }
 
     /// The method with this number, None past the last.
     pub fn method(&self, id: ObjectId) -> Option<Method>
         ensures { result ≡ method_at (shown self.now) id.0 }
     {
-        self.methods.get_index(id.0).map(|(_, method)| *method)
+        self.objects.get(id.0).map(|(_, method)| method)
     }
 
     /// The segment of the method with this number, None past the last.
     pub fn segment(&self, id: ObjectId) -> Option<NameSeg>
-        ensures { result ≡ segment_at (shown self.now) id.0 }
+        ensures { result ≡ object_segment (shown self.now) id.0 }
     {
-        self.methods.get_index(id.0).map(|(segment, _)| *segment)
+        self.objects.get(id.0).map(|(segment, _)| segment)
     }
 
     /// The number of the method with this segment at the root.
     pub fn find(&self, segment: NameSeg) -> Option<ObjectId>
         ensures { option_map (λ id. id.0) result ≡ number_of (shown self.now) segment }
     {
-        self.methods.get_index_of(&segment).map(ObjectId)
+        self.objects.index_of(&segment).map(ObjectId)
     }
 
     /// The method that a name in a body names: a lone segment is searched upward to the root, where all
@@ -100,7 +100,7 @@ impl<'a> Namespace<'a> {
         if name.parents() > 1 || name.segs() != 1 {
             return None;
         }
-        self.methods.get(&name.seg(0)).copied()
+        self.objects.find(&name.seg(0))
     }
 
     /// The statements of a method's body: a name takes as many terms as the method that it names has
@@ -111,7 +111,7 @@ impl<'a> Namespace<'a> {
         requires { id.0 < length (shown self.now).entries }
         ensures { (m : Method) → method_at (shown self.now) id.0 ≡ Some m → ReadsBodyOf (shown self.now) m (trees_read result) }
     {
-        let (_, method) = self.methods.get_index(id.0).unwrap();
+        let (_, method) = self.objects.get(id.0).unwrap();
         read_body(alloc, self.table, method.body, self)
     }
 }
@@ -119,7 +119,7 @@ impl<'a> Namespace<'a> {
 impl Arity for Namespace<'_> {
     ghost use Rattle.aml_namespace.specs.Names.{counts};
 
-    ghost counts = { λ ns. counts ns.methods.entries };
+    ghost counts = { λ ns. counts ns.objects.entries.items };
 
     fn arity(&self, name: &NameRef<'_>, _at: usize) -> u8 {
         match self.resolve(name) {

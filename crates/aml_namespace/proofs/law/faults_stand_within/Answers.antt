@@ -1,5 +1,5 @@
-use Rattle.aml_namespace.proofs.Places.{load_placed}
+use Rattle.aml_namespace.proofs.Places.{faults_within}
 use Rattle.aml_namespace.proofs.law.faults_stand_within.Goals as goal
 
 pub returns : goal.returns
-returns c = load_placed
+returns c = faults_within
