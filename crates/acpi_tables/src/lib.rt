@@ -24,6 +24,3 @@ pub use madt::Madt;
 pub use rsdp::{Rsdp, RsdpExtension};
 pub use table::read_table;
 pub use xsdt::Xsdt;
-
-#[cfg(test)]
-mod tests;

@@ -12,8 +12,6 @@ mod names;
 mod package;
 mod standing;
 mod strings;
-#[cfg(test)]
-mod tests;
 mod theorems;
 
 pub use fault::{LexCause, LexFault};

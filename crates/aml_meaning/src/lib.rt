@@ -12,6 +12,3 @@ mod law;
 pub use action::{Action, Arithmetic, Constant, action_of};
 pub use error::{AmlCause, AmlError};
 pub use law::done_is_stable;
-
-#[cfg(test)]
-mod tests;

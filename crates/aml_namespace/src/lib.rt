@@ -19,6 +19,3 @@ pub use memory::NoMemory;
 pub use method::{Method, ObjectId};
 pub use namespace::Namespace;
 pub use width::Width;
-
-#[cfg(test)]
-mod tests;

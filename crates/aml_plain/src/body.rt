@@ -1,6 +1,8 @@
 // A method's body, from its beginning to its end.
 
 ghost use Rattle.std.specs.Prelude.{◌≡◌};
+ghost use Rattle.aml_operators.specs.declared.row.Code.TheVariants as code;
+ghost use Rattle.aml_operators.specs.Shape.{AreShaped};
 ghost use Rattle.aml_operators.specs.Tree.{views};
 ghost use Rattle.aml_namespace.specs.Widths.{bits_of};
 ghost use Rattle.aml_plain.specs.Tells.{EvaluatesBody, outcome_of};
@@ -31,6 +33,7 @@ pub fn evaluate_body(
     arguments: &[u64],
     fuel: u64,
 ) -> Outcome
+    requires { AreShaped code.Body (views body.now) }
     ensures { EvaluatesBody (record { table = table; width = bits_of width }) (views body.now)
         arguments.now fuel result }
 {

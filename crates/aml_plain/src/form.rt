@@ -1,61 +1,68 @@
-// The parts of a term, where it has as many as its operator takes.
+// The parts of a term, as many as its operator's letters name.
 
-ghost use Rattle.std.specs.Prelude.{◌≡◌, ◌≢◌, length, MatchOption};
+ghost use Rattle.std.specs.Prelude.{◌≡◌, length};
 ghost use Rattle.aml_operators.specs.Tree.{view, views, more, none};
-ghost use Rattle.aml_meaning.specs.Meaning.{literal_of};
+ghost use Rattle.aml_meaning.specs.Meaning.{number_of, literal_of};
+ghost use Rattle.aml_plain.specs.Shapes.{BeginsWithNumber};
 
 use aml_meaning::Constant;
 use aml_operators::{Op, Term};
 
-pub fn one(parts: &[Term]) -> Option<&Term>
-    ensures { MatchOption result (length parts.now ≢ 1) (λ a. views parts.now ≡ more (view a.now) none) }
+pub fn one(parts: &[Term]) -> &Term
+    requires { length parts.now ≡ 1 }
+    ensures { views parts.now ≡ more (view result.now) none }
 {
     match parts {
-        [a] => Some(a),
-        _ => None,
+        [a] => a,
+        _ => unreachable!(),
     }
 }
 
-pub fn two(parts: &[Term]) -> Option<(&Term, &Term)>
-    ensures { MatchOption result (length parts.now ≢ 2) (λ t. views parts.now ≡ more (view t.0.now) (more (view t.1.now) none)) }
+pub fn two(parts: &[Term]) -> (&Term, &Term)
+    requires { length parts.now ≡ 2 }
+    ensures { views parts.now ≡ more (view result.0.now) (more (view result.1.now) none) }
 {
     match parts {
-        [a, b] => Some((a, b)),
-        _ => None,
+        [a, b] => (a, b),
+        _ => unreachable!(),
     }
 }
 
-pub fn three(parts: &[Term]) -> Option<(&Term, &Term, &Term)>
-    ensures { MatchOption result (length parts.now ≢ 3) (λ t. views parts.now ≡ more (view t.0.now) (more (view t.1.now) (more (view t.2.now) none))) }
+pub fn three(parts: &[Term]) -> (&Term, &Term, &Term)
+    requires { length parts.now ≡ 3 }
+    ensures { views parts.now ≡
+        more (view result.0.now) (more (view result.1.now) (more (view result.2.now) none)) }
 {
     match parts {
-        [a, b, c] => Some((a, b, c)),
-        _ => None,
+        [a, b, c] => (a, b, c),
+        _ => unreachable!(),
     }
 }
 
 /// The number that stands beside an opcode.
 #[tactic(auto, using(aml_operators::proofs::Views::view_out))]
-fn number_beside(parts: &[Term]) -> Option<u64>
-    ensures { result ≡ literal_of Constant.Number (views parts.now) }
+fn number_beside(parts: &[Term]) -> u64
+    requires { BeginsWithNumber (views parts.now) }
+    ensures { result ≡ number_of (views parts.now) }
 {
     match parts {
         [part, ..] => match part.op {
-            Op::Number(n) => Some(n),
-            _ => None,
+            Op::Number(n) => n,
+            _ => unreachable!(),
         },
-        [] => None,
+        [] => unreachable!(),
     }
 }
 
 /// The number that a literal spells.
-pub fn literal_of(constant: Constant, parts: &[Term]) -> Option<u64>
+pub fn literal_of(constant: Constant, parts: &[Term]) -> u64
+    requires { constant ≡ Constant.Number → BeginsWithNumber (views parts.now) }
     ensures { result ≡ literal_of constant (views parts.now) }
 {
     match constant {
-        Constant::Zero => Some(0),
-        Constant::One => Some(1),
-        Constant::Ones => Some(u64::MAX),
+        Constant::Zero => 0,
+        Constant::One => 1,
+        Constant::Ones => u64::MAX,
         Constant::Number => number_beside(parts),
     }
 }

@@ -9,8 +9,5 @@ mod halt;
 mod integer;
 mod method;
 
-pub use body::{Outcome, evaluate_body};
+pub use body::Outcome;
 pub use method::{evaluate_plain, evaluate_terms};
-
-#[cfg(test)]
-mod tests;

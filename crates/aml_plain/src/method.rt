@@ -1,6 +1,8 @@
 // A method's evaluation, from the bytes of its table.
 
 ghost use Rattle.std.specs.Prelude.{◌≡◌, ◌<◌, List, Some, IfOk, length};
+ghost use Rattle.aml_operators.specs.declared.row.Code.TheVariants as code;
+ghost use Rattle.aml_operators.specs.Shape.{AreShaped};
 ghost use Rattle.aml_operators.specs.Tree.{Tree, trees, views};
 ghost use Rattle.aml_namespace.specs.declared.method.Method.{Method};
 ghost use Rattle.aml_namespace.specs.Load.{shown};
@@ -21,7 +23,8 @@ pub fn evaluate_terms(
     arguments: &[u64],
     fuel: u64,
 ) -> Outcome
-    requires { method.0 < length (shown namespace.now).entries }
+    requires known { method.0 < length (shown namespace.now).entries }
+    requires shaped { AreShaped code.Body (views body.now) }
     ensures { (m : Method) → method_at (shown namespace.now) method.0 ≡ Some m → Evaluates (shown namespace.now) m (views body.now) arguments.now fuel result }
 {
     let table = namespace.method(method).unwrap().table;

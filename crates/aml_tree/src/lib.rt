@@ -13,8 +13,6 @@ mod leaf;
 mod literal;
 mod module;
 mod opening;
-#[cfg(test)]
-mod tests;
 mod walk;
 
 pub use aml_operators::{Op, Term};

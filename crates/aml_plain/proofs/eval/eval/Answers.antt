@@ -12,8 +12,11 @@ returns-in_err-take_step-clause-means c = λ names log.
 
 pub returns-clause-means : goal.returns-clause-means
 returns-clause-means c = λ names log.
-    rw (view_out, ← c.deref.ensures.value, ← c.action_of-action.ensures) (runs_then _ (c.in_ok-take_step.ensures.means _ names log) (c.eval_action.ensures names log))
+    rw (view_out, ← c.deref.ensures.value) (runs_then _ (c.in_ok-take_step.ensures.means _ names log) (c.eval_behind_step.ensures names log))
 
 pub returns-clause-takes : goal.returns-clause-takes
 returns-clause-takes c =
-    on_ok c.eval_action.result _ (omega (arith, c.in_ok-take_step.ensures.takes, (c.eval_action.ensures [] []).falls))
+    on_ok c.eval_behind_step.result _ (omega (arith, c.in_ok-take_step.ensures.takes, (c.eval_behind_step.ensures [] []).falls))
+
+pub eval_behind_step-requires : goal.eval_behind_step-requires
+eval_behind_step-requires c = rw c.deref.ensures.value (rw view_out at c.requires)

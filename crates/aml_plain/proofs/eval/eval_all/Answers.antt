@@ -2,7 +2,7 @@ use Rattle.std.proofs.Common.{◌≡◌, drop, []}
 use Rattle.std.proofs.Math.ListN.{drop_of_length-le}
 use Rattle.std.proofs.lemmas.Result.{err_from_is_err_and}
 use Rattle.aml_meaning.proofs.Runs.{runs_then, runs_stop, runs_give}
-use Rattle.aml_plain.proofs.Statements.{views_at}
+use Rattle.aml_plain.proofs.Statements.{views_at, shaped_drop}
 use Rattle.aml_plain.proofs.eval.eval_all.Goals as goal
 
 pub returns : goal.returns
@@ -20,3 +20,9 @@ pub loop-statement-preserved : goal.loop-statement-preserved
 loop-statement-preserved c =
     let e = views_at c.args.statements.now c.loop-statement.statement-index c.statement-item.result c.loop-statement-test.true c.statement-item.is in
     λ names log r last rest. c.loop-statement.invariant names log r last (rw e (runs_then _ (c.in_ok-eval.ensures.means names log) rest))
+
+pub eval-requires : goal.eval-requires
+eval-requires c =
+    let e = views_at c.args.statements.now c.loop-statement.statement-index c.statement-item.result c.loop-statement-test.true c.statement-item.is in
+    let rest = rw e at (shaped_drop c.args.statements.now c.loop-statement.statement-index c.requires) in
+    rest.0

@@ -1,6 +1,6 @@
 // What errors are printed as, and each call once.
 
-use crate::{Action, AmlCause, AmlError, Arithmetic, action_of, done_is_stable};
+use aml_meaning::{Action, AmlCause, AmlError, Arithmetic, action_of, done_is_stable};
 use aml_operators::Op;
 use std::test::Fail;
 

@@ -3,8 +3,8 @@
 ghost use Rattle.std.specs.Prelude.{◌≤◌};
 
 use super::{ByDigit, compare};
-use crate::{Op, Refusal, Span, Term, TreeCause, TreeFault, read_body, read_module};
 use aml_lex::LexCause;
+use aml_tree::{Op, Refusal, Span, Term, TreeCause, TreeFault, read_body, read_module};
 use std::alloc::Global;
 use std::test::Fail;
 

@@ -3,8 +3,9 @@
 mod faults;
 mod names;
 
-use crate::{LoadCause, LoadFault, LoadRefusal, Namespace, ObjectId, Width};
+use crate::sums::byte_sum;
 use aml_lex::NameSeg;
+use aml_namespace::{LoadCause, LoadFault, LoadRefusal, Namespace, ObjectId, Width};
 use aml_tree::Span;
 use std::alloc::Global;
 use std::test::Fail;
@@ -15,14 +16,6 @@ const FIRST: [u8; 48] = [
     0x52, 0x4f, 0x57, 0x53, 0x30, 0x30, 0x30, 0x31, 0x01, 0x00, 0x00, 0x00, 0x52, 0x4f, 0x57, 0x53,
     0x01, 0x00, 0x00, 0x00, 0x14, 0x0b, 0x4d, 0x30, 0x30, 0x30, 0x01, 0xa4, 0x72, 0x68, 0x01, 0x00,
 ];
-
-fn byte_sum(bytes: &[u8]) -> u8 {
-    let mut sum = 0u8;
-    for byte in bytes {
-        sum = sum.wrapping_add(*byte);
-    }
-    sum
-}
 
 /// A DSDT of a revision with a module of at most 219 bytes, its length and checksum made to fit.
 fn dsdt_of(alloc: Global, revision: u8, module: &[u8]) -> Result<Vec<u8>, Fail> {

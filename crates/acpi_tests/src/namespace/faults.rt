@@ -1,9 +1,9 @@
 // The first fault of a table that cannot be loaded, with its place.
 
 use super::{FIRST, dsdt_of, refused};
-use crate::{LoadCause, Namespace};
 use acpi_tables::TableCause;
 use aml_lex::LexCause;
+use aml_namespace::{LoadCause, Namespace};
 use aml_tree::TreeCause;
 use std::test::Fail;
 

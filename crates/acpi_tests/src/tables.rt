@@ -3,8 +3,8 @@
 
 ghost use Rattle.std.specs.Prelude.{◌≤◌, ◌<◌, ◌^◌, length};
 
-use crate::bytes::byte_sum;
-use crate::{Entry, Fadt, Header, Isa, Madt, Rsdp, TableCause, TableFault, Xsdt, read_table};
+use crate::sums::byte_sum;
+use acpi_tables::{Entry, Fadt, Header, Isa, Madt, Rsdp, TableCause, TableFault, Xsdt, read_table};
 use byteorder::{ByteOrder, LittleEndian};
 use std::test::Fail;
 

@@ -2,7 +2,7 @@
 // 20.2.6), and every byte that is none.
 
 use super::body_of;
-use crate::{Op, Refusal, TreeCause, TreeFault};
+use aml_tree::{Op, Refusal, TreeCause, TreeFault};
 use std::alloc::Global;
 use std::process::Abort;
 use std::test::Fail;

@@ -1,6 +1,6 @@
 // Worked rows, and each public call once.
 
-use crate::{
+use aml_lex::{
     LexCause, LexFault, answers_end_within, faults_stand_within, integer_data, name_string,
     package_end, pkg_length, spellings_are_read, spellings_are_unique, string_data,
 };

@@ -8,8 +8,8 @@ mod faults;
 mod memory;
 mod operators;
 
-use crate::{Arity, Op, Span, Term, TreeFault, read_body, read_module};
 use aml_lex::NameRef;
+use aml_tree::{Arity, Op, Span, Term, TreeFault, read_body, read_module};
 use std::alloc::Global;
 use std::process::Abort;
 use std::test::Fail;

@@ -1,8 +1,8 @@
 // What names in bodies name, and how many arguments they take.
 
 use super::dsdt_of;
-use crate::{Namespace, ObjectId};
 use aml_lex::{NameSeg, name_string};
+use aml_namespace::{Namespace, ObjectId};
 use aml_tree::Op;
 use std::test::Fail;
 

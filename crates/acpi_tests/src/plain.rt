@@ -1,12 +1,11 @@
-// Methods from the bytes of their tables.
+// Methods from the bytes of their tables, whose outcomes were worked out by hand.
 
 ghost use Rattle.std.specs.Prelude.{◌<◌, length};
 ghost use Rattle.aml_namespace.specs.Load.{shown};
 
-use super::unset;
-use crate::{Outcome, evaluate_plain, evaluate_terms};
 use aml_meaning::{AmlCause, AmlError};
 use aml_namespace::{LoadFault, Namespace, NoMemory, ObjectId};
+use aml_plain::{Outcome, evaluate_plain, evaluate_terms};
 use std::alloc::Global;
 use std::process::Abort;
 use std::test::Fail;
@@ -36,6 +35,14 @@ fn dsdt_of(alloc: Global, module: &[u8]) -> Result<Vec<u8>, Fail> {
         *checksum = 0u8.wrapping_sub(sum);
     }
     Ok(table)
+}
+
+fn error(cause: AmlCause, at: usize) -> Outcome {
+    Outcome::AmlError(AmlError {
+        table: 0,
+        at,
+        cause,
+    })
 }
 
 /// The first method's outcomes, from its terms and from its bytes.
@@ -108,21 +115,27 @@ fn bodies(rt: HostRuntime) -> Result<(), Fail> {
         0x14, 0x0b, 0x4d, 0x30, 0x31, 0x38, 0x01, 0x70, 0x68, 0x60, 0xa4, 0x60,
     ];
     let empty = [0x14, 0x06, 0x4d, 0x30, 0x31, 0x39, 0x00];
-    let cause = AmlCause::Outside;
-    let outside = Outcome::AmlError(AmlError {
-        table: 0,
-        at: 43,
-        cause,
-    });
-    let rows: [(&[u8], &[u64], u64, Outcome); 8] = [
-        (&local, &[], 2, unset(0, 44)),
+    // Return (Add (Arg0, One, Local0)); Store (Ones, Local0) and Noop
+    let stored = [
+        0x14, 0x0b, 0x4d, 0x30, 0x31, 0x36, 0x01, 0xa4, 0x72, 0x68, 0x01, 0x60,
+    ];
+    let noop = [
+        0x14, 0x0a, 0x4d, 0x30, 0x31, 0x35, 0x00, 0x70, 0xff, 0x60, 0xa3,
+    ];
+    let rows: [(&[u8], &[u64], u64, Outcome); 13] = [
+        (&local, &[], 2, error(AmlCause::Unset, 44)),
         (&local, &[], 1, Outcome::OutOfSteps),
-        (&leave, &[], 1, outside),
+        (&leave, &[], 1, error(AmlCause::Outside, 43)),
         (&leave, &[], 0, Outcome::OutOfSteps),
         (&store, &[7], 5, Outcome::Done(Some(7))),
         (&store, &[7], 4, Outcome::OutOfSteps),
-        (&store, &[], 2, unset(0, 44)),
+        (&store, &[], 2, error(AmlCause::Unset, 44)),
         (&empty, &[], 0, Outcome::Done(None)),
+        (&stored, &[41], 5, Outcome::Done(Some(42))),
+        (&stored, &[41], 4, Outcome::OutOfSteps),
+        (&stored, &[], 5, error(AmlCause::Unset, 45)),
+        (&noop, &[], 3, Outcome::OutOfSteps),
+        (&noop, &[], 4, error(AmlCause::Outside, 46)),
     ];
     for (module, arguments, fuel, outcome) in rows {
         let table = dsdt_of(rt.alloc(), module)?;

@@ -2,11 +2,11 @@
 
 use super::bodies::TABLE;
 use super::{body_of, compare, table_of};
-use crate::{
+use aml_lex::LexCause;
+use aml_tree::{
     NoArguments, Op, Refusal, Span, Term, TreeCause, TreeFault, bodies_are_unique,
     faults_stand_within, modules_are_unique, read_body, read_module,
 };
-use aml_lex::LexCause;
 use std::alloc::Global;
 use std::process::Abort;
 use std::test::Fail;

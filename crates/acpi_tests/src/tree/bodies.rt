@@ -1,7 +1,7 @@
 // Methods and their bodies.
 
 use super::{body_of, compare};
-use crate::{NoArguments, Op, Span, read_body, read_module};
+use aml_tree::{NoArguments, Op, Span, read_body, read_module};
 use std::test::Fail;
 
 /// A table of one method, Return (Add (Arg0, One)).

@@ -1,7 +1,7 @@
 // Definitions of a module; the first stands at 36.
 
 use super::{compare, module_of};
-use crate::Op;
+use aml_tree::Op;
 use std::test::Fail;
 
 /// Scope (\_SB_) with a Device, a ThermalZone, a PowerResource with an Event, and a Processor.

@@ -1,0 +1,20 @@
+//! Tests of the crates below the listing, over their public calls alone. They stand in a crate of
+//! their own, since a crate with tests is proved twice.
+#![tactic(auto)]
+
+#[cfg(test)]
+mod lexing;
+#[cfg(test)]
+mod meaning;
+#[cfg(test)]
+mod namespace;
+#[cfg(test)]
+mod operators;
+#[cfg(test)]
+mod plain;
+#[cfg(test)]
+mod sums;
+#[cfg(test)]
+mod tables;
+#[cfg(test)]
+mod tree;
