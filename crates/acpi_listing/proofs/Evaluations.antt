@@ -2,13 +2,13 @@
 use Rattle.std.proofs.Common.{◌≡◌, ◌∙◌, ℕ, List, Option, Result, Ok, Err, inl, inr, sym, refl, subst}
 use Rattle.std.specs.Prelude.{IsErr, IsErrAnd, []}
 use Rattle.std.proofs.KnownBytes.{Appends-nil}
-use Rattle.acpi_listing.specs.declared.put.RunFault.{RunFault}
+use Rattle.acpi_text.specs.declared.writing.RunFault.{RunFault}
 use Rattle.aml_namespace.specs.declared.method.Method.{Method}
 use Rattle.aml_namespace.specs.Load.{Shown, IsLoaded, FaultyLoad}
 use Rattle.acpi_listing.specs.Files.{Answers, Opens}
 use Rattle.acpi_listing.specs.Input.{NextLine}
 use Rattle.acpi_listing.specs.Commands.{Names, Finds, LoadsOrFails, FaultyEval, EvaluatesFile, Reports}
-use Rattle.acpi_listing.specs.Arguments.{Given}
+use Rattle.acpi_listing.specs.Arguments.{ListsArguments}
 use Rattle.acpi_listing.specs.declared.fault.Fault.{Fault}
 use Rattle.acpi_listing.specs.declared.fault.Stop.{Stop}
 use Rattle.acpi_listing.specs.declared.fault.Stop.TheVariants.{Fault as Faulty}
@@ -30,7 +30,7 @@ faulted answers old new file word args steps held (Err s) f e faulty =
 
 -- a table that was not loaded
 pub not_loaded : {F : Type 0} (answers : Answers F) (old new : F) (file word bytes lent : List ℕ) (args : Option (List ℕ)) (arguments : List ℕ) (f : Fault)
-    → lent ≡ bytes → Given args arguments → Opens answers old file (Ok bytes) new → LoadsOrFails lent (Err f)
+    → lent ≡ bytes → ListsArguments args arguments → Opens answers old file (Ok bytes) new → LoadsOrFails lent (Err f)
     → FaultyEval answers old file word args new f
 not_loaded answers old new file word bytes lent args arguments f same given opens (inl memory) = inl memory
 not_loaded answers old new file word bytes lent args arguments f same given opens (inr (refusal, faulty, is)) =

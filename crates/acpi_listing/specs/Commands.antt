@@ -15,9 +15,9 @@ use Rattle.aml_namespace.specs.Objects.{method_at, number_of, IsBodyOf, ReadsBod
 use Rattle.aml_plain.specs.Methods.{Evaluates}
 use Rattle.aml_plain.specs.declared.body.Outcome.{Outcome}
 use Rattle.aml_plain.specs.declared.body.Outcome.TheVariants.{Done, AmlError, OutOfSteps}
-use Rattle.acpi_listing.specs.Arguments.{Given, GivesNone}
-use Rattle.acpi_listing.specs.Text.{joined}
-use Rattle.acpi_listing.specs.Evaluation.{outcome_line}
+use Rattle.acpi_listing.specs.Arguments.{ListsArguments, ListsBadArguments}
+use Rattle.acpi_text.specs.Text.{joined}
+use Rattle.acpi_text.specs.Outcome.{outcome_line}
 use Rattle.acpi_listing.specs.Files.{Answers, Opens, ListsFiles}
 use Rattle.acpi_listing.specs.Input.{NextLine, IsTorn, IsRead, hex_answers}
 use Rattle.acpi_listing.specs.declared.fault.Fault.{Fault}
@@ -25,8 +25,8 @@ use Rattle.acpi_listing.specs.declared.fault.Fault.TheVariants as fault
 use Rattle.acpi_listing.specs.declared.fault.Stop.{Stop}
 use Rattle.acpi_listing.specs.declared.fault.Stop.TheVariants.{Fault as Faulty, Run}
 use Rattle.acpi_listing.specs.declared.input.Input.{Input}
-use Rattle.acpi_listing.specs.declared.lines_of_input.HexLines.{HexLines}
-use Rattle.acpi_listing.specs.declared.put.RunFault.{RunFault}
+use Rattle.acpi_listing.specs.declared.hex_lines.HexLines.{HexLines}
+use Rattle.acpi_text.specs.declared.writing.RunFault.{RunFault}
 use Rattle.acpi_listing.specs.declared.words.Request.{Request}
 use Rattle.acpi_listing.specs.declared.words.Request.TheVariants.{Tables, Eval}
 
@@ -77,15 +77,15 @@ FaultyFile answers old file word arguments new f =
 abbrev pub FaultyEval : {F : Type 0} → Answers F → F → List ℕ → List ℕ → Option (List ℕ) → F → Fault → Type 0
 FaultyEval answers old file word args new f =
     (f ≡ fault.NoMemory)
-    ⊎ (((f ≡ fault.BadArgs) × GivesNone args × (new ≡ old))
-    ⊎ ((arguments : List ℕ) × Given args arguments × FaultyFile answers old file word arguments new f))
+    ⊎ (((f ≡ fault.BadArgs) × ListsBadArguments args × (new ≡ old))
+    ⊎ ((arguments : List ℕ) × ListsArguments args arguments × FaultyFile answers old file word arguments new f))
 
 -- how `eval` ends: a refused body's line, or the line of the meaning's outcome; a fault, and nothing is printed; or a beginning of a line
 abbrev pub EvaluatesFile : {F : Type 0} → Answers F → F → List ℕ → List ℕ → Option (List ℕ) → ℕ → F → Option (List ℕ) → Option (List ℕ) → Result ℕ Stop → Type 0
 EvaluatesFile answers old file word args steps new held holds (Ok ended) =
     (ns : Shown) × (m : Method) × Finds answers old file word new ns m
     × (((refusal : Refusal) × (line : List ℕ) × ReadsBodyOf ns m (Err (Refused refusal)) × Appends held holds line × (ended ≡ 3))
-    ⊎ ((ts : List Tree) × (arguments : List ℕ) × (outcome : Outcome) × IsBodyOf ns m ts × Given args arguments × Takes ns m arguments
+    ⊎ ((ts : List Tree) × (arguments : List ℕ) × (outcome : Outcome) × IsBodyOf ns m ts × ListsArguments args arguments × Takes ns m arguments
     × Evaluates ns m (trees ts) arguments steps outcome × Appends held holds (outcome_line outcome) × (ended ≡ status outcome)))
 EvaluatesFile answers old file word args steps new held holds (Err (Faulty f)) = FaultyEval answers old file word args new f × (holds ≡ held)
 EvaluatesFile answers old file word args steps new held holds (Err (Run _)) = (line : List ℕ) × Appends held holds line

@@ -1,8 +1,3 @@
-pub mod Text
-pub mod Lists
-pub mod Evaluation
-pub mod Structures
-pub mod Tables
 pub mod Reading
 pub mod Files
 pub mod Arguments

@@ -2,20 +2,18 @@
 
 ghost use Rattle.std.specs.Prelude.{◌≡◌, ◌<◌, ◌≤◌, ◌⊎◌, ◌↔◌, ℕ, List, true};
 ghost use Rattle.std.specs.Prelude.{IfOk, IfErr, length, option_map, vec_items};
-ghost use Rattle.acpi_listing.specs.Arguments.{Given, GivesNone};
+ghost use Rattle.acpi_listing.specs.Arguments.{ListsArguments, ListsBadArguments};
 ghost use Rattle.aml_namespace.specs.Load.{shown};
-ghost use Rattle.acpi_listing.specs.Lists.{Lists};
+ghost use Rattle.acpi_text.specs.Lists.{Lists};
 ghost use Rattle.acpi_listing.specs.Commands.{EvaluatesFile, LoadsOrFails, Names, NamesNone};
 ghost use Rattle.acpi_listing.specs.Commands.{HasSegment, Takes, status};
 ghost use Rattle.acpi_listing.specs.declared.fault.Fault.TheVariants as fault;
 
 use crate::arguments::read_arguments;
-use crate::evaluation::list_evaluation;
 use crate::fault::{Fault, Stop};
-use crate::files::read_file;
-use crate::put::{RunFault, put};
-use crate::source::Source;
+use crate::source::{Source, read_within_limit};
 use crate::words::EvalRequest;
+use acpi_text::{RunFault, list_evaluation, put};
 use aml_lex::NameSeg;
 use aml_namespace::{Method, Namespace, ObjectId};
 use aml_plain::{Outcome, evaluate_terms};
@@ -36,7 +34,7 @@ pub fn evaluate<F: Source, W: Write>(
         (W.contents out.old) (W.contents out.new) result }
 {
     let arguments = arguments_of(alloc, request)?;
-    let table = read_file(files, request.file)?;
+    let table = read_within_limit(files, request.file)?;
     let namespace = load(alloc, &table)?;
     let (id, method) = find_method(&namespace, request.method)?;
     let body = match namespace.tree(alloc, id) {
@@ -57,9 +55,9 @@ pub fn evaluate<F: Source, W: Write>(
 
 fn arguments_of(alloc: Global, request: &EvalRequest<'_>) -> Result<Vec<u64>, Fault>
     ensures given { IfOk result
-        (λ ns. Given (option_map (λ text. text.now) request.now.args) (vec_items ns)) }
+        (λ ns. ListsArguments (option_map (λ text. text.now) request.now.args) (vec_items ns)) }
     ensures faults { IfErr result (λ f. (f ≡ fault.NoMemory)
-        ⊎ ((f ≡ fault.BadArgs) × GivesNone (option_map (λ text. text.now) request.now.args))) }
+        ⊎ ((f ≡ fault.BadArgs) × ListsBadArguments (option_map (λ text. text.now) request.now.args))) }
 {
     match request.args {
         Some(text) => read_arguments(alloc, text),

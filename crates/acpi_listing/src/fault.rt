@@ -6,9 +6,9 @@ ghost use Rattle.acpi_listing.specs.Commands.{fault_status};
 ghost use Rattle.acpi_listing.specs.declared.fault.Fault.TheVariants as told;
 ghost use Rattle.acpi_listing.specs.declared.fault.Stop.TheVariants as stop;
 
-use crate::put::RunFault;
 use crate::source::SourceFault;
 use acpi_tables::{TableCause, TableFault};
+use acpi_text::RunFault;
 use aml_namespace::{LoadFault, LoadRefusal};
 use std::alloc::{AllocError, AllocFailed};
 use thiserror::Error;

@@ -7,11 +7,11 @@ ghost use Rattle.acpi_listing.specs.Commands.{ObeysWords, Reports, RunsWords, Ru
 use crate::eval::evaluate;
 use crate::fault::{Fault, Stop};
 use crate::files::list_files;
+use crate::hex_lines::{HexLines, Lines};
 use crate::input::{Input, read_input};
-use crate::lines_of_input::{HexLines, Lines};
-use crate::put::{RunFault, put};
 use crate::source::Source;
 use crate::words::{Request, read_words};
+use acpi_text::{RunFault, put};
 use std::alloc::{AllocError, Global};
 use std::convert::AsStr;
 use std::io::{Read, Write};
