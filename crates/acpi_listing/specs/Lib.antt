@@ -1,5 +1,6 @@
 pub mod Reading
 pub mod Files
+pub mod Faults
 pub mod Arguments
 pub mod Input
 pub mod Commands

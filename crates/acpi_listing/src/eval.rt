@@ -4,7 +4,6 @@ ghost use Rattle.std.specs.Prelude.{◌≡◌, ◌<◌, ◌≤◌, ◌⊎◌, �
 ghost use Rattle.std.specs.Prelude.{IfOk, IfErr, length, option_map, vec_items};
 ghost use Rattle.acpi_listing.specs.Arguments.{ListsArguments, ListsBadArguments};
 ghost use Rattle.aml_namespace.specs.Load.{shown};
-ghost use Rattle.acpi_text.specs.Lists.{Lists};
 ghost use Rattle.acpi_listing.specs.Commands.{EvaluatesFile, LoadsOrFails, Names, NamesNone};
 ghost use Rattle.acpi_listing.specs.Commands.{HasSegment, Takes, status};
 ghost use Rattle.acpi_listing.specs.declared.fault.Fault.TheVariants as fault;
@@ -13,11 +12,11 @@ use crate::arguments::read_arguments;
 use crate::fault::{Fault, Stop};
 use crate::source::{Source, read_within_limit};
 use crate::words::EvalRequest;
-use acpi_text::{RunFault, list_evaluation, put};
+use acpi_text::{list_evaluation, list_refusal};
 use aml_lex::NameSeg;
 use aml_namespace::{Method, Namespace, ObjectId};
 use aml_plain::{Outcome, evaluate_terms};
-use aml_tree::{Refusal, TreeFault};
+use aml_tree::TreeFault;
 use std::alloc::Global;
 use std::io::Write;
 
@@ -110,22 +109,6 @@ fn fits(namespace: &Namespace<'_>, method: Method, arguments: &[u64]) -> bool
 {
     let greatest = namespace.width().greatest();
     arguments.len() == usize::from(method.args) && arguments.iter().all(|n| *n <= greatest)
-}
-
-// `PATH refused TABLE PLACE CAUSE NAME`.
-fn list_refusal<W: Write>(
-    alloc: Global,
-    out: &mut W,
-    path: &str,
-    table: usize,
-    refusal: Refusal,
-) -> Result<(), RunFault>
-    ensures { (text : List ℕ) × Lists result (W.contents out.old) (W.contents out.new) text }
-{
-    let at = refusal.at;
-    let cause = refusal.cause;
-    let line = format!(in alloc; "{path} refused {table} {at} {cause}\n")?;
-    put(out, line.as_bytes())
 }
 
 fn status_of(outcome: &Outcome) -> u8

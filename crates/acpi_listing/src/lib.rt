@@ -6,6 +6,7 @@ mod any_table;
 mod arguments;
 mod eval;
 mod fault;
+mod fault_line;
 mod files;
 mod hex_lines;
 mod input;
