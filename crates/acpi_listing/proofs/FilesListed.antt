@@ -6,7 +6,7 @@ use Rattle.std.proofs.KnownBytes.{Appends-trans}
 use Rattle.std.proofs.Math.Nat.{le_of_lt}
 use Rattle.std.proofs.lemmas.List.{take_all, take_more, map-append, length-map, length-take-le}
 use Rattle.acpi_listing.specs.Files.{Answers, Opens, IsTextOf, Listed, ListsFile, ListsFiles, StopsAt}
-use Rattle.acpi_listing.specs.declared.put.RunFault.{RunFault}
+use Rattle.acpi_text.specs.declared.writing.RunFault.{RunFault}
 use Rattle.acpi_listing.specs.declared.fault.Stop.{Stop}
 use Rattle.acpi_listing.specs.declared.fault.Stop.TheVariants.{Fault as Faulty, Run}
 

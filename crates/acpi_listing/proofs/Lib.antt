@@ -1,4 +1,3 @@
-pub mod Listing
 pub mod Methods
 pub mod FilesListed
 pub mod Evaluations

@@ -38,11 +38,11 @@ ListsNoIntegers text =
     (before behind : List (List ℕ)) × (element : List ℕ) × (elements text ≡ before ++ (element ∷ behind)) × IsNoInteger element
 
 -- the arguments: those of `--args`, without it none
-abbrev pub Given : Option (List ℕ) → List ℕ → Type 0
-Given None arguments = arguments ≡ []
-Given (Some text) arguments = ListsIntegers text arguments
+abbrev pub ListsArguments : Option (List ℕ) → List ℕ → Type 0
+ListsArguments None arguments = arguments ≡ []
+ListsArguments (Some text) arguments = ListsIntegers text arguments
 
 -- `--args` does not list integers
-abbrev pub GivesNone : Option (List ℕ) → Type 0
-GivesNone None = ⊥
-GivesNone (Some text) = ListsNoIntegers text
+abbrev pub ListsBadArguments : Option (List ℕ) → Type 0
+ListsBadArguments None = ⊥
+ListsBadArguments (Some text) = ListsNoIntegers text

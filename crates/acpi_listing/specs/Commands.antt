@@ -1,5 +1,5 @@
 -- What the commands do, from words that were read to what is printed.
-use Rattle.std.specs.Prelude.{◌≡◌, ◌≤◌, ◌⊎◌, ◌-◌, ◌^◌, ℕ, List, [], ◌∷◌, All, Bool, codes, length, Option, Some, None, Result, Ok, Err, map, option_map, vec_items}
+use Rattle.std.specs.Prelude.{◌≡◌, ◌≤◌, ◌⊎◌, ◌-◌, ◌^◌, ℕ, List, [], ◌∷◌, ◌++◌, All, Bool, length, Option, Some, None, Result, Ok, Err, IfOk, map, option_map, vec_items}
 use Rattle.std.specs.Str.{IsUtf8}
 use Rattle.std.specs.Io.KnownBytes.{Appends}
 use Rattle.aml_lex.specs.declared.names.NameSeg.{NameSeg}
@@ -15,9 +15,10 @@ use Rattle.aml_namespace.specs.Objects.{method_at, number_of, IsBodyOf, ReadsBod
 use Rattle.aml_plain.specs.Methods.{Evaluates}
 use Rattle.aml_plain.specs.declared.body.Outcome.{Outcome}
 use Rattle.aml_plain.specs.declared.body.Outcome.TheVariants.{Done, AmlError, OutOfSteps}
-use Rattle.acpi_listing.specs.Arguments.{Given, GivesNone}
-use Rattle.acpi_listing.specs.Text.{joined}
-use Rattle.acpi_listing.specs.Evaluation.{outcome_line}
+use Rattle.acpi_listing.specs.Arguments.{ListsArguments, ListsBadArguments}
+use Rattle.acpi_text.specs.Lists.{Lists}
+use Rattle.acpi_text.specs.Outcome.{outcome_line, refusal_line}
+use Rattle.acpi_listing.specs.Faults.{fault_line}
 use Rattle.acpi_listing.specs.Files.{Answers, Opens, ListsFiles}
 use Rattle.acpi_listing.specs.Input.{NextLine, IsTorn, IsRead, hex_answers}
 use Rattle.acpi_listing.specs.declared.fault.Fault.{Fault}
@@ -25,8 +26,8 @@ use Rattle.acpi_listing.specs.declared.fault.Fault.TheVariants as fault
 use Rattle.acpi_listing.specs.declared.fault.Stop.{Stop}
 use Rattle.acpi_listing.specs.declared.fault.Stop.TheVariants.{Fault as Faulty, Run}
 use Rattle.acpi_listing.specs.declared.input.Input.{Input}
-use Rattle.acpi_listing.specs.declared.lines_of_input.HexLines.{HexLines}
-use Rattle.acpi_listing.specs.declared.put.RunFault.{RunFault}
+use Rattle.acpi_listing.specs.declared.hex_lines.HexLines.{HexLines}
+use Rattle.acpi_text.specs.declared.writing.RunFault.{RunFault}
 use Rattle.acpi_listing.specs.declared.words.Request.{Request}
 use Rattle.acpi_listing.specs.declared.words.Request.TheVariants.{Tables, Eval}
 
@@ -77,18 +78,24 @@ FaultyFile answers old file word arguments new f =
 abbrev pub FaultyEval : {F : Type 0} → Answers F → F → List ℕ → List ℕ → Option (List ℕ) → F → Fault → Type 0
 FaultyEval answers old file word args new f =
     (f ≡ fault.NoMemory)
-    ⊎ (((f ≡ fault.BadArgs) × GivesNone args × (new ≡ old))
-    ⊎ ((arguments : List ℕ) × Given args arguments × FaultyFile answers old file word arguments new f))
+    ⊎ (((f ≡ fault.BadArgs) × ListsBadArguments args × (new ≡ old))
+    ⊎ ((arguments : List ℕ) × ListsArguments args arguments × FaultyFile answers old file word arguments new f))
 
--- how `eval` ends: a refused body's line, or the line of the meaning's outcome; a fault, and nothing is printed; or a beginning of a line
+-- what `eval` prints of a file's method, and its status: the line of a refused body, or that of the meaning's outcome
+abbrev pub IsAnswerOf : {F : Type 0} → Answers F → F → List ℕ → List ℕ → Option (List ℕ) → ℕ → F → List ℕ → ℕ → Type 0
+IsAnswerOf answers old file word args steps new line ended =
+    (ns : Shown) × (m : Method) × Finds answers old file word new ns m
+    × (((refusal : Refusal) × ReadsBodyOf ns m (Err (Refused refusal)) × (line ≡ refusal_line word m.table refusal) × (ended ≡ 3))
+    ⊎ ((ts : List Tree) × (arguments : List ℕ) × (outcome : Outcome) × IsBodyOf ns m ts × ListsArguments args arguments × Takes ns m arguments
+    × Evaluates ns m (trees ts) arguments steps outcome × (line ≡ outcome_line outcome) × (ended ≡ status outcome)))
+
+-- how `eval` ends: its line; a fault, and nothing is printed; or a beginning of its line
 abbrev pub EvaluatesFile : {F : Type 0} → Answers F → F → List ℕ → List ℕ → Option (List ℕ) → ℕ → F → Option (List ℕ) → Option (List ℕ) → Result ℕ Stop → Type 0
 EvaluatesFile answers old file word args steps new held holds (Ok ended) =
-    (ns : Shown) × (m : Method) × Finds answers old file word new ns m
-    × (((refusal : Refusal) × (line : List ℕ) × ReadsBodyOf ns m (Err (Refused refusal)) × Appends held holds line × (ended ≡ 3))
-    ⊎ ((ts : List Tree) × (arguments : List ℕ) × (outcome : Outcome) × IsBodyOf ns m ts × Given args arguments × Takes ns m arguments
-    × Evaluates ns m (trees ts) arguments steps outcome × Appends held holds (outcome_line outcome) × (ended ≡ status outcome)))
+    (line : List ℕ) × IsAnswerOf answers old file word args steps new line ended × Appends held holds line
 EvaluatesFile answers old file word args steps new held holds (Err (Faulty f)) = FaultyEval answers old file word args new f × (holds ≡ held)
-EvaluatesFile answers old file word args steps new held holds (Err (Run _)) = (line : List ℕ) × Appends held holds line
+EvaluatesFile answers old file word args steps new held holds (Err (Run _)) =
+    (front rest : List ℕ) × (ended : ℕ) × IsAnswerOf answers old file word args steps new (front ++ rest) ended × Appends held holds front
 
 -- what the words ask for is done, with files of a source
 abbrev pub Obeys : {F : Type 0} → Answers F → F → Request → F → Option (List ℕ) → Option (List ℕ) → Result ℕ Stop → Type 0
@@ -106,20 +113,9 @@ abbrev pub fault_status : Fault → ℕ
 fault_status fault.CommandLine = 2
 fault_status _ = 1
 
--- the line of a fault whose number and name are this text
-unfoldable pub fault_line : List ℕ → List ℕ
-fault_line name = joined (codes "fault " ∷ name ∷ codes "\n" ∷ [])
-
--- a line that tells a fault: `fault`, its number and name
-abbrev pub TellsFault : Fault → List ℕ → Type 0
-TellsFault fault.NoMemory line = line ≡ codes "fault E524 NoMemory\n"
-TellsFault _ line = (name : List ℕ) × (line ≡ fault_line name)
-
--- a fault is told on a line of its own, or a beginning of that
+-- a fault is told on a line of its own, or a beginning of that, and its status answered
 abbrev pub Reports : Fault → Option (List ℕ) → Option (List ℕ) → Result ℕ RunFault → Type 0
-Reports f held holds (Ok ended) =
-    (ended ≡ fault_status f) × ((line : List ℕ) × TellsFault f line × Appends held holds line)
-Reports f held holds (Err _) = (line : List ℕ) × Appends held holds line
+Reports f held holds r = IfOk r (λ ended. ended ≡ fault_status f) × Lists r held holds (fault_line f)
 
 -- what follows a command: its status, its fault's line, or its end
 abbrev pub Ends : Result ℕ Stop → Option (List ℕ) → Option (List ℕ) → Result ℕ RunFault → Type 0

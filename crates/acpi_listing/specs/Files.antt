@@ -6,8 +6,8 @@ use Rattle.aml_namespace.specs.declared.fault.LoadFault.TheVariants as load
 use Rattle.acpi_tables.specs.Fault.{first_fault}
 use Rattle.acpi_tables.specs.declared.fault.TableFault.{TableFault}
 use Rattle.acpi_listing.specs.Reading.{file_kind, file_checks, Says}
-use Rattle.acpi_listing.specs.Tables.{table_text}
-use Rattle.acpi_listing.specs.declared.table.Table.{Table}
+use Rattle.acpi_text.specs.Tables.{table_text}
+use Rattle.acpi_text.specs.declared.table.Table.{Table}
 use Rattle.acpi_listing.specs.declared.fault.Fault.{Fault}
 use Rattle.acpi_listing.specs.declared.fault.Fault.TheVariants as fault
 use Rattle.acpi_listing.specs.declared.fault.Stop.{Stop}

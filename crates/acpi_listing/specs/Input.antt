@@ -5,7 +5,7 @@ use Rattle.hex.specs.Hex.{decode_of}
 use Rattle.hex.specs.declared.error.FromHexError.{FromHexError}
 use Rattle.acpi_listing.specs.Files.{limit}
 use Rattle.acpi_listing.specs.declared.input.Input.{Input}
-use Rattle.acpi_listing.specs.declared.lines_of_input.HexLines.{HexLines}
+use Rattle.acpi_listing.specs.declared.hex_lines.HexLines.{HexLines}
 use Rattle.acpi_listing.specs.declared.source.SourceFault.{SourceFault}
 use Rattle.acpi_listing.specs.declared.source.SourceFault.TheVariants.{File, NoMemory}
 

@@ -1,10 +1,6 @@
-pub mod Text
-pub mod Lists
-pub mod Evaluation
-pub mod Structures
-pub mod Tables
 pub mod Reading
 pub mod Files
+pub mod Faults
 pub mod Arguments
 pub mod Input
 pub mod Commands

@@ -1,10 +1,10 @@
 -- Which table a file is, by its first bytes, and what it says.
 use Rattle.std.specs.Prelude.{ℕ, List, [], ⊤, Bool, nat_eq, codes, if◌then◌else◌}
 use Rattle.std.specs.List.{starts_with}
-use Rattle.acpi_listing.specs.declared.table.Table.{Table}
-use Rattle.acpi_listing.specs.declared.table.Table.TheVariants.{Pointer, Firmware, Addresses, Fixed, Interrupts, Other}
-use Rattle.acpi_listing.specs.declared.table.FileKind.{FileKind}
-use Rattle.acpi_listing.specs.declared.table.FileKind.TheVariants as kind
+use Rattle.acpi_text.specs.declared.table.Table.{Table}
+use Rattle.acpi_text.specs.declared.table.Table.TheVariants.{Pointer, Firmware, Addresses, Fixed, Interrupts, Other}
+use Rattle.acpi_listing.specs.declared.any_table.FileKind.{FileKind}
+use Rattle.acpi_listing.specs.declared.any_table.FileKind.TheVariants as kind
 use Rattle.acpi_tables.specs.Fault.{Check}
 use Rattle.acpi_tables.specs.Header.{IsTable, HasHeader, header_checks}
 use Rattle.acpi_tables.specs.Rsdp.{IsRsdp, HasRsdp, rsdp_checks}

@@ -2,24 +2,21 @@
 
 ghost use Rattle.std.specs.Prelude.{◌≡◌, ◌<◌, ◌≤◌, ◌⊎◌, ◌↔◌, ℕ, List, true};
 ghost use Rattle.std.specs.Prelude.{IfOk, IfErr, length, option_map, vec_items};
-ghost use Rattle.acpi_listing.specs.Arguments.{Given, GivesNone};
+ghost use Rattle.acpi_listing.specs.Arguments.{ListsArguments, ListsBadArguments};
 ghost use Rattle.aml_namespace.specs.Load.{shown};
-ghost use Rattle.acpi_listing.specs.Lists.{Lists};
 ghost use Rattle.acpi_listing.specs.Commands.{EvaluatesFile, LoadsOrFails, Names, NamesNone};
 ghost use Rattle.acpi_listing.specs.Commands.{HasSegment, Takes, status};
 ghost use Rattle.acpi_listing.specs.declared.fault.Fault.TheVariants as fault;
 
 use crate::arguments::read_arguments;
-use crate::evaluation::list_evaluation;
 use crate::fault::{Fault, Stop};
-use crate::files::read_file;
-use crate::put::{RunFault, put};
-use crate::source::Source;
+use crate::source::{Source, read_within_limit};
 use crate::words::EvalRequest;
+use acpi_text::{list_evaluation, list_refusal};
 use aml_lex::NameSeg;
 use aml_namespace::{Method, Namespace, ObjectId};
 use aml_plain::{Outcome, evaluate_terms};
-use aml_tree::{Refusal, TreeFault};
+use aml_tree::TreeFault;
 use std::alloc::Global;
 use std::io::Write;
 
@@ -36,7 +33,7 @@ pub fn evaluate<F: Source, W: Write>(
         (W.contents out.old) (W.contents out.new) result }
 {
     let arguments = arguments_of(alloc, request)?;
-    let table = read_file(files, request.file)?;
+    let table = read_within_limit(files, request.file)?;
     let namespace = load(alloc, &table)?;
     let (id, method) = find_method(&namespace, request.method)?;
     let body = match namespace.tree(alloc, id) {
@@ -57,9 +54,9 @@ pub fn evaluate<F: Source, W: Write>(
 
 fn arguments_of(alloc: Global, request: &EvalRequest<'_>) -> Result<Vec<u64>, Fault>
     ensures given { IfOk result
-        (λ ns. Given (option_map (λ text. text.now) request.now.args) (vec_items ns)) }
+        (λ ns. ListsArguments (option_map (λ text. text.now) request.now.args) (vec_items ns)) }
     ensures faults { IfErr result (λ f. (f ≡ fault.NoMemory)
-        ⊎ ((f ≡ fault.BadArgs) × GivesNone (option_map (λ text. text.now) request.now.args))) }
+        ⊎ ((f ≡ fault.BadArgs) × ListsBadArguments (option_map (λ text. text.now) request.now.args))) }
 {
     match request.args {
         Some(text) => read_arguments(alloc, text),
@@ -112,22 +109,6 @@ fn fits(namespace: &Namespace<'_>, method: Method, arguments: &[u64]) -> bool
 {
     let greatest = namespace.width().greatest();
     arguments.len() == usize::from(method.args) && arguments.iter().all(|n| *n <= greatest)
-}
-
-// `PATH refused TABLE PLACE CAUSE NAME`.
-fn list_refusal<W: Write>(
-    alloc: Global,
-    out: &mut W,
-    path: &str,
-    table: usize,
-    refusal: Refusal,
-) -> Result<(), RunFault>
-    ensures { (text : List ℕ) × Lists result (W.contents out.old) (W.contents out.new) text }
-{
-    let at = refusal.at;
-    let cause = refusal.cause;
-    let line = format!(in alloc; "{path} refused {table} {at} {cause}\n")?;
-    put(out, line.as_bytes())
 }
 
 fn status_of(outcome: &Outcome) -> u8

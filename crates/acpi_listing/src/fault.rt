@@ -6,42 +6,34 @@ ghost use Rattle.acpi_listing.specs.Commands.{fault_status};
 ghost use Rattle.acpi_listing.specs.declared.fault.Fault.TheVariants as told;
 ghost use Rattle.acpi_listing.specs.declared.fault.Stop.TheVariants as stop;
 
-use crate::put::RunFault;
 use crate::source::SourceFault;
 use acpi_tables::{TableCause, TableFault};
+use acpi_text::RunFault;
 use aml_namespace::{LoadFault, LoadRefusal};
 use std::alloc::{AllocError, AllocFailed};
-use thiserror::Error;
 
 /// What ends a command with a fault line.
-#[derive(Clone, Copy, Debug, PartialEq, Eq, Error)]
+#[derive(Clone, Copy, Debug, PartialEq, Eq)]
 pub enum Fault {
     /// The words are no command line.
-    #[error("E520 CommandLine")]
     CommandLine,
     /// The text of `--args` is no list of integers.
-    #[error("E521 BadArgs")]
     BadArgs,
     /// Too many or too few arguments for the method, or one above the greatest integer.
-    #[error("E522 ArgsDontFit")]
     ArgsDontFit,
     /// A file or a line of the input that cannot be read.
-    #[error("E523 File")]
     File,
-    #[error("E524 NoMemory")]
+    /// No memory.
     NoMemory,
     /// No method has that path.
-    #[error("E525 NoSuchObject")]
     NoSuchObject,
     /// A table that cannot be listed: what is wrong, in which file, from 0, and at which byte.
-    #[error("{cause} {file} {at}")]
     Table {
         cause: TableCause,
         file: usize,
         at: usize,
     },
     /// A table that cannot be loaded.
-    #[error(transparent)]
     Load(LoadRefusal),
 }
 

@@ -1,17 +1,18 @@
 // The program over any source of files and any writer.
 
-ghost use Rattle.std.specs.Prelude.{◌≡◌, ◌≤◌, ◌↔◌, IsTrue, IfOk, string_bytes, vec_items};
+ghost use Rattle.std.specs.Prelude.{◌≡◌, ◌≤◌, ◌↔◌, IsTrue, IfOk, vec_items};
 ghost use Rattle.acpi_listing.specs.Input.{IsTorn};
-ghost use Rattle.acpi_listing.specs.Commands.{ObeysWords, Reports, RunsWords, RunsInput, fault_line};
+ghost use Rattle.acpi_listing.specs.Commands.{ObeysWords, Reports, RunsWords, RunsInput};
 
 use crate::eval::evaluate;
 use crate::fault::{Fault, Stop};
+use crate::fault_line::list_fault;
 use crate::files::list_files;
+use crate::hex_lines::{HexLines, Lines};
 use crate::input::{Input, read_input};
-use crate::lines_of_input::{HexLines, Lines};
-use crate::put::{RunFault, put};
 use crate::source::Source;
 use crate::words::{Request, read_words};
+use acpi_text::{RunFault, put};
 use std::alloc::{AllocError, Global};
 use std::convert::AsStr;
 use std::io::{Read, Write};
@@ -88,26 +89,13 @@ fn split_words(alloc: Global, text: &str) -> Result<Vec<&str>, AllocError> {
     Ok(words)
 }
 
-// Writes a fault's line. Want of memory needs no memory to be told.
+// Writes a fault's line, and answers its status.
 fn report<W: Write>(alloc: Global, out: &mut W, fault: Fault) -> Result<u8, RunFault>
     ensures status { IfOk result (λ status. status ≤ 3) }
     ensures told { Reports fault (W.contents out.old) (W.contents out.new) result }
 {
-    if fault == Fault::NoMemory {
-        put(out, b"fault E524 NoMemory\n")?;
-        return Ok(fault.status());
-    }
-    let name = format!(in alloc; "{fault}")?;
-    let line = fault_line_of(alloc, name.as_str())?;
-    put(out, line.as_bytes())?;
+    list_fault(alloc, out, fault)?;
     Ok(fault.status())
-}
-
-#[tactic(auto, unfolding(crate::specs::Commands::fault_line))]
-fn fault_line_of(alloc: Global, name: &str) -> Result<String, AllocError>
-    ensures { IfOk result (λ line. string_bytes line ≡ fault_line name.now) }
-{
-    format!(in alloc; "fault {name}\n")
 }
 
 fn obey<S: AsStr, F: Source, W: Write>(

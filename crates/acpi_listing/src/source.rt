@@ -1,9 +1,11 @@
 // Where a command's files come from.
 
 ghost use Rattle.std.specs.Prelude.{ℕ, List, Result};
-ghost use Rattle.acpi_listing.specs.Files.{bytes_of};
+ghost use Rattle.acpi_listing.specs.Files.{Opens, bytes_of};
 ghost use Rattle.acpi_listing.specs.declared.source.SourceFault.{SourceFault};
 
+use crate::fault::Fault;
+use crate::input::INPUT_LIMIT;
 use thiserror::Error;
 
 /// Why a file has no bytes.
@@ -25,4 +27,15 @@ pub trait Source {
     /// The bytes of the file of that name.
     fn read(&mut self, name: &str) -> Result<Vec<u8>, SourceFault>
         ensures { answers self.old name.now (bytes_of result) self.new };
+}
+
+/// Reads a file of at most [`INPUT_LIMIT`] bytes.
+pub fn read_within_limit<F: Source>(files: &mut F, name: &str) -> Result<Vec<u8>, Fault>
+    ensures { Opens F.answers files.old name.now (bytes_of result) files.new }
+{
+    let bytes = files.read(name)?;
+    if bytes.len() > INPUT_LIMIT {
+        return Err(Fault::File);
+    }
+    Ok(bytes)
 }

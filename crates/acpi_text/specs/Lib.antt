@@ -1,0 +1,6 @@
+pub mod Text
+pub mod Lists
+pub mod Causes
+pub mod Outcome
+pub mod Structures
+pub mod Tables

@@ -1,0 +1,20 @@
+-- How an evaluation ended, as it is printed.
+use Rattle.std.specs.Prelude.{ℕ, List, [], ◌∷◌, Some, None, codes, decimal}
+use Rattle.acpi_text.specs.Causes.{aml_cause_text, tree_cause_text}
+use Rattle.acpi_text.specs.Text.{joined, hex}
+use Rattle.aml_tree.specs.declared.fault.Refusal.{Refusal}
+use Rattle.aml_plain.specs.declared.body.Outcome.{Outcome}
+use Rattle.aml_plain.specs.declared.body.Outcome.TheVariants.{Done, AmlError, OutOfSteps}
+
+-- the line of an outcome: the result, or the error's table, place, number and name
+abbrev pub outcome_line : Outcome → List ℕ
+outcome_line (Done (Some value)) = joined (codes "result 0x" ∷ hex value ∷ codes "\n" ∷ [])
+outcome_line (Done None) = codes "result none\n"
+outcome_line (AmlError error) =
+    joined (codes "error " ∷ decimal error.table ∷ codes " " ∷ decimal error.at ∷ codes " " ∷ aml_cause_text error.cause ∷ codes "\n" ∷ [])
+outcome_line OutOfSteps = codes "out of steps\n"
+
+-- the line of a method whose body cannot be read: its path and table, and the place, number and name of what is wrong
+unfoldable pub refusal_line : List ℕ → ℕ → Refusal → List ℕ
+refusal_line path table refusal =
+    joined (path ∷ codes " refused " ∷ decimal table ∷ codes " " ∷ decimal refusal.at ∷ codes " " ∷ tree_cause_text refusal.cause ∷ codes "\n" ∷ [])

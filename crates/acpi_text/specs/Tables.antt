@@ -1,0 +1,116 @@
+-- What a table says, as it is printed.
+use Rattle.std.specs.Prelude.{ℕ, List, [], ◌∷◌, ◌++◌, Bool, true, false, Option, Some, None, codes, decimal}
+use Rattle.std.specs.List.{flat_map}
+use Rattle.std.specs.Option.{option_map}
+use Rattle.acpi_text.specs.Text.{joined, hex, escaped}
+use Rattle.acpi_text.specs.Structures.{structure_line}
+use Rattle.acpi_text.specs.declared.table.Table.{Table}
+use Rattle.acpi_text.specs.declared.table.Table.TheVariants.{Pointer, Firmware, Addresses, Fixed, Interrupts, Other}
+use Rattle.acpi_tables.specs.Xsdt.{listed}
+use Rattle.acpi_tables.specs.Fadt.{is_hardware_reduced}
+use Rattle.acpi_tables.specs.Madt.{entries, is_pcat_compatible}
+use Rattle.acpi_tables.specs.declared.header.Header.{Header}
+use Rattle.acpi_tables.specs.declared.rsdp.Rsdp.{Rsdp}
+use Rattle.acpi_tables.specs.declared.rsdp.RsdpExtension.{RsdpExtension}
+use Rattle.acpi_tables.specs.declared.fadt.Fadt.{Fadt}
+use Rattle.acpi_tables.specs.declared.madt.Madt.{Madt}
+
+-- the first part of a header's line: signature, length and revision
+unfoldable pub name_part : List ℕ → ℕ → ℕ → List ℕ
+name_part signature length revision = joined (
+    codes "table " ∷ signature
+    ∷ codes " length " ∷ decimal length
+    ∷ codes " revision " ∷ decimal revision ∷ [])
+
+-- the rest of a header's line: OEM id, OEM table id and OEM revision
+unfoldable pub oem_part : List ℕ → List ℕ → ℕ → List ℕ
+oem_part oem_id oem_table_id oem_revision = joined (
+    codes " oem \"" ∷ oem_id
+    ∷ codes "\" \"" ∷ oem_table_id
+    ∷ codes "\" 0x" ∷ hex oem_revision
+    ∷ codes "\n" ∷ [])
+
+-- the line of a table by its header
+unfoldable pub header_line : Header → List ℕ
+header_line header =
+    name_part (escaped header.signature.now) header.length header.revision
+    ++ oem_part (escaped header.oem_id.now) (escaped header.oem_table_id.now) header.oem_revision
+
+abbrev pub xsdt_part : Option RsdpExtension → List ℕ
+xsdt_part None = []
+xsdt_part (Some extension) = codes " xsdt 0x" ++ hex extension.xsdt_address
+
+-- the line of an RSDP, from revision 2 on with the XSDT's address
+unfoldable pub pointer_line : Rsdp → List ℕ
+pointer_line rsdp = joined (
+    codes "rsdp revision " ∷ decimal rsdp.revision
+    ∷ codes " rsdt 0x" ∷ hex rsdp.rsdt_address
+    ∷ xsdt_part rsdp.extension
+    ∷ codes "\n" ∷ [])
+
+-- the line of an address in an XSDT
+unfoldable pub address_line : ℕ → List ℕ
+address_line address = joined (codes "  entry 0x" ∷ hex address ∷ codes "\n" ∷ [])
+
+unfoldable pub decimal_or_absent : Option ℕ → List ℕ
+decimal_or_absent None = codes "absent"
+decimal_or_absent (Some n) = decimal n
+
+unfoldable pub hex_or_absent : Option ℕ → List ℕ
+hex_or_absent None = codes "absent"
+hex_or_absent (Some n) = codes "0x" ++ hex n
+
+unfoldable pub yes_or_no : Bool → List ℕ
+yes_or_no true = codes "yes"
+yes_or_no false = codes "no"
+
+unfoldable pub yes_or_absent : Option Bool → List ℕ
+yes_or_absent None = codes "absent"
+yes_or_absent (Some b) = yes_or_no b
+
+-- the first three lines of a FADT's fields, of these texts
+unfoldable pub fixed_front : List ℕ → List ℕ → List ℕ → List ℕ
+fixed_front dsdt profile sci = joined (
+    codes "  dsdt " ∷ dsdt
+    ∷ codes "\n  profile " ∷ profile
+    ∷ codes "\n  sci " ∷ sci
+    ∷ codes "\n" ∷ [])
+
+-- the other three
+unfoldable pub fixed_back : List ℕ → List ℕ → List ℕ → List ℕ
+fixed_back flags reduced x_dsdt = joined (
+    codes "  flags " ∷ flags
+    ∷ codes "\n  hardware-reduced " ∷ reduced
+    ∷ codes "\n  x_dsdt " ∷ x_dsdt
+    ∷ codes "\n" ∷ [])
+
+-- the lines of a FADT's fields
+unfoldable pub fixed_lines : Fadt → List ℕ
+fixed_lines fadt =
+    fixed_front (hex_or_absent fadt.dsdt) (decimal_or_absent fadt.preferred_profile) (decimal_or_absent fadt.sci_interrupt)
+    ++ fixed_back (hex_or_absent fadt.flags) (yes_or_absent (option_map is_hardware_reduced fadt.flags)) (hex_or_absent fadt.x_dsdt)
+
+-- the lines of a MADT's own fields, the last of this text
+unfoldable pub interrupt_text : ℕ → ℕ → List ℕ → List ℕ
+interrupt_text local flags pcat = joined (
+    codes "  local 0x" ∷ hex local
+    ∷ codes "\n  flags 0x" ∷ hex flags
+    ∷ codes "\n  pcat " ∷ pcat
+    ∷ codes "\n" ∷ [])
+
+-- the lines of a MADT's own fields
+unfoldable pub interrupt_lines : Madt → List ℕ
+interrupt_lines madt = interrupt_text madt.local_address madt.flags (yes_or_no (is_pcat_compatible madt.flags))
+
+-- what a table says
+abbrev pub table_text : Table → List ℕ
+table_text (Pointer rsdp) = pointer_line rsdp
+table_text Firmware = codes "facs left out\n"
+table_text (Addresses xsdt) = header_line xsdt.header ++ flat_map address_line (listed xsdt)
+table_text (Fixed fadt) = header_line fadt.header ++ fixed_lines fadt
+table_text (Interrupts madt) = header_line madt.header ++ (interrupt_lines madt ++ flat_map structure_line (entries madt))
+table_text (Other header) = header_line header
+
+-- what tables say, one after the other
+abbrev pub tables_text : List Table → List ℕ
+tables_text tables = flat_map table_text tables

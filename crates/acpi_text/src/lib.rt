@@ -1,0 +1,21 @@
+//! The texts of values, outcomes, causes of faults and tables, as they are printed.
+#![tactic(auto)]
+
+mod causes;
+mod escaped;
+mod outcome;
+mod refusal;
+mod structures;
+mod table;
+mod table_lines;
+mod tables;
+mod writing;
+
+pub use causes::{
+    aml_cause_name, lex_cause_name, load_cause_name, table_cause_name, tree_cause_name,
+};
+pub use outcome::list_evaluation;
+pub use refusal::list_refusal;
+pub use table::Table;
+pub use tables::list_tables;
+pub use writing::{RunFault, put};

@@ -1,0 +1,186 @@
+// The lines of tables, but those of a MADT's structures.
+
+ghost use Rattle.std.specs.Prelude.{◌≡◌, IfOk, string_bytes};
+ghost use Rattle.acpi_text.specs.Tables.{name_part, oem_part, fixed_front, fixed_back, interrupt_text, header_line, pointer_line, address_line, fixed_lines, interrupt_lines, decimal_or_absent, hex_or_absent, yes_or_no, yes_or_absent};
+
+use crate::escaped::escaped_text;
+use acpi_tables::{Fadt, Header, Madt, Rsdp};
+use std::alloc::{AllocError, Global};
+
+/// `table SIG length N revision N oem "TEXT" "TEXT" 0xREV`.
+#[tactic(auto, unfolding(crate::specs::Tables::header_line))]
+pub fn header(alloc: Global, header: &Header<'_>) -> Result<String, AllocError>
+    ensures { IfOk result (λ line. string_bytes line ≡ header_line header.now) }
+{
+    let signature = escaped_text(alloc, header.signature)?;
+    let name = name_of(alloc, signature.as_str(), header.length, header.revision)?;
+    let oem_id = escaped_text(alloc, header.oem_id)?;
+    let oem_table_id = escaped_text(alloc, header.oem_table_id)?;
+    let oem = oem_of(
+        alloc,
+        oem_id.as_str(),
+        oem_table_id.as_str(),
+        header.oem_revision,
+    )?;
+    format!(in alloc; "{name}{oem}")
+}
+
+#[tactic(auto, unfolding(crate::specs::Tables::name_part))]
+fn name_of(alloc: Global, signature: &str, length: u32, revision: u8) -> Result<String, AllocError>
+    ensures { IfOk result (λ part. string_bytes part ≡ name_part signature.now length revision) }
+{
+    format!(in alloc; "table {signature} length {length} revision {revision}")
+}
+
+#[tactic(auto, unfolding(crate::specs::Tables::oem_part))]
+fn oem_of(
+    alloc: Global,
+    oem_id: &str,
+    oem_table_id: &str,
+    oem_revision: u32,
+) -> Result<String, AllocError>
+    ensures { IfOk result
+        (λ part. string_bytes part ≡ oem_part oem_id.now oem_table_id.now oem_revision) }
+{
+    format!(in alloc; " oem \"{oem_id}\" \"{oem_table_id}\" 0x{oem_revision:x}\n")
+}
+
+/// `rsdp revision N rsdt 0xA`, from revision 2 on also ` xsdt 0xA`.
+#[tactic(auto, unfolding(crate::specs::Tables::pointer_line))]
+pub fn pointer(alloc: Global, rsdp: &Rsdp<'_>) -> Result<String, AllocError>
+    ensures { IfOk result (λ line. string_bytes line ≡ pointer_line rsdp.now) }
+{
+    let revision = rsdp.revision;
+    let rsdt = rsdp.rsdt_address;
+    match rsdp.extension {
+        None => format!(in alloc; "rsdp revision {revision} rsdt 0x{rsdt:x}\n"),
+        Some(extension) => {
+            let xsdt = extension.xsdt_address;
+            format!(in alloc; "rsdp revision {revision} rsdt 0x{rsdt:x} xsdt 0x{xsdt:x}\n")
+        }
+    }
+}
+
+/// `entry 0xA`, of an XSDT.
+#[tactic(auto, unfolding(crate::specs::Tables::address_line))]
+pub fn address(alloc: Global, address: u64) -> Result<String, AllocError>
+    ensures { IfOk result (λ line. string_bytes line ≡ address_line address) }
+{
+    format!(in alloc; "  entry 0x{address:x}\n")
+}
+
+/// The lines of a FADT's fields.
+#[tactic(auto, unfolding(crate::specs::Tables::fixed_lines))]
+pub fn fixed(alloc: Global, fadt: &Fadt<'_>) -> Result<String, AllocError>
+    ensures { IfOk result (λ lines. string_bytes lines ≡ fixed_lines fadt.now) }
+{
+    let dsdt = hex_field(alloc, wide_u32(fadt.dsdt))?;
+    let profile = decimal_field(alloc, wide_u8(fadt.preferred_profile))?;
+    let sci = decimal_field(alloc, wide_u16(fadt.sci_interrupt))?;
+    let front = fixed_front_of(alloc, dsdt.as_str(), profile.as_str(), sci.as_str())?;
+    let flags = hex_field(alloc, wide_u32(fadt.flags))?;
+    let reduced = yes_field(fadt.hardware_reduced());
+    let x_dsdt = hex_field(alloc, fadt.x_dsdt)?;
+    let back = fixed_back_of(alloc, flags.as_str(), reduced, x_dsdt.as_str())?;
+    format!(in alloc; "{front}{back}")
+}
+
+#[tactic(auto, unfolding(crate::specs::Tables::fixed_front))]
+fn fixed_front_of(alloc: Global, dsdt: &str, profile: &str, sci: &str) -> Result<String, AllocError>
+    ensures { IfOk result (λ lines. string_bytes lines ≡ fixed_front dsdt.now profile.now sci.now) }
+{
+    format!(in alloc; "  dsdt {dsdt}\n  profile {profile}\n  sci {sci}\n")
+}
+
+#[tactic(auto, unfolding(crate::specs::Tables::fixed_back))]
+fn fixed_back_of(
+    alloc: Global,
+    flags: &str,
+    reduced: &str,
+    x_dsdt: &str,
+) -> Result<String, AllocError>
+    ensures { IfOk result
+        (λ lines. string_bytes lines ≡ fixed_back flags.now reduced.now x_dsdt.now) }
+{
+    format!(in alloc; "  flags {flags}\n  hardware-reduced {reduced}\n  x_dsdt {x_dsdt}\n")
+}
+
+/// The lines of a MADT's own fields.
+#[tactic(auto, unfolding(crate::specs::Tables::interrupt_lines))]
+pub fn interrupts(alloc: Global, madt: &Madt<'_>) -> Result<String, AllocError>
+    ensures { IfOk result (λ lines. string_bytes lines ≡ interrupt_lines madt.now) }
+{
+    let pcat = yes(madt.pcat_compatible());
+    interrupts_of(alloc, madt.local_address, madt.flags, pcat)
+}
+
+#[tactic(auto, unfolding(crate::specs::Tables::interrupt_text))]
+fn interrupts_of(alloc: Global, local: u32, flags: u32, pcat: &str) -> Result<String, AllocError>
+    ensures { IfOk result (λ lines. string_bytes lines ≡ interrupt_text local flags pcat.now) }
+{
+    format!(in alloc; "  local 0x{local:x}\n  flags 0x{flags:x}\n  pcat {pcat}\n")
+}
+
+#[tactic(auto, unfolding(crate::specs::Tables::decimal_or_absent))]
+fn decimal_field(alloc: Global, field: Option<u64>) -> Result<String, AllocError>
+    ensures { IfOk result (λ text. string_bytes text ≡ decimal_or_absent field) }
+{
+    match field {
+        None => format!(in alloc; "absent"),
+        Some(n) => format!(in alloc; "{n}"),
+    }
+}
+
+#[tactic(auto, unfolding(crate::specs::Tables::hex_or_absent))]
+fn hex_field(alloc: Global, field: Option<u64>) -> Result<String, AllocError>
+    ensures { IfOk result (λ text. string_bytes text ≡ hex_or_absent field) }
+{
+    match field {
+        None => format!(in alloc; "absent"),
+        Some(n) => format!(in alloc; "0x{n:x}"),
+    }
+}
+
+#[tactic(auto, unfolding(crate::specs::Tables::yes_or_absent))]
+fn yes_field(field: Option<bool>) -> &'static str
+    ensures { result.now ≡ yes_or_absent field }
+{
+    match field {
+        None => "absent",
+        Some(b) => yes(b),
+    }
+}
+
+#[tactic(auto, unfolding(crate::specs::Tables::yes_or_no))]
+fn yes(b: bool) -> &'static str
+    ensures { result.now ≡ yes_or_no b }
+{
+    if b { "yes" } else { "no" }
+}
+
+fn wide_u8(field: Option<u8>) -> Option<u64>
+    ensures { result ≡ field }
+{
+    match field {
+        None => None,
+        Some(n) => Some(u64::from(n)),
+    }
+}
+
+fn wide_u16(field: Option<u16>) -> Option<u64>
+    ensures { result ≡ field }
+{
+    match field {
+        None => None,
+        Some(n) => Some(u64::from(n)),
+    }
+}
+
+fn wide_u32(field: Option<u32>) -> Option<u64>
+    ensures { result ≡ field }
+{
+    match field {
+        None => None,
+        Some(n) => Some(u64::from(n)),
+    }
+}

@@ -1,0 +1,42 @@
+// Writing text out.
+
+ghost use Rattle.std.specs.Prelude.{◌≡◌};
+ghost use Rattle.acpi_text.specs.Lists.{Lists};
+ghost use Rattle.acpi_text.specs.declared.writing.RunFault.TheVariants.{NoMemory};
+
+use std::alloc::AllocError;
+use std::io::Write;
+use thiserror::Error;
+
+/// Why a listing, or the program, ends without a status.
+#[derive(Clone, Copy, Debug, PartialEq, Eq, Error)]
+pub enum RunFault {
+    /// The writer failed, or took nothing.
+    #[error("write failed")]
+    Write,
+    /// A listing had no memory for a line.
+    #[error("no memory")]
+    NoMemory,
+}
+
+impl From<AllocError> for RunFault {
+    ghost from_gives = { λ _ fault. fault ≡ NoMemory };
+
+    fn from(_error: AllocError) -> RunFault {
+        RunFault::NoMemory
+    }
+}
+
+/// Writes the whole text, by as many writes as the writer wants.
+pub fn put<W: Write>(out: &mut W, text: &[u8]) -> Result<(), RunFault>
+    ensures { Lists result (W.contents out.old) (W.contents out.new) text.now }
+{
+    let mut rest = text;
+    while !rest.is_empty() {
+        match out.write(rest) {
+            Ok(0) | Err(_) => return Err(RunFault::Write),
+            Ok(n) => rest = &rest[n..],
+        }
+    }
+    Ok(())
+}
