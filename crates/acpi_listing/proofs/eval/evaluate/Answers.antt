@@ -1,6 +1,7 @@
 use Rattle.std.proofs.Common.{◌≡◌, inl, inr, refl, map, subst, sym, true, option_map}
 use Rattle.aml_namespace.specs.Load.{shown, IsLoaded}
 use Rattle.aml_operators.specs.Tree.{view, views}
+use Rattle.aml_tree.proofs.Shaped.{body_shaped}
 use Rattle.aml_plain.specs.Methods.{Evaluates}
 use Rattle.acpi_listing.specs.Commands.{Takes, status}
 use Rattle.acpi_listing.proofs.Evaluations.{found_in, faulted, not_loaded, refused_answer, outcome_answer, cut_off}
@@ -49,6 +50,12 @@ returns-then-not-fits-clause-printed g c =
     let refuses : Takes ns m arguments → ⊥ =
     λ takes. let fits : c.fits.result ≡ true = c.fits.ensures.1 (subst (Takes ns m) (sym c.deref-2.ensures.value) takes) in absurd (cc (fits, c.if-not-fits.true)) in
     (inr (inr (arguments, c.in_ok-arguments.ensures.given, inr (inr (inr (ns, m, map view c.in-Ok.body.items, finds, body, refuses, refl))))), refl)
+
+-- the body that was read has its shape
+pub evaluate_terms-outcome-requires-clause-shaped : goal.evaluate_terms-outcome-requires-clause-shaped
+evaluate_terms-outcome-requires-clause-shaped g c =
+    let body = c.in-Ok.ensures c.in_ok-id.method c.in_ok-id.ensures.found.3 in
+    rw c.deref-3.ensures.value (body_shaped _ _ _ _ body).1
 
 pub returns-in_err-list_evaluation-clause-printed : goal.returns-in_err-list_evaluation-clause-printed
 returns-in_err-list_evaluation-clause-printed g c =
