@@ -6,7 +6,7 @@ ghost use Rattle.aml_lex.specs.Names.{name_of, seg_bytes, lone_segment};
 use std::fmt;
 
 /// A name segment: four characters, the first of them no digit.
-#[derive(Clone, Copy, Debug, PartialEq, Eq, Hash)]
+#[derive(Clone, Copy, Debug, PartialEq, Eq, PartialOrd, Ord, Hash)]
 pub struct NameSeg {
     pub bytes: [u8; 4],
 }
