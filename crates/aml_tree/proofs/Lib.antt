@@ -11,3 +11,6 @@ pub mod Faults
 pub mod Names
 pub mod Shaped
 pub mod Made
+pub mod RefusedBeginnings
+pub mod Refused
+pub mod Kept

@@ -18,6 +18,14 @@ OneModule = (bytes : List ℕ) (ts us : List Tree) → IsModule bytes ts → IsM
 abbrev pub OneBody : Type 0
 OneBody = (arity : NameString → ℕ → ℕ) (bytes : List ℕ) (from : ℕ) (ts us : List Tree) → IsBody arity bytes from ts → IsBody arity bytes from us → ts ≡ us
 
+-- a table has at most one fault as a module
+abbrev pub OneModuleFault : Type 0
+OneModuleFault = (bytes : List ℕ) (f g : Refusal) → FaultyModule bytes f → FaultyModule bytes g → f ≡ g
+
+-- bytes have at most one fault as a body from a place on
+abbrev pub OneBodyFault : Type 0
+OneBodyFault = (arity : NameString → ℕ → ℕ) (bytes : List ℕ) (from : ℕ) (f g : Refusal) → FaultyBody arity [] bytes from f → FaultyBody arity [] bytes from g → f ≡ g
+
 -- a module's fault stands within the table or at its end
 abbrev pub ModuleFaultsWithin : Type 0
 ModuleFaultsWithin = (bytes : List ℕ) (f : Refusal) → FaultyModule bytes f → f.at ≤ length bytes

@@ -1,6 +1,6 @@
 // Laws of the grammar. Each function does nothing: its contract is the law.
 
-ghost use Rattle.aml_tree.specs.Laws.{OneModule, OneBody, ModuleFaultsWithin, BodyFaultsWithin, ModuleIsSpelled, BodyIsSpelled, ModuleIsShaped, BodyIsShaped};
+ghost use Rattle.aml_tree.specs.Laws.{OneModule, OneBody, OneModuleFault, OneBodyFault, ModuleFaultsWithin, BodyFaultsWithin, ModuleIsSpelled, BodyIsSpelled, ModuleIsShaped, BodyIsShaped};
 
 /// A table has at most one module.
 pub fn modules_are_unique()
@@ -10,6 +10,12 @@ pub fn modules_are_unique()
 /// A span has at most one list of statements, where each name takes a fixed number of arguments.
 pub fn bodies_are_unique()
     ensures { OneBody }
+{}
+
+/// A table has at most one fault as a module, and a span as a body.
+pub fn faults_are_unique()
+    ensures module_fault { OneModuleFault }
+    ensures body_fault { OneBodyFault }
 {}
 
 /// Each fault stands within the bytes or at their end.

@@ -20,7 +20,7 @@ pub use arity::{Arity, NoArguments};
 pub use body::{Span, read_body};
 pub use fault::{Refusal, TreeCause, TreeFault};
 pub use laws::{
-    bodies_are_unique, faults_stand_within, modules_are_unique, names_are_there,
+    bodies_are_unique, faults_are_unique, faults_stand_within, modules_are_unique, names_are_there,
     trees_have_their_shape,
 };
 pub use module::read_module;
