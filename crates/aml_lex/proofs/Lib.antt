@@ -5,3 +5,4 @@ pub mod Readers
 pub mod Spelled
 pub mod SpelledNames
 pub mod ExactLaws
+pub mod Fronts

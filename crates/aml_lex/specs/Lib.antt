@@ -6,4 +6,5 @@ pub mod Names
 pub mod Reading
 pub mod Spelling
 pub mod Exact
+pub mod Standing
 pub mod Bounds

@@ -10,6 +10,7 @@ mod integers;
 mod name_reader;
 mod names;
 mod package;
+mod standing;
 mod strings;
 #[cfg(test)]
 mod tests;
@@ -20,6 +21,7 @@ pub use integers::integer_data;
 pub use name_reader::name_string;
 pub use names::{NameRef, NameSeg};
 pub use package::{package_end, pkg_length};
+pub use standing::{standing_name, standing_text};
 pub use strings::string_data;
 pub use theorems::{
     answers_end_within, faults_stand_within, spellings_are_read, spellings_are_unique,

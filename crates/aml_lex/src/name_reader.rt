@@ -155,7 +155,7 @@ pub fn name_string(bytes: &[u8], at: usize) -> Result<(NameRef<'_>, usize), LexF
 
 /// The name string, by its definition.
 #[tactic(auto, unfolding(crate::specs::Reading::name_string_at))]
-fn find_name_string(bytes: &[u8], at: usize) -> Result<(NameRef<'_>, usize), LexFault>
+pub(crate) fn find_name_string(bytes: &[u8], at: usize) -> Result<(NameRef<'_>, usize), LexFault>
     requires { at ≤ length bytes.now }
     ensures gives { Gives name_of result (name_string_at bytes.now at) }
     ensures ahead { IfOk result (λ r. at < r.1) }

@@ -25,7 +25,7 @@ pub fn string_data(bytes: &[u8], at: usize) -> Result<(&[u8], usize), LexFault>
 
 /// The string data, by its definition.
 #[tactic(auto, unfolding(crate::specs::Reading::string_data_at))]
-fn find_string_data(bytes: &[u8], at: usize) -> Result<(&[u8], usize), LexFault>
+pub(crate) fn find_string_data(bytes: &[u8], at: usize) -> Result<(&[u8], usize), LexFault>
     requires { at ≤ length bytes.now }
     ensures gives { Gives (λ (text : Bor (List ℕ)). text.now) result (string_data_at bytes.now at) }
     ensures ahead { IfOk result (λ r. at < r.1) }

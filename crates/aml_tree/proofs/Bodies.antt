@@ -1,5 +1,5 @@
 -- Bodies and modules are read as they stand.
-use Rattle.std.proofs.Common.{◌≡◌, ℕ, zero, suc, ◌+◌, ◌≤◌, ◌<◌, inl, inr, List, [], ◌∷◌, ◌++◌, length, None, Result, Ok, Err, refl, sym, ap, ◌∙◌, subst, arith, append_assoc}
+use Rattle.std.proofs.Common.{◌≡◌, ℕ, zero, suc, ◌+◌, ◌≤◌, ◌<◌, inl, inr, List, [], ◌∷◌, ◌++◌, length, Result, Ok, Err, refl, sym, ap, ◌∙◌, subst, arith, append_assoc}
 use Rattle.std.specs.Prelude.{nat_lt, true, false, Vec}
 use Rattle.std.proofs.lemmas.Bool.{lt-ltb, ltb-true, ltb-false}
 use Rattle.std.proofs.lemmas.List.{append-nil}
@@ -8,10 +8,7 @@ use Rattle.aml_operators.specs.declared.row.Spot.TheVariants as spot
 use Rattle.aml_operators.specs.declared.term.Term.{Term}
 use Rattle.aml_operators.specs.Tree.{Tree, stop_of}
 use Rattle.aml_lex.specs.NameStrings.{NameString}
-use Rattle.aml_lex.specs.Reading.{name_string_at}
 use Rattle.aml_lex.specs.declared.names.NameSeg.{NameSeg}
-use Rattle.aml_lex.specs.declared.fault.LexFault.{LexFault}
-use Rattle.aml_lex.proofs.Laws.{name_string_ends}
 use Rattle.aml_tree.specs.declared.fault.Refusal.{Refusal}
 use Rattle.aml_tree.specs.declared.fault.TreeFault.{TreeFault}
 use Rattle.aml_tree.specs.declared.fault.TreeFault.TheVariants.{NoMemory, Refused}
@@ -19,24 +16,19 @@ use Rattle.aml_tree.specs.Answers.{Answers}
 use Rattle.aml_tree.specs.Fault.{Fails, Gives}
 use Rattle.aml_tree.specs.Grammar.{AreTerms, FaultyTerms, IsTerm, Faulty}
 use Rattle.aml_tree.specs.Reading.{term_at}
-use Rattle.aml_tree.specs.Body.{greatest_depth, with_owns, owns_behind, segment_of, IsStatement, AreStatements, IsBody, FaultyBody, ReadsBody, module_start, no_arguments, IsModule, FaultyModule, ReadsModule, body_until, module_at, trees_of, trees_read}
+use Rattle.aml_tree.specs.Body.{greatest_depth, with_owns, owns_behind, IsStatement, AreStatements, IsBody, FaultyBody, ReadsBody, module_start, no_arguments, IsModule, FaultyModule, ReadsModule, body_until, module_at, trees_of, trees_read}
 use Rattle.aml_tree.proofs.Combining.{and_answers, weaker, by_test, of_ok, of_err}
 use Rattle.aml_tree.proofs.Bounds.{term_in}
 use Rattle.aml_tree.proofs.Right.{until_right}
 use Rattle.aml_tree.proofs.RightTerms.{term_right}
 use Rattle.aml_tree.proofs.Full.{not_below, term_full, until_full}
 
-no_segment : (bytes : List ℕ) (at : ℕ) (r : Result (NameString × ℕ) LexFault) → name_string_at bytes at ≡ r → length bytes < at → segment_of r ≡ None
-no_segment bytes at (Ok r) e lt = let w = name_string_ends bytes at r e in absurd (omega (arith, w))
-no_segment bytes at (Err f) e lt = refl
-
--- no name stands past the end
-pub nothing_past : (bytes : List ℕ) (at : ℕ) → length bytes < at → segment_of (name_string_at bytes at) ≡ None
-nothing_past bytes at lt = no_segment bytes at (name_string_at bytes at) refl lt
-
 module _ (arity : NameString → ℕ → ℕ) (bytes : List ℕ) where
   statement_right : (owns : List NameSeg) (at : ℕ) → Answers (term_at code.Body (with_owns arity owns) greatest_depth at spot.Statement bytes at) (IsStatement arity owns bytes at) (Faulty code.Body (with_owns arity owns) greatest_depth at spot.Statement bytes at)
   statement_right owns at = term_right code.Body (with_owns arity owns) greatest_depth at spot.Statement bytes at
+
+  pub statement_read : (owns : List NameSeg) (at : ℕ) (t : Tree) → term_at code.Body (with_owns arity owns) greatest_depth at spot.Statement bytes at ≡ Ok t → IsStatement arity owns bytes at t
+  statement_read owns at t e = of_ok _ _ _ _ (statement_right owns at) e
 
   statement_in : (owns : List NameSeg) (at : ℕ) (t : Tree) → IsStatement arity owns bytes at t → (at < stop_of t) × (stop_of t ≤ length bytes)
   statement_in owns at t h = term_in code.Body (with_owns arity owns) greatest_depth at spot.Statement bytes at t h

@@ -32,7 +32,7 @@ pub not_below : (a b : ℕ) → b ≤ a → (t : Bool) → nat_lt a b ≡ t → 
 not_below a b le true e = let lt : a < b = ltb-true _ _ e in absurd (omega arith)
 not_below a b le false e = refl
 
-other_byte : (b : ℕ) (o : Option ℕ) → (o ≡ Some b → ⊥) → (v : Bool) → is_byte b o ≡ v → v ≡ false
+pub other_byte : (b : ℕ) (o : Option ℕ) → (o ≡ Some b → ⊥) → (v : Bool) → is_byte b o ≡ v → v ≡ false
 other_byte b o ne false e = refl
 other_byte b None ne true e = absurd cc
 other_byte b (Some c) ne true e = absurd (ne (ap Some (eqb-true _ _ e)))
@@ -54,18 +54,18 @@ module _ (arity : NameString → ℕ → ℕ) (below : ℕ → Spot → List ℕ
       let test : nat_lt at (length bytes) ≡ true = lt-ltb at (length bytes) (omega (arith, w)) in
       rw (test, full own s bytes at t h.0, until_full own s bytes n (front ++ t ∷ []) (stop_of t) stop ts h.1 e (omega (arith, w)), append_assoc front (t ∷ []) ts)
 
-  counted_full : (own : ℕ) (bytes : List ℕ) (front : List Tree) (at stop : ℕ) (ts : List Tree) → AreTerms arity Below own spot.Term bytes at stop ts → terms_counted arity below own bytes (length ts) front at ≡ Ok (front ++ ts, stop)
+  pub counted_full : (own : ℕ) (bytes : List ℕ) (front : List Tree) (at stop : ℕ) (ts : List Tree) → AreTerms arity Below own spot.Term bytes at stop ts → terms_counted arity below own bytes (length ts) front at ≡ Ok (front ++ ts, stop)
   counted_full own bytes front at stop [] h = rw (append-nil front, h)
   counted_full own bytes front at stop (t ∷ ts) h = rw (full own spot.Term bytes at t h.0, counted_full own bytes (front ++ t ∷ []) (stop_of t) stop ts h.1, append_assoc front (t ∷ []) ts)
 
-  connection_full : (own : ℕ) (bytes : List ℕ) (at : ℕ) (t : Tree) → IsConnection arity Below own bytes at t → connection_at arity below own bytes at ≡ Ok t
+  pub connection_full : (own : ℕ) (bytes : List ℕ) (at : ℕ) (t : Tree) → IsConnection arity Below own bytes at t → connection_at arity below own bytes at ≡ Ok t
   unfolding connection_at
   connection_full own bytes at t (inl h) = rw (h.0, full own spot.Connection bytes at t h.1)
   connection_full own bytes at t (inr h) =
       let test : is_byte 0x11 (slice_get bytes at) ≡ false = other_byte 0x11 (slice_get bytes at) h.0 (is_byte 0x11 (slice_get bytes at)) refl in
       rw test (name_leaf_full bytes at t h.1)
 
-  piece_full : (p : Piece) (own : ℕ) (bytes : List ℕ) (at : ℕ) (t : Tree) → IsPiece arity Below p own bytes at t → piece_at arity below p own bytes at ≡ Ok t
+  pub piece_full : (p : Piece) (own : ℕ) (bytes : List ℕ) (at : ℕ) (t : Tree) → IsPiece arity Below p own bytes at t → piece_at arity below p own bytes at ≡ Ok t
   unfolding piece_at
   piece_full (piece.Term s) own bytes at t h = full own s bytes at t h
   piece_full piece.NameString own bytes at t h = name_leaf_full bytes at t h
@@ -74,16 +74,16 @@ module _ (arity : NameString → ℕ → ℕ) (below : ℕ → Spot → List ℕ
   piece_full piece.Text own bytes at t h = rw (h.2, h.3)
   piece_full piece.Connection own bytes at t h = connection_full own bytes at t h
 
-  pieces_full : (ps : List Piece) (own : ℕ) (bytes : List ℕ) (front : List Tree) (at stop : ℕ) (ts : List Tree) → ArePieces arity Below ps own bytes at stop ts → pieces_at arity below ps own bytes front at ≡ Ok (front ++ ts, stop)
+  pub pieces_full : (ps : List Piece) (own : ℕ) (bytes : List ℕ) (front : List Tree) (at stop : ℕ) (ts : List Tree) → ArePieces arity Below ps own bytes at stop ts → pieces_at arity below ps own bytes front at ≡ Ok (front ++ ts, stop)
   unfolding pieces_at
   pieces_full [] own bytes front at stop ts h = rw (h.0, h.1, append-nil front)
   pieces_full (p ∷ rest) own bytes front at stop ts h = rw (piece_full p own bytes at h.0 h.3, pieces_full rest own bytes (front ++ h.0 ∷ []) (stop_of h.0) stop h.1 h.4, append_assoc front (h.0 ∷ []) h.1, h.2)
 
-  item_full : (own : ℕ) (bytes : List ℕ) (at : ℕ) (t : Tree) → IsItem arity Below own bytes at t → item_at arity below own bytes at ≡ Ok t
+  pub item_full : (own : ℕ) (bytes : List ℕ) (at : ℕ) (t : Tree) → IsItem arity Below own bytes at t → item_at arity below own bytes at ≡ Ok t
   unfolding item_at item_of_kind byte_at
   item_full own bytes at t h = rw (h.4, h.5, pieces_full (pieces_of h.1) own bytes [] (item_next h.1 at) h.2 h.3 h.6, h.7)
 
-  items_full : (own : ℕ) (bytes : List ℕ) (n : ℕ) (front : List Tree) (at stop : ℕ) (ts : List Tree) → AreItems arity Below own bytes at stop ts → stop ≡ length bytes → length bytes ≤ at + n → items_until arity below own bytes n front at ≡ Ok (front ++ ts, stop)
+  pub items_full : (own : ℕ) (bytes : List ℕ) (n : ℕ) (front : List Tree) (at stop : ℕ) (ts : List Tree) → AreItems arity Below own bytes at stop ts → stop ≡ length bytes → length bytes ≤ at + n → items_until arity below own bytes n front at ≡ Ok (front ++ ts, stop)
   items_full own bytes zero front at stop [] h e le = rw (append-nil front, h)
   items_full own bytes zero front at stop (t ∷ ts) h e le = let w = item_in arity Below within own bytes at t h.0 in absurd (omega (arith, w))
   items_full own bytes (suc n) front at stop [] h e le =
@@ -94,7 +94,7 @@ module _ (arity : NameString → ℕ → ℕ) (below : ℕ → Spot → List ℕ
       let test : nat_lt at (length bytes) ≡ true = lt-ltb at (length bytes) (omega (arith, w)) in
       rw (test, item_full own bytes at t h.0, items_full own bytes n (front ++ t ∷ []) (stop_of t) stop ts h.1 e (omega (arith, w)), append_assoc front (t ∷ []) ts)
 
-  else_full : (own : ℕ) (front : List Tree) (bytes : List ℕ) (at stop : ℕ) (ts : List Tree) → IsElse arity Below own bytes at stop ts → else_at arity below own front bytes at ≡ Ok (front ++ ts, stop)
+  pub else_full : (own : ℕ) (front : List Tree) (bytes : List ℕ) (at stop : ℕ) (ts : List Tree) → IsElse arity Below own bytes at stop ts → else_at arity below own front bytes at ≡ Ok (front ++ ts, stop)
   unfolding else_at
   else_full own front bytes at stop [] h =
       let test : is_byte 0xA1 (slice_get bytes at) ≡ false = other_byte 0xA1 (slice_get bytes at) h.0 (is_byte 0xA1 (slice_get bytes at)) refl in
@@ -106,7 +106,7 @@ module _ (arity : NameString → ℕ → ℕ) (below : ℕ → Spot → List ℕ
       let all = until_full own spot.Statement (take stop bytes) (length (take stop bytes)) [] h.1.0 stop h.1.1 h.1.3 (sym l) (omega arith) in
       rw (h.0, h.1.2, all, h.1.4, h.1.5)
 
-  parts_full : (ls : List Letter) (own : ℕ) (bytes : List ℕ) (front : List Tree) (at stop : ℕ) (ts : List Tree) → Meets arity Below ls own bytes at stop ts → parts_at arity below ls own bytes front at ≡ Ok (front ++ ts, stop)
+  pub parts_full : (ls : List Letter) (own : ℕ) (bytes : List ℕ) (front : List Tree) (at stop : ℕ) (ts : List Tree) → Meets arity Below ls own bytes at stop ts → parts_at arity below ls own bytes front at ≡ Ok (front ++ ts, stop)
   unfolding parts_at
   parts_full [] own bytes front at stop ts h = rw (h.0, h.1, append-nil front)
   parts_full (One p ∷ rest) own bytes front at stop ts h = rw (piece_full p own bytes at h.0 h.3, parts_full rest own bytes (front ++ h.0 ∷ []) (stop_of h.0) stop h.1 h.4, append_assoc front (h.0 ∷ []) h.1, h.2)
@@ -117,7 +117,7 @@ module _ (arity : NameString → ℕ → ℕ) (below : ℕ → Spot → List ℕ
   parts_full (Fields ∷ rest) own bytes front at stop ts h = items_full own bytes (length bytes) front at stop ts h.0 h.1 (omega arith)
   parts_full (Bytes ∷ rest) own bytes front at stop ts h = rw (h.0, h.1)
 
-  form_full : (o : Opening) (bytes : List ℕ) (at : ℕ) (t : Tree) → Follows arity Below o bytes at t → form_at arity below o bytes at ≡ Ok t
+  pub form_full : (o : Opening) (bytes : List ℕ) (at : ℕ) (t : Tree) → Follows arity Below o bytes at t → form_at arity below o bytes at ≡ Ok t
   unfolding form_at
   form_full NoTarget bytes at t h = rw h
   form_full PlainName bytes at t h = name_leaf_full bytes at t h

@@ -8,3 +8,8 @@ pub mod Turns
 pub mod Full
 pub mod Bodies
 pub mod Faults
+pub mod Names
+pub mod Shaped
+pub mod Made
+pub mod RefusedBeginnings
+pub mod Refused

@@ -7,4 +7,5 @@ pub mod Reading
 pub mod Grammar
 pub mod Answers
 pub mod Body
+pub mod Spelled
 pub mod Laws

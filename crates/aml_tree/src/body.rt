@@ -5,16 +5,18 @@ ghost use Rattle.aml_operators.specs.Tree.{view, views};
 ghost use Rattle.aml_operators.specs.declared.term.Term.{out-Term};
 ghost use Rattle.aml_operators.specs.declared.row.Code.TheVariants as code;
 ghost use Rattle.aml_operators.specs.declared.row.Spot.TheVariants as spot;
+ghost use Rattle.aml_operators.specs.Shape.{IsShaped};
 ghost use Rattle.aml_lex.specs.Names.{name_of, seg_bytes, lone_segment};
 ghost use Rattle.aml_tree.specs.Fault.{Gives};
 ghost use Rattle.aml_tree.specs.Reading.{term_at};
+ghost use Rattle.aml_tree.specs.Spelled.{IsSpelled};
 ghost use Rattle.aml_tree.specs.Body.{with_owns, is_own_segment, first_at, rest_of, made_place, segment_at, greatest_depth, owns_behind, body_until, ReadsBody, trees_of, trees_read};
 
 use crate::arity::Arity;
 use crate::fault::TreeFault;
 use crate::module::GREATEST_DEPTH;
 use crate::walk::Reader;
-use aml_lex::{NameRef, NameSeg, name_string};
+use aml_lex::{NameRef, NameSeg, standing_name};
 use aml_operators::{Code, Op, Spot, Term};
 use indexmap::IndexSet;
 use std::alloc::Global;
@@ -106,21 +108,20 @@ fn place_made(term: &Term) -> Option<usize>
 }
 
 /// The own name that a statement at the top of a body makes.
+#[tactic(auto, using(crate::proofs::Made::made_there))]
 fn segment_made(bytes: &[u8], term: &Term) -> Option<NameSeg>
+    requires shaped { IsShaped code.Body (view term.now) }
+    requires spelled { IsSpelled bytes.now (view term.now) }
     ensures { seg_bytes result ≡ segment_at bytes.now (made_place (view term.now)) }
 {
     let at = place_made(term)?;
-    if at > bytes.len() {
-        return None;
-    }
-    match name_string(bytes, at) {
-        Ok((name, _)) => name.lone_segment(),
-        Err(_) => None,
-    }
+    standing_name(bytes, at).lone_segment()
 }
 
 /// Keeps the own name that a statement makes.
 fn keep_made(owns: &mut IndexSet<NameSeg>, bytes: &[u8], term: &Term) -> Result<(), TreeFault>
+    requires shaped { IsShaped code.Body (view term.now) }
+    requires spelled { IsSpelled bytes.now (view term.now) }
     ensures ok { OnOk result (owns.new.keys ≡ owns_behind owns.old.keys bytes.now (view term.now)) }
     ensures err { IfErr result (λ fault. fault ≡ TreeFault.NoMemory) }
 {

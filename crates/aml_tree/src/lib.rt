@@ -21,5 +21,8 @@ pub use aml_operators::{Op, Term};
 pub use arity::{Arity, NoArguments};
 pub use body::{Span, read_body};
 pub use fault::{Refusal, TreeCause, TreeFault};
-pub use laws::{bodies_are_unique, faults_stand_within, modules_are_unique};
+pub use laws::{
+    bodies_are_unique, faults_are_unique, faults_stand_within, modules_are_unique, names_are_there,
+    trees_have_their_shape,
+};
 pub use module::read_module;

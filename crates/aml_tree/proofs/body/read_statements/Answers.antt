@@ -4,7 +4,12 @@ use Rattle.aml_operators.specs.Tree.{view, stop_of}
 use Rattle.aml_operators.specs.declared.term.Term.{out-Term}
 use Rattle.aml_operators.proofs.Views.{view_out, pushed}
 use Rattle.aml_tree.specs.Body.{trees_of}
-use Rattle.aml_tree.proofs.Bodies.{body_on, body_end, body_failing}
+use Rattle.aml_operators.specs.declared.row.Code.TheVariants as code
+use Rattle.aml_operators.specs.declared.row.Spot.TheVariants as spot
+use Rattle.aml_tree.specs.Body.{with_owns, greatest_depth}
+use Rattle.aml_tree.proofs.Bodies.{body_on, body_end, body_failing, statement_read}
+use Rattle.aml_tree.proofs.Names.{term_spelled}
+use Rattle.aml_tree.proofs.Shaped.{term_fits}
 use Rattle.aml_tree.proofs.body.read_statements.Goals as goal
 
 pub loop-at-init : goal.loop-at-init
@@ -28,3 +33,15 @@ returns-in_err-statement g c =
 
 pub returns : goal.returns
 returns g c = c.loop-at.invariant.2 ∙ body_end (g.A.Arity.counts c.args.arity.now) c.args.bytes.now c.loop-at.invariant.0 c.loop-at.owns.keys (trees_of c.loop-at.statements) c.loop-at.at c.loop-at-test.false
+
+pub keep_made-requires-clause-shaped : goal.keep_made-requires-clause-shaped
+keep_made-requires-clause-shaped g c =
+    let counts = g.A.Arity.counts c.args.arity.now in
+    let is = statement_read counts c.args.bytes.now c.loop-at.owns.keys c.loop-at.at (view c.in_ok-statement.statement) c.in_ok-statement.ensures.gives in
+    (term_fits code.Body (with_owns counts c.loop-at.owns.keys) greatest_depth c.loop-at.at spot.Statement c.args.bytes.now c.loop-at.at (view c.in_ok-statement.statement) is).1
+
+pub keep_made-requires-clause-spelled : goal.keep_made-requires-clause-spelled
+keep_made-requires-clause-spelled g c =
+    let counts = g.A.Arity.counts c.args.arity.now in
+    let is = statement_read counts c.args.bytes.now c.loop-at.owns.keys c.loop-at.at (view c.in_ok-statement.statement) c.in_ok-statement.ensures.gives in
+    term_spelled code.Body (with_owns counts c.loop-at.owns.keys) greatest_depth c.loop-at.at spot.Statement c.args.bytes.now c.loop-at.at (view c.in_ok-statement.statement) is

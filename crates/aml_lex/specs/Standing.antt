@@ -1,0 +1,33 @@
+-- What stands at a place of the bytes, where something does (ACPI 6.5, 20.2.2 and 20.2.3).
+use Rattle.std.specs.Prelude.{◌≡◌, ◌≤◌, ℕ, List, length, take, drop, Option, Some, None, Result, Ok, Err}
+use Rattle.aml_lex.specs.declared.fault.LexFault.{LexFault}
+use Rattle.aml_lex.specs.NameStrings.{NameString}
+use Rattle.aml_lex.specs.Reading.{name_string_at, string_data_at}
+
+abbrev pub value_read : {V : Type 0} → Result (V × ℕ) LexFault → Option V
+value_read (Ok r) = Some r.0
+value_read (Err fault) = None
+
+-- the name string at a place
+abbrev pub name_there : List ℕ → ℕ → Option NameString
+name_there bytes at = value_read (name_string_at bytes at)
+
+-- the text of the string data at a place
+abbrev pub text_there : List ℕ → ℕ → Option (List ℕ)
+text_there bytes at = value_read (string_data_at bytes at)
+
+-- the bytes between two places
+abbrev pub bytes_between : List ℕ → ℕ → ℕ → List ℕ
+bytes_between bytes at stop = drop at (take stop bytes)
+
+-- a name string stands between two places
+abbrev pub HasName : List ℕ → ℕ → ℕ → Type 0
+HasName bytes at stop = (name : NameString) × (name_string_at bytes at ≡ Ok (name, stop))
+
+-- string data stands between two places
+abbrev pub HasText : List ℕ → ℕ → ℕ → Type 0
+HasText bytes at stop = (text : List ℕ) × (string_data_at bytes at ≡ Ok (text, stop))
+
+-- two places are in order and within the bytes
+abbrev pub HasBytes : List ℕ → ℕ → ℕ → Type 0
+HasBytes bytes at stop = (at ≤ stop) × (stop ≤ length bytes)

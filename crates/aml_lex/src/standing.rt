@@ -1,0 +1,33 @@
+// What is known to stand at a place, read again.
+
+ghost use Rattle.std.specs.Prelude.{◌≡◌, IsSome, Some};
+ghost use Rattle.aml_lex.specs.Names.{name_of};
+ghost use Rattle.aml_lex.specs.Standing.{name_there, text_there};
+
+use crate::name_reader::find_name_string;
+use crate::names::NameRef;
+use crate::strings::find_string_data;
+
+/// The name string that stands at a place.
+#[tactic(auto, using(crate::proofs::Fronts::name_there_within))]
+pub fn standing_name(bytes: &[u8], at: usize) -> NameRef<'_>
+    requires { IsSome (name_there bytes.now at) }
+    ensures { name_there bytes.now at ≡ Some (name_of result) }
+{
+    match find_name_string(bytes, at) {
+        Ok((name, _)) => name,
+        Err(_) => unreachable!(),
+    }
+}
+
+/// The text that stands at a place, without its closing 00.
+#[tactic(auto, using(crate::proofs::Fronts::text_there_within))]
+pub fn standing_text(bytes: &[u8], at: usize) -> &[u8]
+    requires { IsSome (text_there bytes.now at) }
+    ensures { text_there bytes.now at ≡ Some result.now }
+{
+    match find_string_data(bytes, at) {
+        Ok((text, _)) => text,
+        Err(_) => unreachable!(),
+    }
+}
