@@ -1,4 +1,4 @@
-.PHONY: run test growths check fmt
+.PHONY: run test growths edits check fmt
 
 # Builds acpicheck, proofs included, and evaluates the method of the stored run.
 run:
@@ -8,9 +8,13 @@ run:
 test:
 	rt ci
 
-# Each growth of memory refused in turn, in the tests that `make test` left.
+# Each growth of memory refused in turn, in the test programs that `make test` leaves.
 growths:
 	@python3 bench/growths.py
+
+# The further edits that must be refused: of every crate, or with CRATE=name of one, and with EDIT=name one of them.
+edits:
+	@python3 bench/edits.py $(CRATE) $(EDIT)
 
 # Every crate, over what earlier checks kept.
 check:

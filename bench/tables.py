@@ -1,11 +1,68 @@
 #!/usr/bin/env python3
 """Writes tables whose reading and evaluation is timed: tables.py KIND COUNT FILE.
 
-KIND is `adds` (a method of COUNT statements `Add (Local0, One, Local0)` behind a first Store, and a Return),
-`ones` (a method of COUNT statements One), `package` (a Return of a package of COUNT elements One), or
-`methods` (COUNT methods that return One).
+| kind | the table |
+|---|---|
+| adds | a method MAIN of COUNT statements `Add (Local0, One, Local0)` behind a first Store, and a Return |
+| ones | a method MAIN of COUNT statements One |
+| nested | a method MAIN of COUNT statements, each a chain of 62 LNot, one within the other, round a One |
+| package | a method MAIN that returns a package of COUNT elements One |
+| methods | COUNT methods that return One, named in order: MAAA, MAAB and so on |
+| chosen | a method MAIN that makes COUNT names of its own by Name |
+| methods_chosen | COUNT methods that return One, and behind them such a method MAIN |
+| uses_chosen | the same methods, and a method MAIN that calls each of them once |
+
+The names of the last three are those that whoever writes a table would choose against a reader that keeps names in a
+hash map of the kit: its default hasher has a fixed seed, and these names all begin their search in the same part of
+the map. A reader that keeps them in order does not notice.
 """
 import sys
+
+FIRST = "ABCDEFGHIJKLMNOPQRSTUVWXYZ_"
+OTHER = FIRST + "0123456789"
+BITS_64 = (1 << 64) - 1
+
+
+def folded_multiply(a, b):
+    product = a * b
+    return product & BITS_64 ^ product >> 64
+
+
+def fed(state, number, size):
+    """The hasher's state behind a number of `size` bytes, 1 or 8."""
+    spread = number * 0x10101 if size == 1 else number
+    return folded_multiply(state ^ spread, 0x9E37_79B9_7F4A_7C15 ^ 2 * size)
+
+
+def hashes():
+    """Each name of four characters and its hash in the kit's maps: four bytes are fed behind their number."""
+    start = fed(0x243F_6A88_85A3_08D3, 4, 8)
+    one = [(a, fed(start, ord(a), 1)) for a in FIRST]
+    two = [(n + a, fed(h, ord(a), 1)) for n, h in one for a in OTHER]
+    three = [(n + a, fed(h, ord(a), 1)) for n, h in two for a in OTHER]
+    for name, state in three:
+        for a in OTHER:
+            full = fed(state, ord(a), 1)
+            yield (full ^ full >> 32) & 0xFFFF_FFFF, name + a
+
+
+def chosen_names(count):
+    """So many names, but MAIN, whose search begins at the lowest groups of a map that holds as many."""
+    groups = 1
+    while 9 * groups < count:
+        groups *= 2
+    ordered = sorted((h % groups, h, name) for h, name in hashes() if name != "MAIN")
+    if count > len(ordered):
+        raise ValueError(f"at most {len(ordered)} names")
+    return [name.encode() for _, _, name in ordered[:count]]
+
+
+def names_in_order(count):
+    """So many names that begin with M."""
+    if count > len(OTHER) ** 3:
+        raise ValueError(f"at most {len(OTHER) ** 3} names")
+    for i in range(count):
+        yield ("M" + "".join(OTHER[i // len(OTHER) ** k % len(OTHER)] for k in (2, 1, 0))).encode()
 
 
 def pkg_length(inside):
@@ -28,6 +85,10 @@ def method(name, body):
     return package(b"\x14", name + b"\x00" + body)
 
 
+def methods(names):
+    return b"".join(method(name, b"\xa4\x01") for name in names)
+
+
 def dsdt(body):
     length = 36 + len(body)
     head = b"DSDT" + length.to_bytes(4, "little") + b"\x02\x00" + b"ACPICKBENCH001" + (1).to_bytes(4, "little") + b"BNCH" + (1).to_bytes(4, "little")
@@ -41,12 +102,19 @@ def body_of(kind, count):
         return method(b"MAIN", b"\x70\x00\x60" + b"\x72\x60\x01\x60" * count + b"\xa4\x60")
     if kind == "ones":
         return method(b"MAIN", b"\x01" * count)
+    if kind == "nested":
+        return method(b"MAIN", (b"\x92" * 62 + b"\x01") * count)
     if kind == "package":
         return method(b"MAIN", b"\xa4" + package(b"\x13", b"\x0b" + count.to_bytes(2, "little") + b"\x01" * count))
     if kind == "methods":
-        digits = "ABCDEFGHIJKLMNOPQRSTUVWXYZ_0123456789"
-        names = (chr(77) + "".join(digits[i // 37 ** k % 37] for k in (2, 1, 0)) for i in range(count))
-        return b"".join(method(n.encode(), b"\xa4\x01") for n in names)
+        return methods(names_in_order(count))
+    if kind == "chosen":
+        return method(b"MAIN", b"".join(b"\x08" + name + b"\x00" for name in chosen_names(count)))
+    if kind == "methods_chosen":
+        return methods([*chosen_names(count), b"MAIN"])
+    if kind == "uses_chosen":
+        names = chosen_names(count)
+        return methods(names) + method(b"MAIN", b"".join(names))
     raise ValueError(kind)
 
 
