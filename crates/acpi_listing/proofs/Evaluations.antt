@@ -14,7 +14,7 @@ use Rattle.acpi_text.specs.Outcome.{outcome_line, refusal_line}
 use Rattle.aml_namespace.specs.Load.{Shown, IsLoaded, FaultyLoad}
 use Rattle.acpi_listing.specs.Files.{Answers, Opens}
 use Rattle.acpi_listing.specs.Input.{NextLine}
-use Rattle.acpi_listing.specs.Commands.{Names, Finds, LoadsOrFails, FaultyEval, IsAnswerOf, EvaluatesFile, Takes, status}
+use Rattle.acpi_listing.specs.Commands.{Names, Finds, LoadsOrFails, FaultyEval, IsEvalLine, EvaluatesFile, Takes, outcome_status}
 use Rattle.acpi_listing.specs.Arguments.{ListsArguments}
 use Rattle.acpi_listing.specs.declared.fault.Fault.{Fault}
 use Rattle.acpi_listing.specs.declared.fault.Stop.{Stop}
@@ -44,28 +44,28 @@ not_loaded answers old new file word bytes lent args arguments f same given open
     inr (inr (arguments, given, inr (inl (bytes, refusal, opens, subst (λ b. FaultyLoad b refusal) same faulty, is))))
 
 -- the line of a refused body
-pub refused_answer : {F : Type 0} (answers : Answers F) (old new : F) (file word : List ℕ) (args : Option (List ℕ)) (steps : ℕ) (ns : Shown) (m : Method) (refusal : Refusal)
+pub refused_is_line : {F : Type 0} (answers : Answers F) (old new : F) (file word : List ℕ) (args : Option (List ℕ)) (steps : ℕ) (ns : Shown) (m : Method) (refusal : Refusal)
     → Finds answers old file word new ns m → ReadsBodyOf ns m (Err (Refused refusal))
-    → IsAnswerOf answers old file word args steps new (refusal_line word m.table refusal) 3
-refused_answer answers old new file word args steps ns m refusal finds refused = (ns, m, finds, inl (refusal, refused, refl, refl))
+    → IsEvalLine answers old file word args steps new (refusal_line word m.table refusal) 3
+refused_is_line answers old new file word args steps ns m refusal finds refused = (ns, m, finds, inl (refusal, refused, refl, refl))
 
 -- the line of the meaning's outcome
-pub outcome_answer : {F : Type 0} (answers : Answers F) (old new : F) (file word : List ℕ) (args : Option (List ℕ)) (steps : ℕ) (ns : Shown) (m : Method) (ts : List Tree) (arguments : List ℕ) (outcome : Outcome) (ended : ℕ)
+pub outcome_is_line : {F : Type 0} (answers : Answers F) (old new : F) (file word : List ℕ) (args : Option (List ℕ)) (steps : ℕ) (ns : Shown) (m : Method) (ts : List Tree) (arguments : List ℕ) (outcome : Outcome) (ended : ℕ)
     → Finds answers old file word new ns m → IsBodyOf ns m ts → ListsArguments args arguments → Takes ns m arguments
-    → Evaluates ns m (trees ts) arguments steps outcome → ended ≡ status outcome
-    → IsAnswerOf answers old file word args steps new (outcome_line outcome) ended
-outcome_answer answers old new file word args steps ns m ts arguments outcome ended finds body lists takes meant is =
+    → Evaluates ns m (trees ts) arguments steps outcome → ended ≡ outcome_status outcome
+    → IsEvalLine answers old file word args steps new (outcome_line outcome) ended
+outcome_is_line answers old new file word args steps ns m ts arguments outcome ended finds body lists takes meant is =
     (ns, m, finds, inr (ts, arguments, outcome, body, lists, takes, meant, refl, is))
 
 -- a line that could not be written whole
 pub cut_off : {F : Type 0} (answers : Answers F) (old new : F) (file word : List ℕ) (args : Option (List ℕ)) (steps : ℕ) (held holds : Option (List ℕ)) (r : Result ℕ Stop) (f : RunFault) (line : List ℕ) (ended : ℕ)
-    → IsErrAnd r (λ s. s ≡ Run f) → IsAnswerOf answers old file word args steps new line ended
+    → IsErrAnd r (λ s. s ≡ Run f) → IsEvalLine answers old file word args steps new line ended
     → ((front : List ℕ) × (rest : List ℕ) × (line ≡ front ++ rest) × Appends held holds front)
     → EvaluatesFile answers old file word args steps new held holds r
 cut_off answers old new file word args steps held holds (Ok n) f line ended e is part = absurd e
 cut_off answers old new file word args steps held holds (Err s) f line ended e is (front, rest, split, appends) =
     subst (λ stop. EvaluatesFile answers old file word args steps new held holds (Err stop)) (sym e)
-    (front, rest, ended, subst (λ l. IsAnswerOf answers old file word args steps new l ended) split is, appends)
+    (front, rest, ended, subst (λ l. IsEvalLine answers old file word args steps new l ended) split is, appends)
 
 -- the next line of bytes that are lent
 pub next_line_of : (bytes lent held : List ℕ) (line : Option (List ℕ)) (rest : List ℕ) → held ≡ lent → lent ≡ bytes → NextLine held line rest → NextLine bytes line rest

@@ -55,10 +55,10 @@ abbrev pub Takes : Shown → Method → List ℕ → Type 0
 Takes ns m arguments = (length arguments ≡ m.args) × All (λ n. n ≤ 2 ^ bits_of ns.width - 1) arguments
 
 -- the status of an outcome
-abbrev pub status : Outcome → ℕ
-status (Done _) = 0
-status (AmlError _) = 3
-status OutOfSteps = 3
+abbrev pub outcome_status : Outcome → ℕ
+outcome_status (Done _) = 0
+outcome_status (AmlError _) = 3
+outcome_status OutOfSteps = 3
 
 -- a file's method is found in the namespace that the file's table makes
 abbrev pub Finds : {F : Type 0} → Answers F → F → List ℕ → List ℕ → F → Shown → Method → Type 0
@@ -82,20 +82,20 @@ FaultyEval answers old file word args new f =
     ⊎ ((arguments : List ℕ) × ListsArguments args arguments × FaultyFile answers old file word arguments new f))
 
 -- what `eval` prints of a file's method, and its status: the line of a refused body, or that of the meaning's outcome
-abbrev pub IsAnswerOf : {F : Type 0} → Answers F → F → List ℕ → List ℕ → Option (List ℕ) → ℕ → F → List ℕ → ℕ → Type 0
-IsAnswerOf answers old file word args steps new line ended =
+abbrev pub IsEvalLine : {F : Type 0} → Answers F → F → List ℕ → List ℕ → Option (List ℕ) → ℕ → F → List ℕ → ℕ → Type 0
+IsEvalLine answers old file word args steps new line ended =
     (ns : Shown) × (m : Method) × Finds answers old file word new ns m
     × (((refusal : Refusal) × ReadsBodyOf ns m (Err (Refused refusal)) × (line ≡ refusal_line word m.table refusal) × (ended ≡ 3))
     ⊎ ((ts : List Tree) × (arguments : List ℕ) × (outcome : Outcome) × IsBodyOf ns m ts × ListsArguments args arguments × Takes ns m arguments
-    × Evaluates ns m (trees ts) arguments steps outcome × (line ≡ outcome_line outcome) × (ended ≡ status outcome)))
+    × Evaluates ns m (trees ts) arguments steps outcome × (line ≡ outcome_line outcome) × (ended ≡ outcome_status outcome)))
 
 -- how `eval` ends: its line; a fault, and nothing is printed; or a beginning of its line
 abbrev pub EvaluatesFile : {F : Type 0} → Answers F → F → List ℕ → List ℕ → Option (List ℕ) → ℕ → F → Option (List ℕ) → Option (List ℕ) → Result ℕ Stop → Type 0
 EvaluatesFile answers old file word args steps new held holds (Ok ended) =
-    (line : List ℕ) × IsAnswerOf answers old file word args steps new line ended × Appends held holds line
+    (line : List ℕ) × IsEvalLine answers old file word args steps new line ended × Appends held holds line
 EvaluatesFile answers old file word args steps new held holds (Err (Faulty f)) = FaultyEval answers old file word args new f × (holds ≡ held)
 EvaluatesFile answers old file word args steps new held holds (Err (Run _)) =
-    (front rest : List ℕ) × (ended : ℕ) × IsAnswerOf answers old file word args steps new (front ++ rest) ended × Appends held holds front
+    (front rest : List ℕ) × (ended : ℕ) × IsEvalLine answers old file word args steps new (front ++ rest) ended × Appends held holds front
 
 -- what the words ask for is done, with files of a source
 abbrev pub Obeys : {F : Type 0} → Answers F → F → Request → F → Option (List ℕ) → Option (List ℕ) → Result ℕ Stop → Type 0

@@ -20,9 +20,9 @@ abbrev pub bytes_of : {A E : Type 0} → Result (Vec ℕ A) E → Result (List �
 bytes_of (Ok bytes) = Ok (vec_items bytes)
 bytes_of (Err e) = Err e
 
-abbrev pub fault_of : SourceFault → Fault
-fault_of source.File = fault.File
-fault_of source.NoMemory = fault.NoMemory
+abbrev pub source_fault : SourceFault → Fault
+source_fault source.File = fault.File
+source_fault source.NoMemory = fault.NoMemory
 
 abbrev pub load_fault : LoadFault → Fault
 load_fault load.NoMemory = fault.NoMemory
@@ -40,7 +40,7 @@ limit = 16777216
 abbrev pub Opens : {F : Type 0} → Answers F → F → List ℕ → Result (List ℕ) Fault → F → Type 0
 Opens answers old name (Ok bytes) new = answers old name (Ok bytes) new × (length bytes ≤ limit)
 Opens answers old name (Err f) new =
-    ((e : SourceFault) × answers old name (Err e) new × (f ≡ fault_of e))
+    ((e : SourceFault) × answers old name (Err e) new × (f ≡ source_fault e))
     ⊎ ((bytes : List ℕ) × answers old name (Ok bytes) new × (limit < length bytes) × (f ≡ fault.File))
 
 -- the text of a file that is a table

@@ -5,7 +5,7 @@ ghost use Rattle.std.specs.Prelude.{IfOk, IfErr, length, option_map, vec_items};
 ghost use Rattle.acpi_listing.specs.Arguments.{ListsArguments, ListsBadArguments};
 ghost use Rattle.aml_namespace.specs.Load.{shown};
 ghost use Rattle.acpi_listing.specs.Commands.{EvaluatesFile, LoadsOrFails, Names, NamesNone};
-ghost use Rattle.acpi_listing.specs.Commands.{HasSegment, Takes, status};
+ghost use Rattle.acpi_listing.specs.Commands.{HasSegment, Takes, outcome_status};
 ghost use Rattle.acpi_listing.specs.declared.fault.Fault.TheVariants as fault;
 
 use crate::arguments::read_arguments;
@@ -112,7 +112,7 @@ fn fits(namespace: &Namespace<'_>, method: Method, arguments: &[u64]) -> bool
 }
 
 fn status_of(outcome: &Outcome) -> u8
-    ensures value { result ≡ status outcome.now }
+    ensures value { result ≡ outcome_status outcome.now }
     ensures most { result ≤ 3 }
 {
     match outcome {

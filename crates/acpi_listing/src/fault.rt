@@ -1,7 +1,7 @@
 // What ends a command with a fault line.
 
 ghost use Rattle.std.specs.Prelude.{◌≡◌};
-ghost use Rattle.acpi_listing.specs.Files.{fault_of, load_fault};
+ghost use Rattle.acpi_listing.specs.Files.{source_fault, load_fault};
 ghost use Rattle.acpi_listing.specs.Commands.{fault_status};
 ghost use Rattle.acpi_listing.specs.declared.fault.Fault.TheVariants as told;
 ghost use Rattle.acpi_listing.specs.declared.fault.Stop.TheVariants as stop;
@@ -102,7 +102,7 @@ impl<T: Drop> From<AllocFailed<T>> for Fault {
 }
 
 impl From<SourceFault> for Fault {
-    ghost from_gives = { λ e f. f ≡ fault_of e };
+    ghost from_gives = { λ e f. f ≡ source_fault e };
 
     fn from(fault: SourceFault) -> Fault {
         match fault {

@@ -12,9 +12,9 @@ use thiserror::Error;
 #[derive(Clone, Copy, Debug, PartialEq, Eq, Error)]
 pub enum SourceFault {
     /// It cannot be read, or is larger than [`crate::INPUT_LIMIT`].
-    #[error("E523 File")]
+    #[error("the file cannot be read")]
     File,
-    #[error("E524 NoMemory")]
+    #[error("no memory")]
     NoMemory,
 }
 

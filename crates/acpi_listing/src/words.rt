@@ -39,7 +39,7 @@ pub fn read_words<'a, S: AsStr>(alloc: Global, words: &'a [S]) -> Result<Request
 {
     let matches = match command(alloc)?.try_get_matches_from(words) {
         Ok(matches) => matches,
-        Err(error) => return Err(fault_of(error.kind())),
+        Err(error) => return Err(words_fault(error.kind())),
     };
     match matches.subcommand() {
         Some(("tables", found)) => Ok(Request::Tables {
@@ -50,7 +50,7 @@ pub fn read_words<'a, S: AsStr>(alloc: Global, words: &'a [S]) -> Result<Request
     }
 }
 
-fn fault_of(kind: ErrorKind) -> Fault
+fn words_fault(kind: ErrorKind) -> Fault
     ensures { (result ≡ fault.CommandLine) ⊎ (result ≡ fault.NoMemory) }
 {
     match kind {

@@ -8,7 +8,7 @@ use std::alloc::AllocError;
 use std::io::Write;
 use thiserror::Error;
 
-/// Why a listing, or the program, ends without a status.
+/// Why a text could not be printed whole.
 #[derive(Clone, Copy, Debug, PartialEq, Eq, Error)]
 pub enum RunFault {
     /// The writer failed, or took nothing.

@@ -3,8 +3,8 @@ use Rattle.aml_namespace.specs.Load.{shown, IsLoaded}
 use Rattle.aml_operators.specs.Tree.{view, views}
 use Rattle.aml_tree.proofs.Shaped.{body_shaped}
 use Rattle.aml_plain.specs.Methods.{Evaluates}
-use Rattle.acpi_listing.specs.Commands.{Takes, status}
-use Rattle.acpi_listing.proofs.Evaluations.{found_in, faulted, not_loaded, refused_answer, outcome_answer, cut_off}
+use Rattle.acpi_listing.specs.Commands.{Takes, outcome_status}
+use Rattle.acpi_listing.proofs.Evaluations.{found_in, faulted, not_loaded, refused_is_line, outcome_is_line, cut_off}
 use Rattle.acpi_listing.proofs.eval.evaluate.Goals as goal
 
 pub returns-in_err-namespace-clause-printed : goal.returns-in_err-namespace-clause-printed
@@ -27,9 +27,9 @@ returns-in_err-list_refusal-in-Err-Refused-clause-printed g c =
     let m = c.in_ok-id.method in
     let finds = found_in g.F.Source.answers _ _ _ _ c.in_ok-table.table.items _ ns _ m c.deref.ensures.value c.in_ok-table.ensures c.in_ok-namespace.ensures c.in_ok-id.ensures.found in
     let refused = rw c.in-Err-Refused.field-0-is at (c.in-Err-Refused.ensures m c.in_ok-id.ensures.found.3) in
-    let answer = refused_answer g.F.Source.answers _ _ _ _ (option_map (λ text. text.now) c.args.request.now.args) c.args.request.now.steps ns m c.in-Err-Refused.refusal finds refused in
+    let is_line = refused_is_line g.F.Source.answers _ _ _ _ (option_map (λ text. text.now) c.args.request.now.args) c.args.request.now.steps ns m c.in-Err-Refused.refusal finds refused in
     cut_off g.F.Source.answers _ _ _ _ (option_map (λ text. text.now) c.args.request.now.args) c.args.request.now.steps _ _ c.from_residual-in_err-list_refusal-in-Err-Refused.result _ _ 3
-    c.from_residual-in_err-list_refusal-in-Err-Refused.ensures.1 answer (rw c.in-Err-Refused.field-0-is at c.in_err-list_refusal-in-Err-Refused.ensures)
+    c.from_residual-in_err-list_refusal-in-Err-Refused.ensures.1 is_line (rw c.in-Err-Refused.field-0-is at c.in_err-list_refusal-in-Err-Refused.ensures)
 
 pub returns-in-Err-Refused-clause-printed : goal.returns-in-Err-Refused-clause-printed
 returns-in-Err-Refused-clause-printed g c =
@@ -37,8 +37,8 @@ returns-in-Err-Refused-clause-printed g c =
     let m = c.in_ok-id.method in
     let finds = found_in g.F.Source.answers _ _ _ _ c.in_ok-table.table.items _ ns _ m c.deref.ensures.value c.in_ok-table.ensures c.in_ok-namespace.ensures c.in_ok-id.ensures.found in
     let refused = rw c.in-Err-Refused.field-0-is at (c.in-Err-Refused.ensures m c.in_ok-id.ensures.found.3) in
-    let answer = refused_answer g.F.Source.answers _ _ _ _ (option_map (λ text. text.now) c.args.request.now.args) c.args.request.now.steps ns m c.in-Err-Refused.refusal finds refused in
-    (_, answer, rw c.in-Err-Refused.field-0-is at c.in_ok-list_refusal-in-Err-Refused.ensures)
+    let is_line = refused_is_line g.F.Source.answers _ _ _ _ (option_map (λ text. text.now) c.args.request.now.args) c.args.request.now.steps ns m c.in-Err-Refused.refusal finds refused in
+    (_, is_line, rw c.in-Err-Refused.field-0-is at c.in_ok-list_refusal-in-Err-Refused.ensures)
 
 pub returns-then-not-fits-clause-printed : goal.returns-then-not-fits-clause-printed
 returns-then-not-fits-clause-printed g c =
@@ -67,9 +67,9 @@ returns-in_err-list_evaluation-clause-printed g c =
     let outcome = c.evaluate_terms-outcome.result in
     let goes = rw c.deref-3.ensures.value at (c.evaluate_terms-outcome.ensures m c.in_ok-id.ensures.found.3) in
     let meant = subst (λ a. Evaluates ns m (views c.in-Ok.body.items) a c.args.request.now.steps outcome) c.deref-4.ensures.value goes in
-    let answer = outcome_answer g.F.Source.answers _ _ _ _ (option_map (λ text. text.now) c.args.request.now.args) c.args.request.now.steps ns m (map view c.in-Ok.body.items) c.in_ok-arguments.arguments.items outcome (status outcome) finds body c.in_ok-arguments.ensures.given takes meant refl in
-    cut_off g.F.Source.answers _ _ _ _ (option_map (λ text. text.now) c.args.request.now.args) c.args.request.now.steps _ _ c.from_residual-in_err-list_evaluation.result _ _ (status outcome)
-    c.from_residual-in_err-list_evaluation.ensures.1 answer c.in_err-list_evaluation.ensures
+    let is_line = outcome_is_line g.F.Source.answers _ _ _ _ (option_map (λ text. text.now) c.args.request.now.args) c.args.request.now.steps ns m (map view c.in-Ok.body.items) c.in_ok-arguments.arguments.items outcome (outcome_status outcome) finds body c.in_ok-arguments.ensures.given takes meant refl in
+    cut_off g.F.Source.answers _ _ _ _ (option_map (λ text. text.now) c.args.request.now.args) c.args.request.now.steps _ _ c.from_residual-in_err-list_evaluation.result _ _ (outcome_status outcome)
+    c.from_residual-in_err-list_evaluation.ensures.1 is_line c.in_err-list_evaluation.ensures
 
 pub returns-clause-printed : goal.returns-clause-printed
 returns-clause-printed g c =
@@ -81,5 +81,5 @@ returns-clause-printed g c =
     let outcome = c.evaluate_terms-outcome.result in
     let goes = rw c.deref-3.ensures.value at (c.evaluate_terms-outcome.ensures m c.in_ok-id.ensures.found.3) in
     let meant = subst (λ a. Evaluates ns m (views c.in-Ok.body.items) a c.args.request.now.steps outcome) c.deref-4.ensures.value goes in
-    let answer = outcome_answer g.F.Source.answers _ _ _ _ (option_map (λ text. text.now) c.args.request.now.args) c.args.request.now.steps ns m (map view c.in-Ok.body.items) c.in_ok-arguments.arguments.items outcome _ finds body c.in_ok-arguments.ensures.given takes meant c.status_of.ensures.value in
-    (_, answer, c.in_ok-list_evaluation.ensures)
+    let is_line = outcome_is_line g.F.Source.answers _ _ _ _ (option_map (λ text. text.now) c.args.request.now.args) c.args.request.now.steps ns m (map view c.in-Ok.body.items) c.in_ok-arguments.arguments.items outcome _ finds body c.in_ok-arguments.ensures.given takes meant c.status_of.ensures.value in
+    (_, is_line, c.in_ok-list_evaluation.ensures)
