@@ -9,3 +9,4 @@ pub mod Structure
 pub mod Entries
 pub mod Madt
 pub mod Isa
+pub mod Causes

@@ -8,3 +8,4 @@ pub mod Spelling
 pub mod Exact
 pub mod Standing
 pub mod Bounds
+pub mod Causes

@@ -6,3 +6,4 @@ pub mod Actions
 pub mod Meaning
 pub mod Runs
 pub mod Whole
+pub mod Causes

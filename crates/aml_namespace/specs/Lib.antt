@@ -9,3 +9,4 @@ pub mod Load
 pub mod Names
 pub mod Objects
 pub mod Laws
+pub mod Causes

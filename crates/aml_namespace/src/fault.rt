@@ -1,5 +1,6 @@
 // Why tables cannot be loaded.
 
+ghost use Rattle.aml_namespace.specs.Causes.{load_cause_text};
 ghost use Rattle.std.specs.Prelude.{◌≡◌, ⊤};
 ghost use Rattle.aml_namespace.specs.declared.fault.LoadFault.TheVariants.{NoMemory, Refused};
 ghost use Rattle.aml_namespace.specs.Fault.{load_refusal, table_refusal, tree_fault};
@@ -7,24 +8,43 @@ ghost use Rattle.aml_namespace.specs.Fault.{load_refusal, table_refusal, tree_fa
 use acpi_tables::{TableCause, TableFault};
 use aml_tree::{TreeCause, TreeFault};
 use std::alloc::{AllocError, AllocFailed};
+use std::fmt;
 use thiserror::Error;
 
 /// What is wrong with a table or with its definitions.
-#[derive(Clone, Copy, Debug, PartialEq, Eq, Error)]
+#[derive(Clone, Copy, Debug, PartialEq, Eq)]
 pub enum LoadCause {
     /// The table, E101 to E104.
-    #[error(transparent)]
     Table(TableCause),
     /// The bytes of its module, E201 to E209.
-    #[error(transparent)]
     Tree(TreeCause),
     /// A second definition of a path; its place is that of the defined name.
-    #[error("E301 Duplicate")]
     Duplicate,
     /// A name whose parent is no scope that is there; its place is that of the name.
-    #[error("E302 ScopeMissing")]
     ScopeMissing,
 }
+
+impl LoadCause {
+    /// The number and the name of what is wrong, as they are printed.
+    pub fn text(self) -> &'static str
+        ensures { result.now ≡ load_cause_text self }
+    {
+        match self {
+            LoadCause::Table(table) => table.text(),
+            LoadCause::Tree(tree) => tree.text(),
+            LoadCause::Duplicate => "E301 Duplicate",
+            LoadCause::ScopeMissing => "E302 ScopeMissing",
+        }
+    }
+}
+
+impl fmt::Display for LoadCause {
+    fn fmt<W: fmt::Write>(&self, f: &mut fmt::Formatter<W>) -> fmt::Result {
+        f.write_str(self.text())
+    }
+}
+
+impl std::error::Error for LoadCause {}
 
 /// A refusal to load: what is wrong, in which table and at which byte.
 #[derive(Clone, Copy, Debug, PartialEq, Eq, Error)]

@@ -10,3 +10,4 @@ pub mod Body
 pub mod Owns
 pub mod Spelled
 pub mod Laws
+pub mod Causes

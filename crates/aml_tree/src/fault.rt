@@ -1,34 +1,54 @@
 // Why terms cannot be read.
 
+ghost use Rattle.aml_tree.specs.Causes.{tree_cause_text};
 ghost use Rattle.std.specs.Prelude.{◌≡◌};
 ghost use Rattle.aml_tree.specs.declared.fault.TreeFault.TheVariants.{NoMemory, Refused};
 ghost use Rattle.aml_tree.specs.Fault.{lexical};
 
 use aml_lex::{LexCause, LexFault};
 use std::alloc::{AllocError, AllocFailed};
+use std::fmt;
 use thiserror::Error;
 
 /// What is wrong with the bytes of a term.
-#[derive(Clone, Copy, Debug, PartialEq, Eq, Error)]
+#[derive(Clone, Copy, Debug, PartialEq, Eq)]
 pub enum TreeCause {
     /// A lexical part, E201 to E203, E206 and E207.
-    #[error(transparent)]
     Lexical(LexCause),
     /// An unknown opcode, or a known one where its class may not stand; its place is the opcode's.
-    #[error("E204 UnknownOpcode")]
     UnknownOpcode,
     /// A term deeper than 64; its place is its opcode's.
-    #[error("E205 TooDeep")]
     TooDeep,
     /// A literal buffer above 65,536 bytes or a package above 65,535 elements; its place is the
     /// opcode's.
-    #[error("E208 TooLarge")]
     TooLarge,
     /// A known operator or a name that may not stand there in a module; its place is its own in the
     /// module's list, else that of the opcode that asks for something else.
-    #[error("E209 ModuleCode")]
     ModuleCode,
 }
+
+impl TreeCause {
+    /// The number and the name of what is wrong, as they are printed.
+    pub fn text(self) -> &'static str
+        ensures { result.now ≡ tree_cause_text self }
+    {
+        match self {
+            TreeCause::Lexical(part) => part.text(),
+            TreeCause::UnknownOpcode => "E204 UnknownOpcode",
+            TreeCause::TooDeep => "E205 TooDeep",
+            TreeCause::TooLarge => "E208 TooLarge",
+            TreeCause::ModuleCode => "E209 ModuleCode",
+        }
+    }
+}
+
+impl fmt::Display for TreeCause {
+    fn fmt<W: fmt::Write>(&self, f: &mut fmt::Formatter<W>) -> fmt::Result {
+        f.write_str(self.text())
+    }
+}
+
+impl std::error::Error for TreeCause {}
 
 /// A refusal of the bytes: what is wrong, and at which byte of the table.
 #[derive(Clone, Copy, Debug, PartialEq, Eq, Error)]
