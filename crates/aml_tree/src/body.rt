@@ -193,5 +193,6 @@ fn read_statements<A: Arity>(
         keep_made(&mut owns, bytes, &statement)?;
         statements.push(statement)?;
     }
+    statements.shrink_to_fit();
     Ok(statements)
 }

@@ -1,4 +1,4 @@
-use Rattle.std.proofs.Common.{◌≡◌, ◌<◌, ◌++◌, ◌∷◌, [], arith, refl, ap, ◌∙◌, length, Ok}
+use Rattle.std.proofs.Common.{◌≡◌, ◌<◌, ◌++◌, ◌∷◌, [], arith, refl, ap, ◌∙◌, length, map, Ok}
 use Rattle.std.proofs.lemmas.Result.{err_from_is_err_and}
 use Rattle.aml_operators.specs.Tree.{view, stop_of}
 use Rattle.aml_operators.specs.declared.term.Term.{out-Term}
@@ -41,7 +41,9 @@ returns-in_err-statement g c =
     (body_failing counts c.args.bytes.now c.loop-at.invariant.0 names (trees_of c.loop-at.statements) c.loop-at.at _ c.loop-at-test.true c.loop-at.invariant.3 (rw (kept_counts counts c.loop-at.owns names c.loop-at.invariant.2) at c.in_err-statement.ensures.gives))
 
 pub returns : goal.returns
-returns g c = c.loop-at.invariant.4 ∙ body_end (g.A.Arity.counts c.args.arity.now) c.args.bytes.now c.loop-at.invariant.0 c.loop-at.invariant.1 (trees_of c.loop-at.statements) c.loop-at.at c.loop-at-test.false
+returns g c =
+    let same : trees_of c.shrink_to_fit.new.self ≡ trees_of c.loop-at.statements = ap (map view) c.shrink_to_fit.ensures.items in
+    rw same (c.loop-at.invariant.4 ∙ body_end (g.A.Arity.counts c.args.arity.now) c.args.bytes.now c.loop-at.invariant.0 c.loop-at.invariant.1 (trees_of c.loop-at.statements) c.loop-at.at c.loop-at-test.false)
 
 pub keep_made-requires-clause-shaped : goal.keep_made-requires-clause-shaped
 keep_made-requires-clause-shaped g c =
