@@ -1,6 +1,7 @@
 -- The line of a fault.
 use Rattle.std.specs.Prelude.{ℕ, List, [], ◌∷◌, codes, decimal}
-use Rattle.acpi_text.specs.Causes.{table_cause_text, load_cause_text}
+use Rattle.acpi_tables.specs.Causes.{table_cause_text}
+use Rattle.aml_namespace.specs.Causes.{load_cause_text}
 use Rattle.acpi_text.specs.Text.{joined}
 use Rattle.acpi_listing.specs.declared.fault.Fault.{Fault}
 use Rattle.acpi_listing.specs.declared.fault.Fault.TheVariants.{CommandLine, BadArgs, ArgsDontFit, File, NoMemory, NoSuchObject, Table, Load}

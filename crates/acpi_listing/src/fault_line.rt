@@ -5,7 +5,7 @@ ghost use Rattle.acpi_text.specs.Lists.{Lists};
 ghost use Rattle.acpi_listing.specs.Faults.{fault_line, placed_line};
 
 use crate::fault::Fault;
-use acpi_text::{RunFault, load_cause_name, put, table_cause_name};
+use acpi_text::{RunFault, put};
 use std::alloc::{AllocError, Global};
 use std::io::Write;
 
@@ -23,12 +23,12 @@ pub fn list_fault<W: Write>(alloc: Global, out: &mut W, fault: Fault) -> Result<
         Fault::Table { cause, file, at } => list_place(
             alloc,
             out,
-            table_cause_name(cause),
+            cause.text(),
             file,
             at,
         ),
         Fault::Load(refusal) => {
-            let name = load_cause_name(refusal.cause);
+            let name = refusal.cause.text();
             list_place(alloc, out, name, refusal.table, refusal.at)
         }
     }

@@ -1,6 +1,7 @@
 -- How an evaluation ended, as it is printed.
 use Rattle.std.specs.Prelude.{ℕ, List, [], ◌∷◌, Some, None, codes, decimal}
-use Rattle.acpi_text.specs.Causes.{aml_cause_text, tree_cause_text}
+use Rattle.aml_meaning.specs.Causes.{aml_cause_text}
+use Rattle.aml_tree.specs.Causes.{tree_cause_text}
 use Rattle.acpi_text.specs.Text.{joined, hex}
 use Rattle.aml_tree.specs.declared.fault.Refusal.{Refusal}
 use Rattle.aml_plain.specs.declared.body.Outcome.{Outcome}

@@ -1,7 +1,6 @@
 //! The texts of values, outcomes, causes of faults and tables, as they are printed.
 #![tactic(auto)]
 
-mod causes;
 mod escaped;
 mod outcome;
 mod refusal;
@@ -11,9 +10,6 @@ mod table_lines;
 mod tables;
 mod writing;
 
-pub use causes::{
-    aml_cause_name, lex_cause_name, load_cause_name, table_cause_name, tree_cause_name,
-};
 pub use outcome::list_evaluation;
 pub use refusal::list_refusal;
 pub use table::Table;

@@ -4,7 +4,6 @@ ghost use Rattle.std.specs.Prelude.{◌≡◌, IfOk, string_bytes};
 ghost use Rattle.acpi_text.specs.Lists.{Lists};
 ghost use Rattle.acpi_text.specs.Outcome.{outcome_line};
 
-use crate::causes::aml_cause_name;
 use crate::writing::{RunFault, put};
 use aml_plain::Outcome;
 use std::alloc::{AllocError, Global};
@@ -34,7 +33,7 @@ fn line_of(alloc: Global, outcome: &Outcome) -> Result<String, AllocError>
         Outcome::AmlError(error) => {
             let table = error.table;
             let at = error.at;
-            let cause = aml_cause_name(error.cause);
+            let cause = error.cause.text();
             format!(in alloc; "error {table} {at} {cause}\n")
         }
         Outcome::OutOfSteps => format!(in alloc; "out of steps\n"),

@@ -4,7 +4,6 @@ ghost use Rattle.std.specs.Prelude.{◌≡◌, IfOk, string_bytes};
 ghost use Rattle.acpi_text.specs.Lists.{Lists};
 ghost use Rattle.acpi_text.specs.Outcome.{refusal_line};
 
-use crate::causes::tree_cause_name;
 use crate::writing::{RunFault, put};
 use aml_tree::Refusal;
 use std::alloc::{AllocError, Global};
@@ -38,6 +37,6 @@ fn refusal_line_of(
     ensures { IfOk result (λ line. string_bytes line ≡ refusal_line path.now table refusal) }
 {
     let at = refusal.at;
-    let cause = tree_cause_name(refusal.cause);
+    let cause = refusal.cause.text();
     format!(in alloc; "{path} refused {table} {at} {cause}\n")
 }

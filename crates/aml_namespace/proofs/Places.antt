@@ -3,21 +3,19 @@ use Rattle.std.proofs.Common.{◌≡◌, ℕ, ◌≤◌, ◌⊎◌, inl, inr, Li
 use Rattle.std.specs.Prelude.{cond, nat_lt, nat_eq, not, sum, ◌==◌, ◌%◌}
 use Rattle.std.specs.List.{starts_with}
 use Rattle.std.proofs.lemmas.Bool.{ltb-false}
-use Rattle.aml_operators.specs.declared.op.Op.{Op}
 use Rattle.aml_operators.specs.declared.op.Op.TheVariants as op
 use Rattle.aml_operators.specs.declared.row.Code.TheVariants as code
 use Rattle.aml_operators.specs.declared.row.Spot.TheVariants as spot
-use Rattle.aml_operators.specs.Tree.{Tree, Trees, Node, none, more, trees, stop_of}
-use Rattle.aml_operators.specs.Table.{letters_of}
+use Rattle.aml_operators.specs.Shape.{IsShaped, AreShaped}
+use Rattle.aml_operators.specs.Tree.{Tree, Node, none, more, trees, stop_of}
 use Rattle.aml_tree.specs.Opening.{Opening, NoTarget, PlainName, InvokedName, Operator}
-use Rattle.aml_tree.specs.Begins.{Begins}
-use Rattle.aml_tree.specs.Grammar.{Meets, Follows, IsTerm, AreTerms}
+use Rattle.aml_tree.specs.Grammar.{Follows, IsTerm, AreTerms}
 use Rattle.aml_tree.specs.Body.{greatest_depth, no_arguments, module_start, IsModule}
-use Rattle.aml_tree.proofs.Combining.{of_ok}
-use Rattle.aml_tree.proofs.Leaves.{end_in}
+use Rattle.aml_tree.specs.Spelled.{IsSpelled, AreSpelled}
 use Rattle.aml_tree.proofs.Bounds.{term_in}
-use Rattle.aml_tree.proofs.Beginnings.{begins_in}
 use Rattle.aml_tree.proofs.Faults.{module_fault}
+use Rattle.aml_tree.proofs.Names.{module_spelled}
+use Rattle.aml_tree.proofs.Shaped.{module_shaped}
 use Rattle.acpi_tables.specs.declared.fault.TableCause.TheVariants.{Short, BadLength, BadSum, BadSignature}
 use Rattle.acpi_tables.specs.declared.fault.TableFault.{TableFault}
 use Rattle.acpi_tables.specs.Bytes.{number_at}
@@ -25,11 +23,12 @@ use Rattle.acpi_tables.specs.Fault.{check, first_fault}
 use Rattle.aml_namespace.specs.declared.fault.LoadCause.TheVariants.{Duplicate}
 use Rattle.aml_namespace.specs.declared.fault.LoadRefusal.{LoadRefusal}
 use Rattle.aml_namespace.specs.declared.method.Method.{Method}
+use Rattle.aml_namespace.specs.Entries.{Entries}
 use Rattle.aml_namespace.specs.Fault.{◌>>=◌, load_refusal}
 use Rattle.aml_namespace.specs.Load.{dsdt_signature, FaultyLoad}
-use Rattle.aml_namespace.specs.Entries.{Entries}
 use Rattle.aml_namespace.specs.Laws.{StandsWithin, FaultsWithin}
-use Rattle.aml_namespace.specs.Define.{Definition, at_of, flags_of, root_segment_at, method_with, definition_under, method_from, method_in, definition_of, is_defined, add, define_one, defined_from}
+use Rattle.aml_namespace.specs.Define.{Definition, at_of, root_segment_at, method_with, definition_under, definition_of, is_defined, add, define_one, defined_from}
+use Rattle.aml_namespace.proofs.Spans.{name_within}
 
 -- a fault of the first table, of so many bytes
 abbrev StandsAt : ℕ → LoadRefusal → Type 0
@@ -40,42 +39,9 @@ abbrev Placed : ℕ → Result Definition LoadRefusal → Type 0
 Placed end (Ok d) = d.1 ≤ end
 Placed end (Err f) = StandsAt end f
 
--- where a Method term's name stands
-abbrev NameWithin : ℕ → Trees → Type 0
-NameWithin end none = Unit {0}
-NameWithin end (more name rest) = at_of name ≤ end
-
 named_placed : (end : ℕ) (o : Option (List ℕ)) (name_at : ℕ) (m : Method) → name_at ≤ end → Placed end (definition_under o name_at m)
 named_placed end None name_at m le = (refl, le)
 named_placed end (Some b) name_at m le = le
-
-from_placed : (bytes : List ℕ) (end at : ℕ) (name body : Tree) (o : Option ℕ) → at ≤ end → at_of name ≤ end → Placed end (method_from bytes at name body o)
-from_placed bytes end at name body None le n = (refl, le)
-from_placed bytes end at name body (Some flags) le n = named_placed end (root_segment_at bytes (at_of name)) (at_of name) (method_with flags at (at_of body) (stop_of body)) n
-
-method_placed : (bytes : List ℕ) (end at : ℕ) (parts : Trees) → at ≤ end → NameWithin end parts → Placed end (method_in bytes at parts)
-method_placed bytes end at none le n = (refl, le)
-method_placed bytes end at (more a none) le n = (refl, le)
-method_placed bytes end at (more a (more b none)) le n = (refl, le)
-method_placed bytes end at (more a (more b (more c none))) le n = from_placed bytes end at a c (flags_of b) le n
-method_placed bytes end at (more a (more b (more c (more d ts)))) le n = (refl, le)
-
-name_within : (bytes : List ℕ) (next stop : ℕ) (parts : List Tree) (d own : ℕ) → next ≤ length bytes → Meets no_arguments (IsTerm code.Module no_arguments d) (letters_of op.Method) own bytes next stop parts → NameWithin (length bytes) (trees parts)
-name_within bytes next stop parts d own le h =
-    let w = of_ok _ _ _ _ (end_in bytes next le) h.2 in
-    let e : at_of h.3.0 ≡ h.1 = ap at_of h.3.3.3 in
-    subst (λ (x : List Tree). NameWithin (length bytes) (trees x)) (sym h.3.2) (omega (arith, e, w))
-
-name_follows : (o : Opening) (bytes : List ℕ) (from at stop : ℕ) (parts : Trees) (d : ℕ) → Begins code.Module spot.Statement bytes from o → Follows no_arguments (IsTerm code.Module no_arguments d) o bytes from (Node op.Method at stop parts) → NameWithin (length bytes) parts
-name_follows NoTarget bytes from at stop parts d b h = absurd cc
-name_follows PlainName bytes from at stop parts d b h = let e = h.3 in absurd cc
-name_follows InvokedName bytes from at stop parts d b h = let e = h.7 in absurd cc
-name_follows (Operator o next) bytes from at stop parts d b h =
-    let fits = begins_in code.Module spot.Statement bytes from (Operator o next) b in
-    let same_op : o ≡ op.Method = cc h.3 in
-    let same_parts : trees h.1 ≡ parts = cc h.3 in
-    subst (λ (x : Trees). NameWithin (length bytes) x) same_parts
-    (name_within bytes next h.0 h.1 d from fits.1 (subst (λ (x : Op). Meets no_arguments (IsTerm code.Module no_arguments d) (letters_of x) from bytes next h.0 h.1) same_op h.2))
 
 -- a term stands where it is read
 begins_at : (o : Opening) (bytes : List ℕ) (from : ℕ) (t : Tree) (d : ℕ) → Follows no_arguments (IsTerm code.Module no_arguments d) o bytes from t → at_of t ≡ from
@@ -87,15 +53,17 @@ begins_at (Operator o next) bytes from t d h = ap at_of h.3
 abbrev IsDefinition : List ℕ → ℕ → Tree → Type 0
 IsDefinition bytes from t = IsTerm code.Module no_arguments greatest_depth module_start spot.Statement bytes from t
 
-by_op : (bytes : List ℕ) (from : ℕ) (t : Tree) → at_of t ≤ length bytes → IsDefinition bytes from t → Placed (length bytes) (definition_of bytes t)
-by_op bytes from (Node op.Method at stop parts) le h = method_placed bytes (length bytes) at parts le (name_follows h.0 bytes from at stop parts 63 h.1 h.2)
-by_op bytes from (Node o at stop parts) le h = (refl, le)
+by_op : (bytes : List ℕ) (t : Tree) → at_of t ≤ length bytes → IsShaped code.Module t → IsSpelled bytes t → Placed (length bytes) (definition_of bytes t)
+by_op bytes (Node op.Method at stop (more name (more (Node (op.Number flags) flags_at flags_end inner) (more body none)))) le shaped spelled =
+    let within = name_within bytes name shaped.0.0 spelled.1.0 in
+    named_placed (length bytes) (root_segment_at bytes (at_of name)) (at_of name) (method_with flags at (at_of body) (stop_of body)) (omega (arith, within))
+by_op bytes (Node o at stop parts) le shaped spelled = (refl, le)
 
-definition_placed : (bytes : List ℕ) (from : ℕ) (t : Tree) → IsDefinition bytes from t → Placed (length bytes) (definition_of bytes t)
-definition_placed bytes from t h =
+definition_placed : (bytes : List ℕ) (from : ℕ) (t : Tree) → IsDefinition bytes from t → IsShaped code.Module t → IsSpelled bytes t → Placed (length bytes) (definition_of bytes t)
+definition_placed bytes from t h shaped spelled =
     let w = term_in code.Module no_arguments greatest_depth module_start spot.Statement bytes from t h in
     let e = begins_at h.0 bytes from t 63 h.2 in
-    by_op bytes from t (omega (arith, e, w)) h
+    by_op bytes t (omega (arith, e, w)) shaped spelled
 
 added_placed : (end : ℕ) (b : Bool) (es : Entries) (d : Definition) (f : LoadRefusal) → d.1 ≤ end → cond b (Err (load_refusal Duplicate d.1)) (Ok (es ++ (d.0, d.2) ∷ [])) ≡ Err f → StandsAt end f
 added_placed end true es d f le e = let same : load_refusal Duplicate d.1 ≡ f = cc in subst (λ (y : LoadRefusal). StandsAt end y) same (refl, le)
@@ -122,14 +90,15 @@ step_placed : (bytes : List ℕ) (es : Entries) (t : Tree) (ts : List Tree) (f :
 step_placed bytes es t ts f placed later (inl h) = one_placed bytes es t f placed (bind_err (definition_of bytes t) _ f h)
 step_placed bytes es t ts f placed later (inr h) = later h.0 h.2
 
-all_placed : (bytes : List ℕ) (from stop : ℕ) (es : Entries) (ts : List Tree) (f : LoadRefusal) → AreTerms no_arguments (IsTerm code.Module no_arguments greatest_depth) module_start spot.Statement bytes from stop ts → defined_from bytes es ts ≡ Err f → StandsAt (length bytes) f
-all_placed bytes from stop es [] f a e = absurd cc
-all_placed bytes from stop es (t ∷ ts) f a e =
-    step_placed bytes es t ts f (definition_placed bytes from t a.0) (λ m h. all_placed bytes (stop_of t) stop m ts f a.1 h) (bind_err (define_one bytes es t) _ f e)
+all_placed : (bytes : List ℕ) (from stop : ℕ) (es : Entries) (ts : List Tree) (f : LoadRefusal) → AreTerms no_arguments (IsTerm code.Module no_arguments greatest_depth) module_start spot.Statement bytes from stop ts → AreShaped code.Module (trees ts) → AreSpelled bytes (trees ts)
+    → defined_from bytes es ts ≡ Err f → StandsAt (length bytes) f
+all_placed bytes from stop es [] f a shaped spelled e = absurd cc
+all_placed bytes from stop es (t ∷ ts) f a shaped spelled e =
+    step_placed bytes es t ts f (definition_placed bytes from t a.0 shaped.0 spelled.0) (λ m h. all_placed bytes (stop_of t) stop m ts f a.1 shaped.1 spelled.1 h) (bind_err (define_one bytes es t) _ f e)
 
 -- where a module's definitions are refused
-pub module_placed : (bytes : List ℕ) (ts : List Tree) (f : LoadRefusal) → IsModule bytes ts → defined_from bytes [] ts ≡ Err f → StandsAt (length bytes) f
-module_placed bytes ts f a e = all_placed bytes module_start (length bytes) [] ts f a.1 e
+module_placed : (bytes : List ℕ) (ts : List Tree) (f : LoadRefusal) → IsModule bytes ts → defined_from bytes [] ts ≡ Err f → StandsAt (length bytes) f
+module_placed bytes ts f a e = all_placed bytes module_start (length bytes) [] ts f a.1 (module_shaped bytes ts a).1 (module_spelled bytes ts a) e
 
 -- where a table is refused
 table_placed : (b c d e : Bool) (n : ℕ) (f : TableFault) → (b ≡ false → 36 ≤ n) → first_fault (check b Short n ∷ check c BadLength 4 ∷ check d BadSum 9 ∷ check e BadSignature 0 ∷ []) ≡ Some f → f.at ≤ n

@@ -1,12 +1,10 @@
 -- What a module's definitions make, in the order of the bytes (ACPI 6.5, 5.3 and 19.6, Method).
-use Rattle.std.specs.Prelude.{ℕ, ◌%◌, ◌==◌, List, [], ◌∷◌, ◌++◌, Option, Some, None, Result, Ok, Err, if◌then◌else◌, Bool, is_some}
-use Rattle.aml_operators.specs.declared.op.Op.{Op}
+use Rattle.std.specs.Prelude.{ℕ, ◌%◌, ◌==◌, List, [], ◌∷◌, ◌++◌, Option, Some, None, Result, Ok, Err, if◌then◌else◌, Bool, is_some, option_and_then}
 use Rattle.aml_operators.specs.declared.op.Op.TheVariants as op
-use Rattle.aml_operators.specs.Tree.{Tree, Trees, Node, none, more, stop_of}
+use Rattle.aml_operators.specs.Tree.{Tree, Node, none, more, stop_of}
 use Rattle.aml_lex.specs.NameStrings.{NameString}
 use Rattle.aml_lex.specs.Names.{only_segment}
-use Rattle.aml_lex.specs.Reading.{name_string_at}
-use Rattle.aml_lex.specs.declared.fault.LexFault.{LexFault}
+use Rattle.aml_lex.specs.Standing.{name_there}
 use Rattle.aml_lex.specs.declared.names.NameSeg.{NameSeg}
 use Rattle.aml_tree.specs.declared.fault.TreeCause.TheVariants.{ModuleCode}
 use Rattle.aml_namespace.specs.declared.fault.LoadCause.TheVariants.{Tree as InTree, Duplicate, ScopeMissing}
@@ -19,12 +17,12 @@ use Rattle.aml_namespace.specs.Fault.{load_refusal, ◌>>=◌}
 abbrev pub root_segment : NameString → Option (List ℕ)
 root_segment name = if name.parents == 0 then only_segment name.segs else None
 
-abbrev pub root_segment_of : Result (NameString × ℕ) LexFault → Option (List ℕ)
-root_segment_of (Ok r) = root_segment r.0
-root_segment_of (Err fault) = None
-
+-- the segment of the name at a place, where it is such a name
 abbrev pub root_segment_at : List ℕ → ℕ → Option (List ℕ)
-root_segment_at bytes at = root_segment_of (name_string_at bytes at)
+root_segment_at bytes at = option_and_then root_segment (name_there bytes at)
+
+abbrev pub at_of : Tree → ℕ
+at_of (Node o at stop parts) = at
 
 -- a segment, the place of its name, and the method that it names
 abbrev pub Definition : Type 0
@@ -39,34 +37,11 @@ abbrev pub definition_under : Option (List ℕ) → ℕ → Method → Result De
 definition_under None name_at method = Err (load_refusal ScopeMissing name_at)
 definition_under (Some bytes) name_at method = Ok (record { bytes = bytes }, name_at, method)
 
--- the flags that a part is
-abbrev pub flags_of : Tree → Option ℕ
-flags_of (Node (op.Number n) at stop parts) = Some n
-flags_of t = None
-
-abbrev pub at_of : Tree → ℕ
-at_of (Node o at stop parts) = at
-
--- a term that defines nothing that is known yet may not stand in a module
-abbrev pub unknown : ℕ → Result Definition LoadRefusal
-unknown at = Err (load_refusal (InTree ModuleCode) at)
-
--- a method from the parts of its term: its name, its body and its flags
-abbrev pub method_from : List ℕ → ℕ → Tree → Tree → Option ℕ → Result Definition LoadRefusal
-method_from bytes at name body None = unknown at
-method_from bytes at name body (Some flags) = definition_under (root_segment_at bytes (at_of name)) (at_of name) (method_with flags at (at_of body) (stop_of body))
-
-abbrev pub method_in : List ℕ → ℕ → Trees → Result Definition LoadRefusal
-method_in bytes at (more name (more flags (more body none))) = method_from bytes at name body (flags_of flags)
-method_in bytes at parts = unknown at
-
--- what a term defines
-abbrev pub definition_in : List ℕ → Op → ℕ → Trees → Result Definition LoadRefusal
-definition_in bytes op.Method at parts = method_in bytes at parts
-definition_in bytes o at parts = unknown at
-
+-- a Method's parts are its name, its flags and its body; a term that defines nothing that is known yet may not stand in a module
 abbrev pub definition_of : List ℕ → Tree → Result Definition LoadRefusal
-definition_of bytes (Node o at stop parts) = definition_in bytes o at parts
+definition_of bytes (Node op.Method at stop (more name (more (Node (op.Number flags) flags_at flags_end inner) (more body none)))) =
+    definition_under (root_segment_at bytes (at_of name)) (at_of name) (method_with flags at (at_of body) (stop_of body))
+definition_of bytes (Node o at stop parts) = Err (load_refusal (InTree ModuleCode) at)
 
 -- whether a segment names an object that is there
 abbrev pub is_defined : NameSeg → Entries → Bool

@@ -1,15 +1,21 @@
 // The objects that definitions make.
 
-ghost use Rattle.std.specs.Prelude.{◌≡◌, [], map};
-ghost use Rattle.aml_operators.specs.Tree.{view, views};
+ghost use Rattle.std.specs.Prelude.{◌≡◌, [], map, IsSome};
+ghost use Rattle.aml_operators.specs.declared.row.Code.TheVariants as code;
+ghost use Rattle.aml_operators.specs.Shape.{IsShaped};
+ghost use Rattle.aml_operators.specs.Tree.{view};
 ghost use Rattle.aml_lex.specs.Names.{name_of, seg_bytes};
-ghost use Rattle.aml_namespace.specs.Define.{root_segment, root_segment_at, definition_under, flags_of, method_from, method_in, definition_of, add, define_one, defined_from};
+ghost use Rattle.aml_lex.specs.Standing.{name_there};
+ghost use Rattle.aml_tree.specs.Body.{IsModule};
+ghost use Rattle.aml_tree.specs.Spelled.{IsSpelled};
+ghost use Rattle.aml_namespace.specs.Define.{root_segment, root_segment_at, definition_under};
+ghost use Rattle.aml_namespace.specs.Define.{definition_of, add, define_one, defined_from};
 ghost use Rattle.aml_namespace.specs.Defines.{Defines, AddsObject, definition_seen, entries_of};
 
 use crate::fault::{LoadCause, LoadFault, refuse};
 use crate::method::Method;
 use crate::objects::Objects;
-use aml_lex::{NameRef, NameSeg, name_string};
+use aml_lex::{NameRef, NameSeg, standing_name};
 use aml_tree::{Op, Span, Term, TreeCause};
 use std::alloc::Global;
 
@@ -32,70 +38,34 @@ fn root_name(name: &NameRef<'_>) -> Option<NameSeg>
     Some(name.seg(0))
 }
 
-/// The segment of the name at a place, where it stands at the root.
+/// The segment of the name that stands at a place, where it is at the root.
 fn root_name_at(bytes: &[u8], at: usize) -> Option<NameSeg>
+    requires { IsSome (name_there bytes.now at) }
     ensures { seg_bytes result ≡ root_segment_at bytes.now at }
 {
-    if at > bytes.len() {
-        return None;
-    }
-    match name_string(bytes, at) {
-        Ok((name, _)) => root_name(&name),
-        Err(_) => None,
-    }
+    root_name(&standing_name(bytes, at))
 }
 
 /// What a term of a module defines.
-#[tactic(auto, using(aml_operators::proofs::Views::view_out))]
+#[tactic(auto, using(aml_operators::proofs::Views::view_out, aml_operators::proofs::PartsOf::part_count))]
 fn definition_of(bytes: &[u8], term: &Term) -> Result<Definition, LoadFault>
+    requires shaped { IsShaped code.Module (view term.now) }
+    requires spelled { IsSpelled bytes.now (view term.now) }
     ensures { Defines definition_seen result (definition_of bytes.now (view term.now)) }
 {
-    match term.op {
-        Op::Method => method_of(bytes, term.at, &term.parts),
-        _ => Err(refuse(LoadCause::Tree(TreeCause::ModuleCode), term.at)),
-    }
-}
-
-/// The method that a Method term with these parts defines.
-#[tactic(auto, using(crate::proofs::Definitions::misfit))]
-fn method_of(bytes: &[u8], at: usize, parts: &[Term]) -> Result<Definition, LoadFault>
-    ensures { Defines definition_seen result (method_in bytes.now at (views parts.now)) }
-{
-    match parts {
-        [name, flags, body] => method_from(bytes, at, name, body, flags_of(flags)),
-        _ => Err(refuse(LoadCause::Tree(TreeCause::ModuleCode), at)),
-    }
-}
-
-/// The flags that a part is.
-#[tactic(auto, using(aml_operators::proofs::Views::view_out))]
-fn flags_of(part: &Term) -> Option<u64>
-    ensures { result ≡ flags_of (view part.now) }
-{
-    match part.op {
-        Op::Number(n) => Some(n),
-        _ => None,
-    }
-}
-
-/// The method of a name, a body and flags.
-#[tactic(auto, using(aml_operators::proofs::Views::view_out))]
-fn method_from(
-    bytes: &[u8],
-    at: usize,
-    name: &Term,
-    body: &Term,
-    flags: Option<u64>,
-) -> Result<Definition, LoadFault>
-    ensures { Defines definition_seen result (method_from bytes.now at (view name.now) (view body.now) flags) }
-{
-    let Some(flags) = flags else {
-        return Err(refuse(LoadCause::Tree(TreeCause::ModuleCode), at));
+    let Op::Method = term.op else {
+        return Err(refuse(LoadCause::Tree(TreeCause::ModuleCode), term.at));
+    };
+    let [name, flags, body] = &term.parts[..] else {
+        unreachable!()
+    };
+    let Op::Number(flags) = flags.op else {
+        unreachable!()
     };
     let method = Method {
         args: (flags % 8) as u8,
         table: 0,
-        at,
+        at: term.at,
         body: Span {
             at: body.at,
             end: body.end,
@@ -124,7 +94,8 @@ fn definition_under(
 
 /// Adds an object, whose path must be new.
 fn add(objects: &mut Objects, definition: Definition) -> Result<(), LoadFault>
-    ensures { AddsObject result (entries_of objects.new) (add (entries_of objects.old) (definition_seen definition)) }
+    ensures { let answer = add (entries_of objects.old) (definition_seen definition) in
+        AddsObject result (entries_of objects.new) answer }
 {
     if objects.index_of(&definition.segment).is_some() {
         return Err(refuse(LoadCause::Duplicate, definition.name_at));
@@ -135,14 +106,19 @@ fn add(objects: &mut Objects, definition: Definition) -> Result<(), LoadFault>
 
 /// Adds the object that a term defines.
 fn define_one(bytes: &[u8], objects: &mut Objects, term: &Term) -> Result<(), LoadFault>
-    ensures { AddsObject result (entries_of objects.new) (define_one bytes.now (entries_of objects.old) (view term.now)) }
+    requires shaped { IsShaped code.Module (view term.now) }
+    requires spelled { IsSpelled bytes.now (view term.now) }
+    ensures { let answer = define_one bytes.now (entries_of objects.old) (view term.now) in
+        AddsObject result (entries_of objects.new) answer }
 {
     let definition = definition_of(bytes, term)?;
     add(objects, definition)
 }
 
 /// The objects that a module's terms define.
+#[tactic(auto, using(crate::proofs::Definitions::term_shaped, crate::proofs::Definitions::term_spelled))]
 pub(crate) fn define_all(alloc: Global, bytes: &[u8], terms: &[Term]) -> Result<Objects, LoadFault>
+    requires { IsModule bytes.now (map view terms.now) }
     ensures { Defines entries_of result (defined_from bytes.now [] (map view terms.now)) }
 {
     let mut objects = Objects::new(alloc);

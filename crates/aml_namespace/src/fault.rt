@@ -14,13 +14,14 @@ use thiserror::Error;
 /// What is wrong with a table or with its definitions.
 #[derive(Clone, Copy, Debug, PartialEq, Eq)]
 pub enum LoadCause {
-    /// The table, E101 to E104.
+    /// The table, E101 to E104; its place is that of the field at fault, or the table's end.
     Table(TableCause),
-    /// The bytes of its module, E201 to E209.
+    /// The bytes of its module, E201 to E209; its place is that of the byte at fault, or the table's
+    /// end. E209, ModuleCode, is also told of a definition that is no method, at its opcode.
     Tree(TreeCause),
     /// A second definition of a path; its place is that of the defined name.
     Duplicate,
-    /// A name whose parent is no scope that is there; its place is that of the name.
+    /// A defined name whose parent is no scope that is there; its place is that of the name.
     ScopeMissing,
 }
 
@@ -53,15 +54,17 @@ pub struct LoadRefusal {
     pub cause: LoadCause,
     /// The number of the table in the order of loading, from 0.
     pub table: usize,
-    /// A place of at most the table's number of bytes.
+    /// The byte, counted from the table's first, of at most the table's number of bytes.
     pub at: usize,
 }
 
-/// Why there is no namespace.
+/// Why there is no namespace: want of memory, which has no place, or a refusal, which has one.
 #[derive(Clone, Copy, Debug, PartialEq, Eq, Error)]
 pub enum LoadFault {
+    /// An allocation failed; the load may be tried again.
     #[error("E524 NoMemory")]
     NoMemory,
+    /// The first fault.
     #[error(transparent)]
     Refused(LoadRefusal),
 }

@@ -31,11 +31,14 @@ impl<'a> Namespace<'a> {
     ghost use Rattle.aml_namespace.specs.Names.{resolve, args_of};
     ghost use Rattle.aml_namespace.specs.Objects.{method_at, object_segment, number_of, ReadsBodyOf};
 
-    /// Loads a DSDT: its header, then its whole module, then its definitions in the order of the bytes.
+    /// Loads a DSDT: its header, then its whole module, then its definitions in the order of the
+    /// bytes.
     ///
-    /// Faults: E101 to E104 of the table; E201 to E209 of its module; E209 at a definition that is no
-    /// method, E302 at a name that is not one segment at the root, E301 at a name that is defined already.
-    /// After a refusal there is no namespace.
+    /// Faults: E101 to E104 of the table, at the place that `read_table` tells; E201 to E209 of its
+    /// module, at the place that `read_module` tells; E209 at the opcode of a definition that is no
+    /// method; E302 at a name that is not one segment at the root; E301 at a name that is defined
+    /// already. Each has the table's number, 0, and a place of at most the table's number of bytes.
+    /// Want of memory, E524, has neither. After a fault there is no namespace.
     #[tactic(auto, using(crate::proofs::Spans::module_bodies))]
     pub fn load(alloc: Global, dsdt: &'a [u8]) -> Result<Self, LoadFault>
         ensures { Loads dsdt.now result }
@@ -50,14 +53,14 @@ impl<'a> Namespace<'a> {
         })
     }
 
-    /// The width of integers, which the DSDT's revision tells.
+    /// The width of integers, by the DSDT's revision.
     pub fn width(&self) -> Width
         ensures { result ≡ (shown self.now).width }
     {
         self.width
     }
 
-    /// The number of objects.
+    /// The number of objects: their numbers, `ObjectId`, are those below it.
     pub fn len(&self) -> usize
         ensures { result ≡ length (shown self.now).entries }
     {
@@ -85,15 +88,15 @@ impl<'a> Namespace<'a> {
         self.objects.get(id.0).map(|(segment, _)| segment)
     }
 
-    /// The number of the method with this segment at the root.
+    /// The number of the method with this segment at the root, None where no method has it.
     pub fn find(&self, segment: NameSeg) -> Option<ObjectId>
         ensures { option_map (λ id. id.0) result ≡ number_of (shown self.now) segment }
     {
         self.objects.index_of(&segment).map(ObjectId)
     }
 
-    /// The method that a name in a body names: a lone segment is searched upward to the root, where all
-    /// methods are, and `^` goes from a method to the root.
+    /// The method that a name in a body names, None where it names nothing: a lone segment is searched
+    /// upward to the root, where all methods are, and `^` goes from a method to the root.
     pub fn resolve(&self, name: &NameRef<'_>) -> Option<Method>
         ensures { result ≡ resolve (shown self.now).entries (name_of name.now) }
     {
@@ -106,10 +109,12 @@ impl<'a> Namespace<'a> {
     /// The statements of a method's body: a name takes as many terms as the method that it names has
     /// arguments.
     ///
-    /// Faults: E201 to E208, each with its place in the method's table.
+    /// Faults: E201 to E208, each with a place in the method's table, from the body's first byte to
+    /// its end; want of memory, E524.
     pub fn tree(&self, alloc: Global, id: ObjectId) -> Result<Vec<Term>, TreeFault>
         requires { id.0 < length (shown self.now).entries }
-        ensures { (m : Method) → method_at (shown self.now) id.0 ≡ Some m → ReadsBodyOf (shown self.now) m (trees_read result) }
+        ensures { let ns = shown self.now in
+            (m : Method) → method_at ns id.0 ≡ Some m → ReadsBodyOf ns m (trees_read result) }
     {
         let (_, method) = self.objects.get(id.0).unwrap();
         read_body(alloc, self.table, method.body, self)

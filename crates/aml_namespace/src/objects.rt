@@ -64,7 +64,8 @@ impl Objects {
     /// Adds an object, whose segment must be new.
     pub(crate) fn push(&mut self, segment: NameSeg, method: Method) -> Result<(), AllocError>
         requires { index_of self.old.entries.items segment ≡ None }
-        ensures ok { OnOk result (self.new.entries.items ≡ self.old.entries.items ++ (segment, method) ∷ []) }
+        ensures ok { let pushed = self.old.entries.items ++ (segment, method) ∷ [] in
+            OnOk result (self.new.entries.items ≡ pushed) }
         ensures err { OnErr result (self.new.entries.items ≡ self.old.entries.items) }
     {
         let number = self.entries.len();

@@ -3,7 +3,7 @@
 ghost use Rattle.std.specs.Prelude.{◌≡◌, ◌-◌, ◌^◌};
 ghost use Rattle.aml_namespace.specs.Widths.{bits_of, width_by};
 
-/// How wide the integers of a table are: 64 bits from the DSDT's revision 2 on.
+/// How wide integers are, in all tables: 64 bits from the DSDT's revision 2 on.
 #[derive(Clone, Copy, Debug, PartialEq, Eq)]
 pub enum Width {
     Bits32,
@@ -22,7 +22,7 @@ impl Width {
         }
     }
 
-    /// The number of bits.
+    /// The number of bits, 32 or 64.
     pub fn bits(self) -> u8
         ensures { result ≡ bits_of self }
     {
@@ -32,7 +32,7 @@ impl Width {
         }
     }
 
-    /// The greatest integer.
+    /// The greatest integer of this width, all its bits set.
     pub fn greatest(self) -> u64
         ensures { result ≡ 2 ^ bits_of self - 1 }
     {
