@@ -13,7 +13,7 @@ use Rattle.aml_tree.specs.declared.fault.Refusal.{Refusal}
 use Rattle.aml_tree.specs.declared.fault.TreeFault.{TreeFault}
 use Rattle.aml_tree.specs.declared.fault.TreeFault.TheVariants.{NoMemory, Refused}
 use Rattle.aml_tree.specs.Answers.{Answers}
-use Rattle.aml_tree.specs.Fault.{Fails, Gives}
+use Rattle.aml_tree.specs.Fault.{Fails, ReadsAs}
 use Rattle.aml_tree.specs.Grammar.{AreTerms, FaultyTerms, IsTerm, Faulty}
 use Rattle.aml_tree.specs.Reading.{term_at}
 use Rattle.aml_tree.specs.Body.{greatest_depth, with_owns, owns_behind, IsStatement, AreStatements, IsBody, FaultyBody, ReadsBody, module_start, no_arguments, IsModule, FaultyModule, ReadsModule, body_until, module_at, trees_of, trees_read}
@@ -79,7 +79,7 @@ module _ (arity : NameString → ℕ → ℕ) (bytes : List ℕ) where
   body_failing n owns front at (Refused f) lt le e = body_fails n owns front at f lt le e
 
   -- what reading answers is what the grammar says
-  pub body_reads : {Z : Type 0} (at : ℕ) → at ≤ length bytes → (result : Result (Vec Term Z) TreeFault) → Gives trees_of result (body_until arity bytes (length bytes) [] [] at) → ReadsBody arity bytes at (trees_read result)
+  pub body_reads : {Z : Type 0} (at : ℕ) → at ≤ length bytes → (result : Result (Vec Term Z) TreeFault) → ReadsAs trees_of result (body_until arity bytes (length bytes) [] [] at) → ReadsBody arity bytes at (trees_read result)
   body_reads at le (Ok terms) e =
       let h = of_ok _ _ _ _ (body_right (length bytes) [] [] at (omega arith) le) e in
       (h.1, subst (λ (x : List Tree). AreStatements arity [] bytes at x (length bytes) h.1) (sym h.2) h.3)
@@ -112,7 +112,7 @@ module_full bytes ts h =
     let test : nat_lt (length bytes) module_start ≡ false = not_below (length bytes) module_start h.0 (nat_lt (length bytes) module_start) refl in
     rw (test, until_full no_arguments (term_at code.Module no_arguments greatest_depth) (IsTerm code.Module no_arguments greatest_depth) (term_full code.Module no_arguments greatest_depth) (term_in code.Module no_arguments greatest_depth) module_start spot.Statement bytes (length bytes) [] module_start (length bytes) ts h.1 refl (omega arith))
 
-pub module_reads : {Z : Type 0} (bytes : List ℕ) (result : Result (Vec Term Z) TreeFault) → Gives trees_of result (module_at bytes) → ReadsModule bytes (trees_read result)
+pub module_reads : {Z : Type 0} (bytes : List ℕ) (result : Result (Vec Term Z) TreeFault) → ReadsAs trees_of result (module_at bytes) → ReadsModule bytes (trees_read result)
 module_reads bytes (Ok terms) e = of_ok _ _ _ _ (module_right bytes) e
 module_reads bytes (Err NoMemory) e = tt
 module_reads bytes (Err (Refused f)) e = (of_err _ _ _ _ (module_right bytes) e, λ ts h. let x = module_full bytes ts h in cc (x, e))

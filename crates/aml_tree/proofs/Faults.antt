@@ -20,7 +20,7 @@ use Rattle.aml_lex.specs.declared.fault.LexFault.{LexFault}
 use Rattle.aml_lex.proofs.Laws.{package_end_fault, pkg_length_fault, name_string_fault, string_data_fault}
 use Rattle.aml_tree.specs.declared.fault.Refusal.{Refusal}
 use Rattle.aml_tree.specs.Fault.{lexical, refused}
-use Rattle.aml_tree.specs.Leaf.{end_at, name_at, bits_at, text_at, number_at}
+use Rattle.aml_tree.specs.Leaf.{end_at, name_at, bits_at, text_at, little_endian_at}
 use Rattle.aml_tree.specs.Opening.{Opening, NoTarget, PlainName, InvokedName, Operator, asking}
 use Rattle.aml_tree.specs.Begins.{FaultyBegin, NoByte, NoSecondByte, NameUnknown, NameOutside, NoOperator, OperatorUnknown, OperatorOutside}
 use Rattle.aml_tree.specs.Reading.{item_next}
@@ -54,11 +54,11 @@ text_fault : (bytes : List ℕ) (at : ℕ) (f : Refusal) → text_at bytes at �
 unfolding text_at
 text_fault bytes at f e = refused_at (string_data_at bytes at) (length bytes) f (λ g q. string_data_fault bytes at g q) e
 
-number_fault : (width : ℕ) (bytes : List ℕ) (at : ℕ) (f : Refusal) → number_at width bytes at ≡ Err f → f.at ≤ length bytes
-unfolding number_at
-number_fault width bytes at f e =
-    of_err (number_at width bytes at) (λ r. Unit {0}) (λ g. g.at ≤ length bytes) f
-    (by_test (nat_lt (length bytes) (at + width)) _ _ (λ r. Unit {0}) (λ g. g.at ≤ length bytes) (λ q. omega arith) (λ q. tt)) e
+number_fault : (count : ℕ) (bytes : List ℕ) (at : ℕ) (f : Refusal) → little_endian_at count bytes at ≡ Err f → f.at ≤ length bytes
+unfolding little_endian_at
+number_fault count bytes at f e =
+    of_err (little_endian_at count bytes at) (λ r. Unit {0}) (λ g. g.at ≤ length bytes) f
+    (by_test (nat_lt (length bytes) (at + count)) _ _ (λ r. Unit {0}) (λ g. g.at ≤ length bytes) (λ q. omega arith) (λ q. tt)) e
 
 -- a beginning
 asking_in : (s : Spot) (asker at end : ℕ) → asker ≤ end → at < end → asking s asker at ≤ end
@@ -88,7 +88,7 @@ module _ (arity : NameString → ℕ → ℕ) (Below : ℕ → Spot → List ℕ
   piece_fault : (p : Piece) (own : ℕ) (bytes : List ℕ) (at : ℕ) (f : Refusal) → own ≤ length bytes → FaultyPiece arity Below Bad p own bytes at f → f.at ≤ length bytes
   piece_fault (piece.Term s) own bytes at f le h = bad_in own s bytes at f le h
   piece_fault piece.NameString own bytes at f le h = name_fault bytes at f h
-  piece_fault (piece.Number width) own bytes at f le h = number_fault (size_of width) bytes at f h
+  piece_fault (piece.Number size) own bytes at f le h = number_fault (size_of size) bytes at f h
   piece_fault piece.Bits own bytes at f le h = bits_fault bytes at f h
   piece_fault piece.Text own bytes at f le h = text_fault bytes at f h
   piece_fault piece.Connection own bytes at f le h = connection_fault own bytes at f le h

@@ -69,7 +69,7 @@ module _ (arity : NameString → ℕ → ℕ) (below : ℕ → Spot → List ℕ
   unfolding piece_at
   piece_full (piece.Term s) own bytes at t h = full own s bytes at t h
   piece_full piece.NameString own bytes at t h = name_leaf_full bytes at t h
-  piece_full (piece.Number width) own bytes at t h = rw (h.2, h.3)
+  piece_full (piece.Number size) own bytes at t h = rw (h.2, h.3)
   piece_full piece.Bits own bytes at t h = rw (h.2, h.3)
   piece_full piece.Text own bytes at t h = rw (h.2, h.3)
   piece_full piece.Connection own bytes at t h = connection_full own bytes at t h

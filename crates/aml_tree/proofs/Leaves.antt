@@ -6,12 +6,12 @@ use Rattle.std.proofs.lemmas.Option.{slice_get_cases}
 use Rattle.aml_lex.specs.declared.fault.LexFault.{LexFault}
 use Rattle.aml_lex.specs.Reading.{package_end_at, pkg_length_at, name_string_at, string_data_at}
 use Rattle.aml_lex.proofs.Laws.{package_end_ends, pkg_length_ends, name_string_ends, string_data_ends}
-use Rattle.aml_operators.specs.declared.row.Width.{Width}
-use Rattle.aml_operators.specs.declared.row.Width.TheVariants.{Byte, Word, DWord, QWord}
+use Rattle.aml_operators.specs.declared.row.NumberSize.{NumberSize}
+use Rattle.aml_operators.specs.declared.row.NumberSize.TheVariants.{Byte, Word, DWord, QWord}
 use Rattle.aml_operators.specs.Places.{size_of}
 use Rattle.aml_tree.specs.declared.fault.Refusal.{Refusal}
 use Rattle.aml_tree.specs.Fault.{refused, truncated}
-use Rattle.aml_tree.specs.Leaf.{byte_or, byte_at, end_at, name_at, bits_at, text_at, number_at}
+use Rattle.aml_tree.specs.Leaf.{byte_or, byte_at, end_at, name_at, bits_at, text_at, little_endian_at}
 use Rattle.aml_tree.specs.Answers.{Answers}
 use Rattle.aml_tree.proofs.Combining.{by_test}
 
@@ -54,13 +54,13 @@ pub text_in : (bytes : List ℕ) (at : ℕ) → at ≤ length bytes → Answers 
 unfolding text_at
 text_in bytes at le = refused_ok (string_data_at bytes at) _ (λ r e. string_data_ends bytes at r e)
 
-some_bytes : (width : Width) → 0 < size_of width
+some_bytes : (size : NumberSize) → 0 < size_of size
 some_bytes Byte = omega arith
 some_bytes Word = omega arith
 some_bytes DWord = omega arith
 some_bytes QWord = omega arith
 
-pub number_in : (width : Width) (bytes : List ℕ) (at : ℕ) → Answers (number_at (size_of width) bytes at) (λ r. (at < r.1) × (r.1 ≤ length bytes)) Any
-unfolding number_at
-number_in width bytes at = by_test (nat_lt (length bytes) (at + size_of width)) _ _ _ _ (λ q. tt)
-    (λ q. let h : at + size_of width ≤ length bytes = ltb-false _ _ q in let w = some_bytes width in (omega arith, h))
+pub number_in : (size : NumberSize) (bytes : List ℕ) (at : ℕ) → Answers (little_endian_at (size_of size) bytes at) (λ r. (at < r.1) × (r.1 ≤ length bytes)) Any
+unfolding little_endian_at
+number_in size bytes at = by_test (nat_lt (length bytes) (at + size_of size)) _ _ _ _ (λ q. tt)
+    (λ q. let h : at + size_of size ≤ length bytes = ltb-false _ _ q in let w = some_bytes size in (omega arith, h))

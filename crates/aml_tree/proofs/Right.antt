@@ -20,13 +20,14 @@ use Rattle.aml_operators.specs.Tree.{Tree, Node, none, trees, stop_of}
 use Rattle.aml_lex.specs.NameStrings.{NameString}
 use Rattle.aml_tree.specs.declared.fault.Refusal.{Refusal}
 use Rattle.aml_tree.specs.Fault.{◌>>=◌}
-use Rattle.aml_tree.specs.Leaf.{byte_at, end_at, name_at, bits_at, text_at, number_at}
+use Rattle.aml_tree.specs.Leaf.{byte_at, end_at, name_at, bits_at, text_at, little_endian_at}
 use Rattle.aml_tree.specs.Opening.{Opening, NoTarget, PlainName, InvokedName, Operator}
 use Rattle.aml_tree.specs.Answers.{Answers}
 use Rattle.aml_tree.proofs.Combining.{then_answers, and_answers, weaker, by_test, of_ok}
 use Rattle.aml_tree.proofs.Leaves.{Ended, byte_is, end_in}
 use Rattle.aml_tree.proofs.Beginnings.{Fits}
-use Rattle.aml_tree.specs.Reading.{is_byte, item_next, literal_of, is_above, terms_until, terms_counted, connection_at, piece_at, pieces_at, item_of_kind, item_at, items_until, else_at, parts_at, form_at}
+use Rattle.aml_operators.specs.Literal.{literal_of}
+use Rattle.aml_tree.specs.Reading.{is_byte, item_next, is_above, terms_until, terms_counted, connection_at, piece_at, pieces_at, item_of_kind, item_at, items_until, else_at, parts_at, form_at}
 use Rattle.aml_tree.specs.Grammar.{AreTerms, IsConnection, IsPiece, ArePieces, IsItem, AreItems, IsElse, Meets, Follows, IsNameLeaf, FaultyTerms, FaultyConnection, FaultyPiece, FaultyPieces, FaultyItem, FaultyItems, FaultyElse, FaultyParts, FaultyForm}
 use Rattle.aml_tree.proofs.Bounds.{piece_in, item_in}
 
@@ -89,7 +90,7 @@ module _ (arity : NameString → ℕ → ℕ) (below : ℕ → Spot → List ℕ
   unfolding piece_at
   piece_right (piece.Term s) own bytes at = right own s bytes at
   piece_right piece.NameString own bytes at = name_leaf_right bytes at
-  piece_right (piece.Number width) own bytes at = then_answers (number_at (size_of width) bytes at) _ _ _ (λ r q. (r.0, r.1, q, refl)) (λ f q. q)
+  piece_right (piece.Number size) own bytes at = then_answers (little_endian_at (size_of size) bytes at) _ _ _ (λ r q. (r.0, r.1, q, refl)) (λ f q. q)
   piece_right piece.Bits own bytes at = then_answers (bits_at bytes at) _ _ _ (λ r q. (r.0, r.1, q, refl)) (λ f q. q)
   piece_right piece.Text own bytes at = then_answers (text_at bytes at) _ _ _ (λ r q. (r.0, r.1, q, refl)) (λ f q. q)
   piece_right piece.Connection own bytes at = connection_right own bytes at

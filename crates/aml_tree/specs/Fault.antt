@@ -34,9 +34,9 @@ Fails NoMemory answer = Unit {0}
 Fails (Refused f) answer = answer ≡ Err f
 
 -- the program's answer, seen by a view of its value, is that of a definition, unless memory ran out
-abbrev pub Gives : {X Y : Type 0} → (X → Y) → Result X TreeFault → Result Y Refusal → Type 0
-Gives view (Ok x) answer = answer ≡ Ok (view x)
-Gives view (Err fault) answer = Fails fault answer
+abbrev pub ReadsAs : {X Y : Type 0} → (X → Y) → Result X TreeFault → Result Y Refusal → Type 0
+ReadsAs view (Ok x) answer = answer ≡ Ok (view x)
+ReadsAs view (Err fault) answer = Fails fault answer
 
 abbrev pub same : {X : Type 0} → X → X
 same x = x

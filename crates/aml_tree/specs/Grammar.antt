@@ -19,10 +19,11 @@ use Rattle.aml_lex.specs.declared.fault.LexCause.TheVariants.{BadName}
 use Rattle.aml_tree.specs.declared.fault.TreeCause.TheVariants.{Lexical, TooDeep, TooLarge}
 use Rattle.aml_tree.specs.declared.fault.Refusal.{Refusal}
 use Rattle.aml_tree.specs.Fault.{refusal, truncated}
-use Rattle.aml_tree.specs.Leaf.{end_at, name_at, bits_at, text_at, number_at}
+use Rattle.aml_tree.specs.Leaf.{end_at, name_at, bits_at, text_at, little_endian_at}
 use Rattle.aml_tree.specs.Opening.{Opening, NoTarget, PlainName, InvokedName, Operator}
 use Rattle.aml_tree.specs.Begins.{Begins, FaultyBegin, HasNoTarget}
-use Rattle.aml_tree.specs.Reading.{literal_of, is_above, item_next}
+use Rattle.aml_operators.specs.Literal.{literal_of}
+use Rattle.aml_tree.specs.Reading.{is_above, item_next}
 
 -- parts without parts: what the lexical layer reads there
 abbrev pub IsPackage : List ℕ → ℕ → ℕ → ℕ → Type 0
@@ -55,7 +56,7 @@ module _ (arity : NameString → ℕ → ℕ) (Below : ℕ → Spot → List ℕ
   abbrev pub IsPiece : Piece → ℕ → List ℕ → ℕ → Tree → Type 0
   IsPiece (piece.Term s) own bytes from t = Below own s bytes from t
   IsPiece piece.NameString own bytes from t = IsNameLeaf bytes from t
-  IsPiece (piece.Number width) own bytes from t = (n : ℕ) × (stop : ℕ) × (number_at (size_of width) bytes from ≡ Ok (n, stop)) × IsLeaf (op.Number n) from stop t
+  IsPiece (piece.Number size) own bytes from t = (n : ℕ) × (stop : ℕ) × (little_endian_at (size_of size) bytes from ≡ Ok (n, stop)) × IsLeaf (op.Number n) from stop t
   IsPiece piece.Bits own bytes from t = (n : ℕ) × (stop : ℕ) × (bits_at bytes from ≡ Ok (n, stop)) × IsLeaf (op.Number n) from stop t
   IsPiece piece.Text own bytes from t = (text : List ℕ) × (stop : ℕ) × (text_at bytes from ≡ Ok (text, stop)) × IsLeaf op.AsciiCharList from stop t
   IsPiece piece.Connection own bytes from t = IsConnection own bytes from t
@@ -114,7 +115,7 @@ module _ (arity : NameString → ℕ → ℕ) (Below : ℕ → Spot → List ℕ
     abbrev pub FaultyPiece : Piece → ℕ → List ℕ → ℕ → Refusal → Type 0
     FaultyPiece (piece.Term s) own bytes from f = FaultyBelow own s bytes from f
     FaultyPiece piece.NameString own bytes from f = name_at bytes from ≡ Err f
-    FaultyPiece (piece.Number width) own bytes from f = number_at (size_of width) bytes from ≡ Err f
+    FaultyPiece (piece.Number size) own bytes from f = little_endian_at (size_of size) bytes from ≡ Err f
     FaultyPiece piece.Bits own bytes from f = bits_at bytes from ≡ Err f
     FaultyPiece piece.Text own bytes from f = text_at bytes from ≡ Err f
     FaultyPiece piece.Connection own bytes from f = FaultyConnection own bytes from f

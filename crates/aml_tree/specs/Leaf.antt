@@ -31,7 +31,7 @@ unfoldable pub text_at : List ℕ → ℕ → Result (List ℕ × ℕ) Refusal
 text_at bytes at = refused (string_data_at bytes at)
 
 -- a little endian number of so many bytes, and the place behind it
-unfoldable pub number_at : ℕ → List ℕ → ℕ → Result (ℕ × ℕ) Refusal
-number_at width bytes at =
-    if nat_lt (length bytes) (at + width) then Err (truncated (length bytes))
-    else Ok (little_number width (drop at bytes), at + width)
+unfoldable pub little_endian_at : ℕ → List ℕ → ℕ → Result (ℕ × ℕ) Refusal
+little_endian_at count bytes at =
+    if nat_lt (length bytes) (at + count) then Err (truncated (length bytes))
+    else Ok (little_number count (drop at bytes), at + count)

@@ -1,5 +1,5 @@
 -- Reading terms from left to right by their operand letters, with the first fault that is met.
-use Rattle.std.specs.Prelude.{◌≡◌, ℕ, zero, suc, ◌+◌, ◌-◌, ◌^◌, List, [], ◌∷◌, ◌++◌, length, take, Option, Some, None, Result, Ok, Err, nat_lt, ◌==◌, ◌||◌, ◌&&◌, slice_get, if◌then◌else◌, Bool, false}
+use Rattle.std.specs.Prelude.{◌≡◌, ℕ, zero, suc, ◌+◌, ◌-◌, List, [], ◌∷◌, ◌++◌, length, take, Option, Some, None, Result, Ok, Err, nat_lt, ◌==◌, ◌||◌, ◌&&◌, slice_get, if◌then◌else◌, Bool, false}
 use Rattle.aml_operators.specs.declared.op.Op.{Op}
 use Rattle.aml_operators.specs.declared.op.Op.TheVariants as op
 use Rattle.aml_operators.specs.declared.row.Code.{Code}
@@ -14,39 +14,21 @@ use Rattle.aml_operators.specs.declared.row.Letter.TheVariants.{One, Sized, Pack
 use Rattle.aml_operators.specs.Table.{letters_of}
 use Rattle.aml_operators.specs.Places.{size_of}
 use Rattle.aml_operators.specs.Fields.{item_of, pieces_of}
-use Rattle.aml_operators.specs.Tree.{Tree, Trees, Node, none, more, trees, stop_of}
+use Rattle.aml_operators.specs.Literal.{literal_of}
+use Rattle.aml_operators.specs.Tree.{Tree, Node, none, trees, stop_of}
 use Rattle.aml_lex.specs.NameStrings.{NameString}
 use Rattle.aml_lex.specs.declared.fault.LexCause.TheVariants.{BadName}
 use Rattle.aml_tree.specs.declared.fault.TreeCause.TheVariants.{Lexical, TooDeep, TooLarge}
 use Rattle.aml_tree.specs.declared.fault.TreeFault.{TreeFault}
 use Rattle.aml_tree.specs.declared.fault.Refusal.{Refusal}
 use Rattle.aml_tree.specs.Fault.{refusal, Fails, ◌>>=◌}
-use Rattle.aml_tree.specs.Leaf.{byte_at, end_at, name_at, bits_at, text_at, number_at}
+use Rattle.aml_tree.specs.Leaf.{byte_at, end_at, name_at, bits_at, text_at, little_endian_at}
 use Rattle.aml_tree.specs.Opening.{Opening, NoTarget, PlainName, InvokedName, Operator, opening_at, may_be_none}
 
 -- the place that the program returns and the parts that it leaves are a definition's, unless memory ran out
 abbrev pub Adds : Result ℕ TreeFault → List Tree → Result (List Tree × ℕ) Refusal → Type 0
 Adds (Ok next) parts answer = answer ≡ Ok (parts, next)
 Adds (Err fault) parts answer = Fails fault answer
-
-abbrev pub number_in : Trees → Option ℕ
-number_in (more (Node (op.Number n) at stop parts) rest) = Some n
-number_in parts = None
-
--- the number of an integer literal, by its operator and its parts
-abbrev pub literal_in : Op → Trees → Option ℕ
-literal_in op.Zero parts = Some 0
-literal_in op.One parts = Some 1
-literal_in op.Ones parts = Some (2 ^ 64 - 1)
-literal_in op.ByteConst parts = number_in parts
-literal_in op.WordConst parts = number_in parts
-literal_in op.DWordConst parts = number_in parts
-literal_in op.QWordConst parts = number_in parts
-literal_in o parts = None
-
--- the number of a term that is an integer literal
-abbrev pub literal_of : Tree → Option ℕ
-literal_of (Node o at stop parts) = literal_in o parts
 
 -- a literal size above its limit; a buffer's length is the greater of its size and the bytes that are left
 abbrev pub is_above : Limit → Option ℕ → ℕ → Bool
@@ -91,8 +73,8 @@ module _ (arity : NameString → ℕ → ℕ) (below : ℕ → Spot → List ℕ
   piece_at piece.NameString own bytes at = do
     r ← name_at bytes at
     Ok (Node op.NameString at r.1 none)
-  piece_at (piece.Number width) own bytes at = do
-    r ← number_at (size_of width) bytes at
+  piece_at (piece.Number size) own bytes at = do
+    r ← little_endian_at (size_of size) bytes at
     Ok (Node (op.Number r.0) at r.1 none)
   piece_at piece.Bits own bytes at = do
     r ← bits_at bytes at

@@ -7,7 +7,7 @@ ghost use Rattle.aml_operators.specs.declared.row.Code.TheVariants as code;
 ghost use Rattle.aml_operators.specs.declared.row.Spot.TheVariants as spot;
 ghost use Rattle.aml_operators.specs.Shape.{IsShaped};
 ghost use Rattle.aml_lex.specs.Names.{name_of, seg_bytes, lone_segment};
-ghost use Rattle.aml_tree.specs.Fault.{Gives};
+ghost use Rattle.aml_tree.specs.Fault.{ReadsAs};
 ghost use Rattle.aml_tree.specs.Reading.{term_at};
 ghost use Rattle.aml_tree.specs.Spelled.{IsSpelled};
 ghost use Rattle.aml_tree.specs.Owns.{is_kept, with_kept, Keeps};
@@ -141,7 +141,7 @@ fn read_statement<A: Arity>(
     bytes: &[u8],
     at: usize,
 ) -> Result<Term, TreeFault>
-    ensures gives { Gives view result (term_at code.Body
+    ensures gives { ReadsAs view result (term_at code.Body
         (with_kept (A.counts arity.now) owns.now)
         greatest_depth at spot.Statement bytes.now at) }
     ensures ahead { IfOk result (λ t. at < (out-Term t).end) }
@@ -181,7 +181,7 @@ fn read_statements<A: Arity>(
     start: usize,
     arity: &A,
 ) -> Result<Vec<Term>, TreeFault>
-    ensures { Gives trees_of result
+    ensures { ReadsAs trees_of result
         (body_until (A.counts arity.now) bytes.now (length bytes.now) [] [] start) }
 {
     let mut owns = BTreeSet::new(alloc);

@@ -4,14 +4,14 @@ ghost use Rattle.std.specs.Prelude.{◌≡◌, ◌≤◌, ◌<◌, ◌+◌, leng
 ghost use Rattle.std.specs.Borrow.{Bor};
 ghost use Rattle.aml_lex.specs.Names.{name_of};
 ghost use Rattle.aml_operators.specs.Places.{size_of};
-ghost use Rattle.aml_tree.specs.Fault.{Gives, same, refusal};
+ghost use Rattle.aml_tree.specs.Fault.{ReadsAs, same, refusal};
 ghost use Rattle.aml_lex.specs.declared.fault.LexCause.TheVariants.{Truncated};
-ghost use Rattle.aml_tree.specs.Leaf.{byte_at, end_at, name_at, bits_at, text_at, number_at};
+ghost use Rattle.aml_tree.specs.Leaf.{byte_at, end_at, name_at, bits_at, text_at, little_endian_at};
 ghost use Rattle.aml_tree.specs.Reading.{is_byte};
 
 use crate::fault::{Refusal, TreeCause, TreeFault};
 use aml_lex::{LexCause, NameRef, name_string, package_end, pkg_length, string_data};
-use aml_operators::Width;
+use aml_operators::NumberSize;
 use byteorder::{ByteOrder, LittleEndian};
 
 /// The fault of bytes that end too early.
@@ -28,7 +28,7 @@ fn truncated(bytes: &[u8]) -> TreeFault
 /// The byte at a place.
 #[tactic(auto, unfolding(crate::specs::Leaf::byte_at))]
 pub(crate) fn byte(bytes: &[u8], at: usize) -> Result<u8, TreeFault>
-    ensures gives { Gives same result (byte_at bytes.now at) }
+    ensures gives { ReadsAs same result (byte_at bytes.now at) }
     ensures within { IfOk result (λ b. at < length bytes.now) }
 {
     if at >= bytes.len() {
@@ -49,7 +49,7 @@ pub(crate) fn has_byte(byte: u8, bytes: &[u8], at: usize) -> bool
 #[tactic(auto, unfolding(crate::specs::Leaf::end_at))]
 pub(crate) fn end(bytes: &[u8], at: usize) -> Result<(usize, usize), TreeFault>
     requires { at ≤ length bytes.now }
-    ensures gives { Gives same result (end_at bytes.now at) }
+    ensures gives { ReadsAs same result (end_at bytes.now at) }
     ensures ahead { IfOk result (λ p. at < p.1) }
     ensures inside { IfOk result (λ p. p.1 ≤ p.0) }
     ensures within { IfOk result (λ p. p.0 ≤ length bytes.now) }
@@ -61,7 +61,7 @@ pub(crate) fn end(bytes: &[u8], at: usize) -> Result<(usize, usize), TreeFault>
 #[tactic(auto, unfolding(crate::specs::Leaf::name_at))]
 pub(crate) fn name(bytes: &[u8], at: usize) -> Result<(NameRef<'_>, usize), TreeFault>
     requires { at ≤ length bytes.now }
-    ensures gives { Gives (λ r. (name_of r.0, r.1)) result (name_at bytes.now at) }
+    ensures gives { ReadsAs (λ r. (name_of r.0, r.1)) result (name_at bytes.now at) }
     ensures ahead { IfOk result (λ r. at < r.1) }
     ensures within { IfOk result (λ r. r.1 ≤ length bytes.now) }
 {
@@ -72,7 +72,7 @@ pub(crate) fn name(bytes: &[u8], at: usize) -> Result<(NameRef<'_>, usize), Tree
 #[tactic(auto, unfolding(crate::specs::Leaf::bits_at))]
 pub(crate) fn bits(bytes: &[u8], at: usize) -> Result<(u32, usize), TreeFault>
     requires { at ≤ length bytes.now }
-    ensures gives { Gives same result (bits_at bytes.now at) }
+    ensures gives { ReadsAs same result (bits_at bytes.now at) }
     ensures ahead { IfOk result (λ r. at < r.1) }
     ensures within { IfOk result (λ r. r.1 ≤ length bytes.now) }
 {
@@ -83,7 +83,7 @@ pub(crate) fn bits(bytes: &[u8], at: usize) -> Result<(u32, usize), TreeFault>
 #[tactic(auto, unfolding(crate::specs::Leaf::text_at))]
 pub(crate) fn text(bytes: &[u8], at: usize) -> Result<(&[u8], usize), TreeFault>
     requires { at ≤ length bytes.now }
-    ensures gives { Gives (λ r. (r.0.now, r.1)) result (text_at bytes.now at) }
+    ensures gives { ReadsAs (λ r. (r.0.now, r.1)) result (text_at bytes.now at) }
     ensures ahead { IfOk result (λ r. at < r.1) }
     ensures within { IfOk result (λ r. r.1 ≤ length bytes.now) }
 {
@@ -91,16 +91,16 @@ pub(crate) fn text(bytes: &[u8], at: usize) -> Result<(&[u8], usize), TreeFault>
 }
 
 /// A little endian number of so many bytes, and the place behind it.
-#[tactic(auto, unfolding(crate::specs::Leaf::number_at))]
-pub(crate) fn number(width: Width, bytes: &[u8], at: usize) -> Result<(u64, usize), TreeFault>
+#[tactic(auto, unfolding(crate::specs::Leaf::little_endian_at))]
+pub(crate) fn number(size: NumberSize, bytes: &[u8], at: usize) -> Result<(u64, usize), TreeFault>
     requires { at ≤ length bytes.now }
-    ensures gives { Gives same result (number_at (size_of width) bytes.now at) }
+    ensures gives { ReadsAs same result (little_endian_at (size_of size) bytes.now at) }
     ensures ahead { IfOk result (λ r. at < r.1) }
     ensures within { IfOk result (λ r. r.1 ≤ length bytes.now) }
 {
-    let size = width.size();
-    if bytes.len() - at < size {
+    let count = size.size();
+    if bytes.len() - at < count {
         return Err(truncated(bytes));
     }
-    Ok((LittleEndian::read_uint(&bytes[at..], size), at + size))
+    Ok((LittleEndian::read_uint(&bytes[at..], count), at + count))
 }

@@ -10,7 +10,7 @@ mod body;
 mod fault;
 mod laws;
 mod leaf;
-mod literal;
+mod limit;
 mod module;
 mod opening;
 mod walk;

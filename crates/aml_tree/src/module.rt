@@ -1,6 +1,6 @@
 // A definition block's module (ACPI 6.5, 20.2.1): the definitions behind the table's header.
 
-ghost use Rattle.aml_tree.specs.Fault.{Gives};
+ghost use Rattle.aml_tree.specs.Fault.{ReadsAs};
 ghost use Rattle.aml_tree.specs.Body.{ReadsModule, module_at, trees_of, trees_read};
 
 use crate::arity::NoArguments;
@@ -29,7 +29,7 @@ pub fn read_module(alloc: Global, bytes: &[u8]) -> Result<Vec<Term>, TreeFault>
 }
 
 fn read_definitions(alloc: Global, bytes: &[u8]) -> Result<Vec<Term>, TreeFault>
-    ensures { Gives trees_of result (module_at bytes.now) }
+    ensures { ReadsAs trees_of result (module_at bytes.now) }
 {
     if bytes.len() < HEADER_SIZE {
         return Err(refuse(TreeCause::Lexical(LexCause::Truncated), bytes.len()));

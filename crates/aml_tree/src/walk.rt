@@ -4,18 +4,18 @@ ghost use Rattle.std.specs.Prelude.{◌≡◌, ◌≤◌, ◌<◌, ◌+◌, ◌-
 ghost use Rattle.aml_operators.specs.Fields.{pieces_of};
 ghost use Rattle.aml_operators.specs.Tree.{Node, none, view};
 ghost use Rattle.aml_operators.specs.declared.term.Term.{out-Term};
-ghost use Rattle.aml_tree.specs.Fault.{Gives};
+ghost use Rattle.aml_tree.specs.Fault.{ReadsAs};
 ghost use Rattle.aml_tree.specs.Openings.{opening_of, IsWithin};
 ghost use Rattle.aml_tree.specs.Reading.{Adds, item_next, deepest_at, term_at, form_at, piece_at, pieces_at, item_at, items_until, parts_at, else_at, terms_until, terms_counted};
 
 use crate::arity::Arity;
 use crate::fault::{TreeCause, TreeFault};
 use crate::leaf::{bits, byte, end, has_byte, name, number, text};
-use crate::literal::{is_too_large, literal};
+use crate::limit::is_too_large;
 use crate::opening::{Opening, is_none, open_term, refuse};
 use aml_lex::LexCause;
 use aml_operators::{
-    Code, Letter, Op, Piece, Spot, Term, count_of, item_of_byte, item_pieces, row_of,
+    Code, Letter, Op, Piece, Spot, Term, count_of, item_of_byte, item_pieces, literal_of, row_of,
 };
 use std::alloc::Global;
 
@@ -44,7 +44,7 @@ fn leaf(alloc: Global, op: Op, at: usize, end: usize) -> Term
 /// Where no term may stand any deeper, a target may still be none.
 #[tactic(auto, unfolding(crate::specs::Reading::deepest_at))]
 fn read_deepest(alloc: Global, spot: Spot, bytes: &[u8], at: usize) -> Result<Term, TreeFault>
-    ensures gives { Gives view result (deepest_at spot bytes.now at) }
+    ensures gives { ReadsAs view result (deepest_at spot bytes.now at) }
     ensures ahead { IfOk result (λ t. at < (out-Term t).end) }
     ensures within { IfOk result (λ t. (out-Term t).end ≤ length bytes.now) }
 {
@@ -82,7 +82,7 @@ impl<'a, A: Arity> Reader<'a, A> {
         at: usize,
         depth: u8,
     ) -> Result<Term, TreeFault>
-        ensures gives { Gives view result (term_at self.now.code (A.counts self.now.arity.now) depth
+        ensures gives { ReadsAs view result (term_at self.now.code (A.counts self.now.arity.now) depth
             asker spot bytes.now at) }
         ensures ahead { IfOk result (λ t. at < (out-Term t).end) }
         ensures within { IfOk result (λ t. (out-Term t).end ≤ length bytes.now) }
@@ -100,7 +100,7 @@ impl<'a, A: Arity> Reader<'a, A> {
     fn form(&self, opening: Opening, bytes: &[u8], at: usize, depth: u8) -> Result<Term, TreeFault>
         requires within { at < length bytes.now }
         requires next { IsWithin at (length bytes.now) opening }
-        ensures gives { Gives view result (form_at (A.counts self.now.arity.now)
+        ensures gives { ReadsAs view result (form_at (A.counts self.now.arity.now)
             (term_at self.now.code (A.counts self.now.arity.now) depth)
             (opening_of opening) bytes.now at) }
         ensures ahead { IfOk result (λ t. at < (out-Term t).end) }
@@ -147,7 +147,7 @@ impl<'a, A: Arity> Reader<'a, A> {
         depth: u8,
     ) -> Result<Term, TreeFault>
         requires { at ≤ length bytes.now }
-        ensures gives { Gives view result (piece_at (A.counts self.now.arity.now)
+        ensures gives { ReadsAs view result (piece_at (A.counts self.now.arity.now)
             (term_at self.now.code (A.counts self.now.arity.now) depth)
             piece own bytes.now at) }
         ensures ahead { IfOk result (λ t. at < (out-Term t).end) }
@@ -159,8 +159,8 @@ impl<'a, A: Arity> Reader<'a, A> {
                 let (_, next) = name(bytes, at)?;
                 Ok(leaf(self.alloc, Op::NameString, at, next))
             }
-            Piece::Number(width) => {
-                let (n, next) = number(width, bytes, at)?;
+            Piece::Number(size) => {
+                let (n, next) = number(size, bytes, at)?;
                 Ok(leaf(self.alloc, Op::Number(n), at, next))
             }
             Piece::Bits => {
@@ -213,7 +213,7 @@ impl<'a, A: Arity> Reader<'a, A> {
             [Letter::Sized(limit), rest @ ..] => {
                 let size = self.term(own, Spot::Size, bytes, at, depth)?;
                 let next = size.end;
-                if is_too_large(*limit, literal(&size), bytes.len() - next) {
+                if is_too_large(*limit, literal_of(&size), bytes.len() - next) {
                     return Err(refuse(TreeCause::TooLarge, own));
                 }
                 parts.push(size)?;
@@ -369,7 +369,7 @@ impl<'a, A: Arity> Reader<'a, A> {
     #[cycle(read)]
     #[tactic(auto, unfolding(crate::specs::Reading::item_at, crate::specs::Reading::item_of_kind), using(aml_operators::proofs::Views::view_roll))]
     fn item(&self, own: usize, bytes: &[u8], at: usize, depth: u8) -> Result<Term, TreeFault>
-        ensures gives { Gives view result (item_at (A.counts self.now.arity.now)
+        ensures gives { ReadsAs view result (item_at (A.counts self.now.arity.now)
             (term_at self.now.code (A.counts self.now.arity.now) depth)
             own bytes.now at) }
         ensures ahead { IfOk result (λ t. at < (out-Term t).end) }

@@ -1,0 +1,38 @@
+// Integer literals.
+
+ghost use Rattle.std.specs.Prelude.{◌≡◌};
+ghost use Rattle.aml_operators.specs.Tree.{view, views};
+ghost use Rattle.aml_operators.specs.Literal.{first_number, literal_of};
+
+use crate::op::Op;
+use crate::term::Term;
+
+/// The number that is the first part.
+#[tactic(auto, using(crate::proofs::Views::view_out))]
+fn first_number(parts: &[Term]) -> Option<u64>
+    ensures { result ≡ first_number (views parts.now) }
+{
+    match parts {
+        [first, ..] => match first.op {
+            Op::Number(n) => Some(n),
+            _ => None,
+        },
+        [] => None,
+    }
+}
+
+/// The number of a term that is an integer literal.
+#[tactic(auto, using(crate::proofs::Views::view_out))]
+pub fn literal_of(term: &Term) -> Option<u64>
+    ensures { result ≡ literal_of (view term.now) }
+{
+    match term.op {
+        Op::Zero => Some(0),
+        Op::One => Some(1),
+        Op::Ones => Some(u64::MAX),
+        Op::ByteConst | Op::WordConst | Op::DWordConst | Op::QWordConst => {
+            first_number(&term.parts)
+        }
+        _ => None,
+    }
+}
