@@ -27,9 +27,6 @@ module _ (arity : NameString → ℕ → ℕ) (bytes : List ℕ) where
   statement_right : (owns : List NameSeg) (at : ℕ) → Answers (term_at code.Body (with_owns arity owns) greatest_depth at spot.Statement bytes at) (IsStatement arity owns bytes at) (Faulty code.Body (with_owns arity owns) greatest_depth at spot.Statement bytes at)
   statement_right owns at = term_right code.Body (with_owns arity owns) greatest_depth at spot.Statement bytes at
 
-  pub statement_read : (owns : List NameSeg) (at : ℕ) (t : Tree) → term_at code.Body (with_owns arity owns) greatest_depth at spot.Statement bytes at ≡ Ok t → IsStatement arity owns bytes at t
-  statement_read owns at t e = of_ok _ _ _ _ (statement_right owns at) e
-
   statement_in : (owns : List NameSeg) (at : ℕ) (t : Tree) → IsStatement arity owns bytes at t → (at < stop_of t) × (stop_of t ≤ length bytes)
   statement_in owns at t h = term_in code.Body (with_owns arity owns) greatest_depth at spot.Statement bytes at t h
 

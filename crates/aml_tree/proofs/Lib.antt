@@ -13,3 +13,4 @@ pub mod Shaped
 pub mod Made
 pub mod RefusedBeginnings
 pub mod Refused
+pub mod Kept

@@ -7,5 +7,6 @@ pub mod Reading
 pub mod Grammar
 pub mod Answers
 pub mod Body
+pub mod Owns
 pub mod Spelled
 pub mod Laws

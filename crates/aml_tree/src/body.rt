@@ -10,7 +10,8 @@ ghost use Rattle.aml_lex.specs.Names.{name_of, seg_bytes, lone_segment};
 ghost use Rattle.aml_tree.specs.Fault.{Gives};
 ghost use Rattle.aml_tree.specs.Reading.{term_at};
 ghost use Rattle.aml_tree.specs.Spelled.{IsSpelled};
-ghost use Rattle.aml_tree.specs.Body.{with_owns, is_own_segment, first_at, rest_of, made_place, segment_at, greatest_depth, owns_behind, body_until, ReadsBody, trees_of, trees_read};
+ghost use Rattle.aml_tree.specs.Owns.{is_kept, with_kept, Keeps};
+ghost use Rattle.aml_tree.specs.Body.{first_at, rest_of, made_place, segment_at, greatest_depth, owns_behind, body_until, ReadsBody, trees_of, trees_read};
 
 use crate::arity::Arity;
 use crate::fault::TreeFault;
@@ -18,8 +19,8 @@ use crate::module::GREATEST_DEPTH;
 use crate::walk::Reader;
 use aml_lex::{NameRef, NameSeg, standing_name};
 use aml_operators::{Code, Op, Spot, Term};
-use indexmap::IndexSet;
 use std::alloc::Global;
+use std::collections::BTreeSet;
 
 /// Where a method's body lies in its table.
 #[derive(Clone, Copy, Debug, PartialEq, Eq)]
@@ -44,11 +45,11 @@ impl Span {
 #[derive(Drop)]
 struct WithOwns<'a, A> {
     arity: &'a A,
-    owns: &'a IndexSet<NameSeg>,
+    owns: &'a BTreeSet<NameSeg>,
 }
 
 impl<'a, A: Arity> Arity for WithOwns<'a, A> {
-    ghost counts = { λ o. with_owns (A.counts o.arity.now) o.owns.now.keys };
+    ghost counts = { λ o. with_kept (A.counts o.arity.now) o.owns.now };
 
     fn arity(&self, name: &NameRef<'_>, at: usize) -> u8 {
         if is_own(self.owns, name) {
@@ -60,8 +61,8 @@ impl<'a, A: Arity> Arity for WithOwns<'a, A> {
 }
 
 /// Whether a name is one of the body's own.
-fn is_own(owns: &IndexSet<NameSeg>, name: &NameRef<'_>) -> bool
-    ensures { result ≡ is_own_segment owns.now.keys (lone_segment (name_of name.now)) }
+fn is_own(owns: &BTreeSet<NameSeg>, name: &NameRef<'_>) -> bool
+    ensures { result ≡ is_kept owns.now (lone_segment (name_of name.now)) }
 {
     match name.lone_segment() {
         Some(segment) => owns.contains(&segment),
@@ -119,10 +120,11 @@ fn segment_made(bytes: &[u8], term: &Term) -> Option<NameSeg>
 }
 
 /// Keeps the own name that a statement makes.
-fn keep_made(owns: &mut IndexSet<NameSeg>, bytes: &[u8], term: &Term) -> Result<(), TreeFault>
+fn keep_made(owns: &mut BTreeSet<NameSeg>, bytes: &[u8], term: &Term) -> Result<(), TreeFault>
     requires shaped { IsShaped code.Body (view term.now) }
     requires spelled { IsSpelled bytes.now (view term.now) }
-    ensures ok { OnOk result (owns.new.keys ≡ owns_behind owns.old.keys bytes.now (view term.now)) }
+    ensures ok { OnOk result ((names : List NameSeg) → Keeps owns.old names →
+        Keeps owns.new (owns_behind names bytes.now (view term.now))) }
     ensures err { IfErr result (λ fault. fault ≡ TreeFault.NoMemory) }
 {
     if let Some(segment) = segment_made(bytes, term) {
@@ -135,12 +137,12 @@ fn keep_made(owns: &mut IndexSet<NameSeg>, bytes: &[u8], term: &Term) -> Result<
 fn read_statement<A: Arity>(
     alloc: Global,
     arity: &A,
-    owns: &IndexSet<NameSeg>,
+    owns: &BTreeSet<NameSeg>,
     bytes: &[u8],
     at: usize,
 ) -> Result<Term, TreeFault>
     ensures gives { Gives view result (term_at code.Body
-        (with_owns (A.counts arity.now) owns.now.keys)
+        (with_kept (A.counts arity.now) owns.now)
         greatest_depth at spot.Statement bytes.now at) }
     ensures ahead { IfOk result (λ t. at < (out-Term t).end) }
     ensures within { IfOk result (λ t. (out-Term t).end ≤ length bytes.now) }
@@ -182,7 +184,7 @@ fn read_statements<A: Arity>(
     ensures { Gives trees_of result
         (body_until (A.counts arity.now) bytes.now (length bytes.now) [] [] start) }
 {
-    let mut owns = IndexSet::new(alloc);
+    let mut owns = BTreeSet::new(alloc);
     let mut statements = Vec::new(alloc);
     let mut at = start;
     while at < bytes.len() {
@@ -191,5 +193,6 @@ fn read_statements<A: Arity>(
         keep_made(&mut owns, bytes, &statement)?;
         statements.push(statement)?;
     }
+    statements.shrink_to_fit();
     Ok(statements)
 }

@@ -48,5 +48,6 @@ fn read_definitions(alloc: Global, bytes: &[u8]) -> Result<Vec<Term>, TreeFault>
         HEADER_SIZE,
         GREATEST_DEPTH,
     )?;
+    definitions.shrink_to_fit();
     Ok(definitions)
 }

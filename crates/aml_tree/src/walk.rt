@@ -14,7 +14,9 @@ use crate::leaf::{bits, byte, end, has_byte, name, number, text};
 use crate::literal::{is_too_large, literal};
 use crate::opening::{Opening, is_none, open_term, refuse};
 use aml_lex::LexCause;
-use aml_operators::{Code, Letter, Op, Piece, Spot, Term, item_of_byte, item_pieces, row_of};
+use aml_operators::{
+    Code, Letter, Op, Piece, Spot, Term, count_of, item_of_byte, item_pieces, row_of,
+};
 use std::alloc::Global;
 
 /// What stays the same while one term is read.
@@ -112,9 +114,9 @@ impl<'a, A: Arity> Reader<'a, A> {
             }
             Opening::InvokedName => {
                 let (named, next) = name(bytes, at)?;
-                let mut parts = Vec::new(self.alloc);
-                parts.push(leaf(self.alloc, Op::NameString, at, next))?;
                 let count = self.arity.arity(&named, at);
+                let mut parts = Vec::with_capacity(self.alloc, count as usize + 1)?;
+                parts.push(leaf(self.alloc, Op::NameString, at, next))?;
                 let end = self.counted(&mut parts, at, bytes, next, count, depth)?;
                 Ok(Term {
                     op: Op::Invocation,
@@ -124,8 +126,10 @@ impl<'a, A: Arity> Reader<'a, A> {
                 })
             }
             Opening::Operator(op, next) => {
-                let mut parts = Vec::new(self.alloc);
-                let end = self.parts(&mut parts, row_of(op).letters, at, bytes, next, depth)?;
+                let letters = row_of(op).letters;
+                let mut parts = Vec::with_capacity(self.alloc, count_of(letters))?;
+                let end = self.parts(&mut parts, letters, at, bytes, next, depth)?;
+                parts.shrink_to_fit();
                 Ok(Term { op, at, end, parts })
             }
         }
@@ -266,6 +270,7 @@ impl<'a, A: Arity> Reader<'a, A> {
             next,
             depth,
         )?;
+        inside.shrink_to_fit();
         parts.push(Term {
             op: Op::Else,
             at,
@@ -374,15 +379,9 @@ impl<'a, A: Arity> Reader<'a, A> {
         match item_of_byte(first) {
             None => Err(refuse(TreeCause::Lexical(LexCause::BadName), at)),
             Some(op) => {
-                let mut parts = Vec::new(self.alloc);
-                let end = self.pieces(
-                    &mut parts,
-                    item_pieces(op),
-                    own,
-                    bytes,
-                    item_start(op, at),
-                    depth,
-                )?;
+                let pieces = item_pieces(op);
+                let mut parts = Vec::with_capacity(self.alloc, pieces.len())?;
+                let end = self.pieces(&mut parts, pieces, own, bytes, item_start(op, at), depth)?;
                 Ok(Term { op, at, end, parts })
             }
         }
