@@ -11,7 +11,8 @@ use Rattle.aml_tree.specs.Body.{same_segment}
 use Rattle.aml_namespace.specs.declared.method.Method.{Method}
 use Rattle.aml_namespace.specs.Entries.{Entries}
 use Rattle.aml_namespace.specs.Entries.{index_of}
-use Rattle.aml_namespace.specs.Index.{segment_cmp, HasNumbers}
+use Rattle.aml_tree.specs.Owns.{segment_order}
+use Rattle.aml_namespace.specs.Index.{HasNumbers}
 
 -- the first of two numbers that is there
 abbrev first_some : Option ℕ → Option ℕ → Option ℕ
@@ -77,17 +78,17 @@ module _ {K X : Type 0} where
       ∙ ap (λ (k : ℕ). first_some (position_from test 0 (keys_of es)) (cond (test e.0) (Some k) None)) same
       ∙ ap (λ (o : Option ℕ). first_some o (cond (test e.0) (Some (length es)) None)) (sym (position_from-zero test (keys_of es)))
 
-same_at : (segment q : NameSeg) → is_at (segment_cmp segment) q ≡ same_segment q segment
+same_at : (segment q : NameSeg) → is_at (segment_order segment) q ≡ same_segment q segment
 same_at segment q = sym (texts_ties segment.bytes q.bytes) ∙ nat_list_eq_equiv.symm segment.bytes q.bytes
 
 same_number : (entries : Entries) (segment q : NameSeg) → true ≡ same_segment q segment → index_of entries segment ≡ None → index_of entries q ≡ None
 same_number entries segment q same none = ap (λ (bytes : List ℕ). index_of entries (record { bytes = bytes })) (same_text q.bytes segment.bytes same) ∙ none
 
 -- one more object, with the next number
-pub HasNumbers-push : (old new : BTreeMap NameSeg ℕ) (entries : Entries) (segment : NameSeg) (method : Method) (number : ℕ) → number ≡ length entries → HasNumbers old entries → index_of entries segment ≡ None → Updates segment_cmp old new segment (Some number) → HasNumbers new (entries ++ (segment, method) ∷ [])
+pub HasNumbers-push : (old new : BTreeMap NameSeg ℕ) (entries : Entries) (segment : NameSeg) (method : Method) (number : ℕ) → number ≡ length entries → HasNumbers old entries → index_of entries segment ≡ None → Updates segment_order old new segment (Some number) → HasNumbers new (entries ++ (segment, method) ∷ [])
 HasNumbers-push old new entries segment method number next h none updates q =
-    updates.0 q ∙ ap (λ (n : ℕ). cond (is_at (segment_cmp segment) q) (Some n) (get segment_cmp old q)) next
-    ∙ ap (λ (o : Option ℕ). cond (is_at (segment_cmp segment) q) (Some (length entries)) o) (h q)
+    updates.0 q ∙ ap (λ (n : ℕ). cond (is_at (segment_order segment) q) (Some n) (get segment_order old q)) next
+    ∙ ap (λ (o : Option ℕ). cond (is_at (segment_order segment) q) (Some (length entries)) o) (h q)
     ∙ ap (λ (b : Bool). cond b (Some (length entries)) (index_of entries q)) (same_at segment q)
     ∙ new_number (same_segment q segment) (length entries) (index_of entries q) (λ same. same_number entries segment q same none)
     ∙ sym (behind (same_segment q) entries (segment, method))

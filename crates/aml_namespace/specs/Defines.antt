@@ -13,8 +13,8 @@ abbrev pub definition_seen : program.Definition → Definition
 definition_seen d = (d.segment, d.name_at, d.method)
 
 -- the program's objects, in order of definition
-abbrev pub entries_of : Objects → Entries
-entries_of objects = objects.entries.items
+abbrev pub entries_seen : Objects → Entries
+entries_seen objects = objects.entries.items
 
 -- a fault of the program is the definition's, unless memory ran out
 abbrev pub IsFaultOf : {Y : Type 0} → LoadFault → Result Y LoadRefusal → Type 0

@@ -16,7 +16,7 @@ use Rattle.aml_namespace.specs.Widths.{width_by}
 use Rattle.aml_namespace.specs.Fault.{table_refusal, tree_refusal}
 use Rattle.aml_namespace.specs.Entries.{Entries}
 use Rattle.aml_namespace.specs.Define.{defined_from}
-use Rattle.aml_namespace.specs.Defines.{entries_of}
+use Rattle.aml_namespace.specs.Defines.{entries_seen}
 
 -- `DSDT`
 abbrev pub dsdt_signature : List ℕ
@@ -29,7 +29,7 @@ pub record Shown : Type 0 where
   pub entries : Entries
 
 abbrev pub shown : Namespace → Shown
-shown ns = record { table = ns.table.now; width = ns.width; entries = entries_of ns.objects }
+shown ns = record { table = ns.table.now; width = ns.width; entries = entries_seen ns.objects }
 
 -- a namespace holds just what the definitions of the table's module make
 abbrev pub IsLoaded : List ℕ → Shown → Type 0

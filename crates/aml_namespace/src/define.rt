@@ -10,7 +10,7 @@ ghost use Rattle.aml_tree.specs.Body.{IsModule};
 ghost use Rattle.aml_tree.specs.Spelled.{IsSpelled};
 ghost use Rattle.aml_namespace.specs.Define.{root_segment, root_segment_at, definition_under};
 ghost use Rattle.aml_namespace.specs.Define.{definition_of, add, define_one, defined_from};
-ghost use Rattle.aml_namespace.specs.Defines.{Defines, AddsObject, definition_seen, entries_of};
+ghost use Rattle.aml_namespace.specs.Defines.{Defines, AddsObject, definition_seen, entries_seen};
 
 use crate::fault::{LoadCause, LoadFault, refuse};
 use crate::method::Method;
@@ -94,8 +94,8 @@ fn definition_under(
 
 /// Adds an object, whose path must be new.
 fn add(objects: &mut Objects, definition: Definition) -> Result<(), LoadFault>
-    ensures { let answer = add (entries_of objects.old) (definition_seen definition) in
-        AddsObject result (entries_of objects.new) answer }
+    ensures { let answer = add (entries_seen objects.old) (definition_seen definition) in
+        AddsObject result (entries_seen objects.new) answer }
 {
     if objects.index_of(&definition.segment).is_some() {
         return Err(refuse(LoadCause::Duplicate, definition.name_at));
@@ -108,8 +108,8 @@ fn add(objects: &mut Objects, definition: Definition) -> Result<(), LoadFault>
 fn define_one(bytes: &[u8], objects: &mut Objects, term: &Term) -> Result<(), LoadFault>
     requires shaped { IsShaped code.Module (view term.now) }
     requires spelled { IsSpelled bytes.now (view term.now) }
-    ensures { let answer = define_one bytes.now (entries_of objects.old) (view term.now) in
-        AddsObject result (entries_of objects.new) answer }
+    ensures { let answer = define_one bytes.now (entries_seen objects.old) (view term.now) in
+        AddsObject result (entries_seen objects.new) answer }
 {
     let definition = definition_of(bytes, term)?;
     add(objects, definition)
@@ -119,7 +119,7 @@ fn define_one(bytes: &[u8], objects: &mut Objects, term: &Term) -> Result<(), Lo
 #[tactic(auto, using(crate::proofs::Definitions::term_shaped, crate::proofs::Definitions::term_spelled))]
 pub(crate) fn define_all(alloc: Global, bytes: &[u8], terms: &[Term]) -> Result<Objects, LoadFault>
     requires { IsModule bytes.now (map view terms.now) }
-    ensures { Defines entries_of result (defined_from bytes.now [] (map view terms.now)) }
+    ensures { Defines entries_seen result (defined_from bytes.now [] (map view terms.now)) }
 {
     let mut objects = Objects::new(alloc);
     for term in terms {

@@ -103,7 +103,7 @@ impl<'a> Namespace<'a> {
         if name.parents() > 1 || name.segs() != 1 {
             return None;
         }
-        self.objects.find(&name.seg(0))
+        self.objects.lookup(&name.seg(0))
     }
 
     /// The statements of a method's body: a name takes as many terms as the method that it names has

@@ -54,7 +54,7 @@ impl Objects {
     }
 
     /// The method with this segment.
-    pub(crate) fn find(&self, segment: &NameSeg) -> Option<Method>
+    pub(crate) fn lookup(&self, segment: &NameSeg) -> Option<Method>
         ensures { result ≡ lookup (same_segment segment.now) self.now.entries.items }
     {
         let number = self.index_of(segment)?;

@@ -1,7 +1,7 @@
 use Rattle.std.proofs.Common.{Some, sym, ap, ◌∙◌}
 use Rattle.aml_tree.specs.Body.{same_segment}
 use Rattle.aml_namespace.proofs.Numbered.{lookup_at, lookup_none}
-use Rattle.aml_namespace.proofs.objects.Objects.find.Goals as goal
+use Rattle.aml_namespace.proofs.objects.Objects.lookup.Goals as goal
 
 pub returns-in_err-number : goal.returns-in_err-number
 returns-in_err-number c =
