@@ -9,8 +9,8 @@ use aml_tree::Refusal;
 use std::alloc::{AllocError, Global};
 use std::io::Write;
 
-/// Prints that a method's body cannot be read: `\M015 refused 0 108 E205 TooDeep`, with its path, table
-/// and place.
+/// Prints that a method's body cannot be read: `\M015 refused 0 108 E205 TooDeep`, with its path,
+/// table and place.
 ///
 /// At Err the writer holds a beginning of that line.
 pub fn list_refusal<W: Write>(
