@@ -37,6 +37,31 @@ def edits_of(top, crate, only):
     return sorted(glob.glob(f"{top}/crates/{crate}/edits/*.edit"))
 
 
+def stem(edit):
+    return os.path.basename(edit).removesuffix(".edit")
+
+
+def applies(top, crate, edit):
+    """Whether each old text of an edit stands once in its file; a file is read as the pairs before have left it."""
+    path, old, texts = "", "", {}
+    with open(edit, encoding="utf-8") as it:
+        lines = it.read().split("\n")
+    for line in lines:
+        word, _, rest = line.partition(" ")
+        if word == "file:":
+            path = f"{top}/crates/{crate}/{rest.strip()}"
+        elif word == "old:":
+            old = rest
+        elif word == "new:":
+            if path not in texts and os.path.isfile(path):
+                with open(path, encoding="utf-8") as it:
+                    texts[path] = it.read()
+            if not old or texts.get(path, "").count(old) != 1:
+                return False
+            texts[path] = texts[path].replace(old, rest)
+    return bool(texts)
+
+
 def below(crates, chosen):
     """The crates that these use."""
     found, left = set(), [dep for crate in chosen for dep in crates[crate]]
@@ -98,23 +123,28 @@ def main(words):
     if not edits:
         print("no such edit")
         return 1
-    weak, bad = [], []
+    count, weak, bad = sum(len(files) for files in edits.values()), [], []
+    for crate, files in edits.items():
+        for file in [it for it in files if not applies(top, crate, it)]:
+            files.remove(file)
+            bad.append(f"{crate}/{stem(file)}")
+            print(f"{bad[-1]}: an old text does not stand in its file once")
     with tempfile.TemporaryDirectory(prefix="edits-") as room:
         copy_tree(top, room)
-        copy_kept(top, room, below(crates, edits))
+        copy_kept(top, room, below(crates, [crate for crate, files in edits.items() if files]))
         for crate, files in edits.items():
+            if not files:
+                continue
             put_in_place(room, crate, files)
             said, status = tried(room, crate)
             for file in files:
-                name = os.path.basename(file).removesuffix(".edit")
-                answer = said.get(name, "nothing was said of it")
+                answer = said.get(stem(file), "nothing was said of it")
                 if not answer.startswith("refused, as it must be"):
-                    bad.append(f"{crate}/{name}")
+                    bad.append(f"{crate}/{stem(file)}")
                 elif ONLY_A_NAME in answer:
-                    weak.append(f"{crate}/{name}")
+                    weak.append(f"{crate}/{stem(file)}")
             if status and not any(it.startswith(f"{crate}/") for it in bad):
                 bad.append(f"{crate} (rt ended with {status})")
-    count = sum(len(files) for files in edits.values())
     for name in weak:
         print(f"weak, refused only because a proof names what it takes away: {name}")
     for name in bad:
