@@ -16,7 +16,7 @@ mod theorems;
 
 pub use fault::{LexCause, LexFault};
 pub use integers::integer_data;
-pub use name_reader::name_string;
+pub use name_reader::{leads_segment, name_string};
 pub use names::{NameRef, NameSeg};
 pub use package::{package_end, pkg_length};
 pub use standing::{standing_name, standing_text};

@@ -2,7 +2,7 @@
 
 ghost use Rattle.std.specs.Prelude.{◌≡◌, ◌≤◌, ◌<◌, ◌*◌, ◌+◌, ℕ, List, [], ◌∷◌, length, drop, IfOk, IsTrue};
 ghost use Rattle.std.specs.Borrow.{Bor};
-ghost use Rattle.aml_lex.specs.Characters.{fits_name};
+ghost use Rattle.aml_lex.specs.Characters.{fits_name, is_lead_name_char};
 ghost use Rattle.aml_lex.specs.Names.{name_of};
 ghost use Rattle.aml_lex.specs.NameStrings.{segments_of};
 ghost use Rattle.aml_lex.specs.Read.{place_behind, placed, tested_read};
@@ -14,15 +14,21 @@ ghost use Rattle.aml_lex.specs.declared.fault.LexCause.TheVariants.{BadName};
 use crate::fault::{LexCause, LexFault, truncated_fault};
 use crate::names::NameRef;
 
+/// Whether a name segment may begin with a byte: `A` to `Z` or `_`.
+pub fn leads_segment(byte: u8) -> bool
+    ensures { result ≡ is_lead_name_char byte }
+{
+    matches!(byte, b'A'..=b'Z' | b'_')
+}
+
 /// Whether a byte may stand in a name segment: `A` to `Z` or `_`, and behind the segment's first also
 /// `0` to `9`.
 fn fits_name(leads: bool, byte: u8) -> bool
     ensures { result ≡ fits_name leads byte }
 {
     match byte {
-        b'A'..=b'Z' | b'_' => true,
         b'0'..=b'9' => !leads,
-        _ => false,
+        _ => leads_segment(byte),
     }
 }
 

@@ -11,21 +11,11 @@ pub enum Arithmetic {
     Add,
 }
 
-/// Which integer a literal is.
-#[derive(Clone, Copy, Debug, PartialEq, Eq)]
-pub enum Constant {
-    Zero,
-    One,
-    Ones,
-    /// The number that stands beside the opcode.
-    Number,
-}
-
 /// What kind of meaning an operator has, as a term and as a target.
 #[derive(Clone, Copy, Debug, PartialEq, Eq)]
 pub enum Action {
-    /// An integer (ACPI 6.5, 20.2.3).
-    Literal(Constant),
+    /// An integer, by the operator that spells it (ACPI 6.5, 20.2.3).
+    Literal(Op),
     /// A local, by its number below 8 (5.5.2.3).
     Local(u8),
     /// An argument, by its number below 7 (5.5.2.1).
@@ -47,12 +37,13 @@ pub fn action_of(op: Op) -> Action
     ensures { result ≡ action op }
 {
     match op {
-        Op::Zero => Action::Literal(Constant::Zero),
-        Op::One => Action::Literal(Constant::One),
-        Op::Ones => Action::Literal(Constant::Ones),
-        Op::ByteConst | Op::WordConst | Op::DWordConst | Op::QWordConst => {
-            Action::Literal(Constant::Number)
-        }
+        Op::Zero
+        | Op::One
+        | Op::Ones
+        | Op::ByteConst
+        | Op::WordConst
+        | Op::DWordConst
+        | Op::QWordConst => Action::Literal(op),
         Op::Local0 => Action::Local(0),
         Op::Local1 => Action::Local(1),
         Op::Local2 => Action::Local(2),

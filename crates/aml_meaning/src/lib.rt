@@ -9,6 +9,6 @@ mod action;
 mod error;
 mod law;
 
-pub use action::{Action, Arithmetic, Constant, action_of};
+pub use action::{Action, Arithmetic, action_of};
 pub use error::{AmlCause, AmlError};
 pub use law::done_is_stable;

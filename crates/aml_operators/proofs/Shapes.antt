@@ -1,6 +1,7 @@
 -- What the shape of a tree says of its parts.
 use Rattle.std.proofs.Common.{◌≡◌, ◌<◌, ℕ, List, [], ◌∷◌, ◌++◌, map, refl, ap, arith, Option, Some, None}
 use Rattle.std.specs.Prelude.{Bool, true, false, cond, ◌==◌}
+use Rattle.aml_lex.specs.Characters.{is_lead_name_char}
 use Rattle.aml_operators.specs.declared.op.Op.{Op}
 use Rattle.aml_operators.specs.declared.op.Op.TheVariants as op
 use Rattle.aml_operators.specs.declared.row.Code.{Code}
@@ -9,7 +10,7 @@ use Rattle.aml_operators.specs.declared.row.Ruling.TheVariants as ruled
 use Rattle.aml_operators.specs.declared.row.Letter.TheVariants.{One}
 use Rattle.aml_operators.specs.Table.{row, class_of, letters_of}
 use Rattle.aml_operators.specs.Places.{ruling}
-use Rattle.aml_operators.specs.Fields.{item_of, is_segment_lead, pieces_of}
+use Rattle.aml_operators.specs.Fields.{item_of, pieces_of}
 use Rattle.aml_operators.specs.Tree.{Tree, Trees, none, more, trees, joined}
 use Rattle.aml_operators.specs.Shape.{is_item, part_letters, MayStand, AreShaped}
 
@@ -51,7 +52,7 @@ item_of_item b o e =
     (first_item (b == 1) op.AccessField o _ refl
     (first_item (b == 2) op.ConnectField o _ refl
     (first_item (b == 3) op.ExtendedAccessField o _ refl
-    (first_item (is_segment_lead b) op.NamedField o None refl (λ n. absurd cc))))) e
+    (first_item (is_lead_name_char b) op.NamedField o None refl (λ n. absurd cc))))) e
 
 -- the trees of two lists
 pub trees_append : (ts us : List Tree) → trees (ts ++ us) ≡ joined (trees ts) (trees us)

@@ -2,7 +2,7 @@
 
 ghost use Rattle.std.specs.Prelude.{◌≡◌};
 ghost use Rattle.aml_operators.specs.Tree.{view, views};
-ghost use Rattle.aml_operators.specs.Literal.{first_number, literal_of};
+ghost use Rattle.aml_operators.specs.Literal.{first_number, literal_in, literal_of};
 
 use crate::op::Op;
 use crate::term::Term;
@@ -21,18 +21,23 @@ fn first_number(parts: &[Term]) -> Option<u64>
     }
 }
 
-/// The number of a term that is an integer literal.
+/// The number of an integer literal, by its operator and its parts; None where it is no such literal.
+pub fn literal_in(op: Op, parts: &[Term]) -> Option<u64>
+    ensures { result ≡ literal_in op (views parts.now) }
+{
+    match op {
+        Op::Zero => Some(0),
+        Op::One => Some(1),
+        Op::Ones => Some(u64::MAX),
+        Op::ByteConst | Op::WordConst | Op::DWordConst | Op::QWordConst => first_number(parts),
+        _ => None,
+    }
+}
+
+/// The number of a term that is an integer literal; None where it is no such literal.
 #[tactic(auto, using(crate::proofs::Views::view_out))]
 pub fn literal_of(term: &Term) -> Option<u64>
     ensures { result ≡ literal_of (view term.now) }
 {
-    match term.op {
-        Op::Zero => Some(0),
-        Op::One => Some(1),
-        Op::Ones => Some(u64::MAX),
-        Op::ByteConst | Op::WordConst | Op::DWordConst | Op::QWordConst => {
-            first_number(&term.parts)
-        }
-        _ => None,
-    }
+    literal_in(term.op, &term.parts)
 }

@@ -1,12 +1,10 @@
 // The parts of a term, as many as its operator's letters name.
 
-ghost use Rattle.std.specs.Prelude.{◌≡◌, length};
+ghost use Rattle.std.specs.Prelude.{◌≡◌, length, IsSome, Some};
+ghost use Rattle.aml_operators.specs.Literal.{literal_in};
 ghost use Rattle.aml_operators.specs.Tree.{view, views, more, none};
-ghost use Rattle.aml_meaning.specs.Meaning.{number_of, literal_of};
-ghost use Rattle.aml_plain.specs.Shapes.{BeginsWithNumber};
 
-use aml_meaning::Constant;
-use aml_operators::{Op, Term};
+use aml_operators::{Op, Term, literal_in};
 
 pub fn one(parts: &[Term]) -> &Term
     requires { length parts.now ≡ 1 }
@@ -39,30 +37,13 @@ pub fn three(parts: &[Term]) -> (&Term, &Term, &Term)
     }
 }
 
-/// The number that stands beside an opcode.
-#[tactic(auto, using(aml_operators::proofs::Views::view_out))]
-fn number_beside(parts: &[Term]) -> u64
-    requires { BeginsWithNumber (views parts.now) }
-    ensures { result ≡ number_of (views parts.now) }
+/// The number of an integer literal.
+pub fn number_of_literal(op: Op, parts: &[Term]) -> u64
+    requires { IsSome (literal_in op (views parts.now)) }
+    ensures { literal_in op (views parts.now) ≡ Some result }
 {
-    match parts {
-        [part, ..] => match part.op {
-            Op::Number(n) => n,
-            _ => unreachable!(),
-        },
-        [] => unreachable!(),
-    }
-}
-
-/// The number that a literal spells.
-pub fn literal_of(constant: Constant, parts: &[Term]) -> u64
-    requires { constant ≡ Constant.Number → BeginsWithNumber (views parts.now) }
-    ensures { result ≡ literal_of constant (views parts.now) }
-{
-    match constant {
-        Constant::Zero => 0,
-        Constant::One => 1,
-        Constant::Ones => u64::MAX,
-        Constant::Number => number_beside(parts),
+    match literal_in(op, parts) {
+        Some(n) => n,
+        None => unreachable!(),
     }
 }

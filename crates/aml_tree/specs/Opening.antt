@@ -10,7 +10,7 @@ use Rattle.aml_operators.specs.declared.row.Naming.{Naming}
 use Rattle.aml_operators.specs.declared.row.Naming.TheVariants as named
 use Rattle.aml_operators.specs.Table.{class_of, op_of}
 use Rattle.aml_operators.specs.Places.{ruling, naming}
-use Rattle.aml_operators.specs.Fields.{is_segment_lead}
+use Rattle.aml_lex.specs.Characters.{is_lead_name_char}
 use Rattle.aml_tree.specs.declared.fault.TreeCause.TheVariants.{UnknownOpcode, ModuleCode}
 use Rattle.aml_tree.specs.declared.fault.Refusal.{Refusal}
 use Rattle.aml_tree.specs.Fault.{refusal, ◌>>=◌}
@@ -29,7 +29,7 @@ pub data Opening : Type 0 where
 
 -- a name string begins with this byte (20.2.2); the null name stands for no term
 abbrev pub is_name_lead : ℕ → Bool
-is_name_lead b = is_segment_lead b || (b == 0x5C) || (b == 0x5E) || (b == 0x2E) || (b == 0x2F)
+is_name_lead b = is_lead_name_char b || (b == 0x5C) || (b == 0x5E) || (b == 0x2E) || (b == 0x2F)
 
 -- only a target may be none
 abbrev pub may_be_none : Spot → Bool

@@ -9,6 +9,7 @@ ghost use Rattle.aml_tree.specs.Openings.{opening_of, IsNext, IsWithin};
 
 use crate::fault::{Refusal, TreeCause, TreeFault};
 use crate::leaf::byte;
+use aml_lex::leads_segment;
 use aml_operators::{Code, Naming, Op, Ruling, Spot, naming_of, op_of_code, row_of, ruling_of};
 
 /// What the first bytes of a term and its place decide.
@@ -35,7 +36,7 @@ pub(crate) fn refuse(cause: TreeCause, at: usize) -> TreeFault
 fn leads_name(byte: u8) -> bool
     ensures { result ≡ is_name_lead byte }
 {
-    matches!(byte, b'A'..=b'Z' | b'_' | 0x5C | 0x5E | 0x2E | 0x2F)
+    leads_segment(byte) || matches!(byte, 0x5C | 0x5E | 0x2E | 0x2F)
 }
 
 /// Whether a term in such a place may be none, and the byte says so.
