@@ -14,10 +14,7 @@ mod program;
 mod source;
 mod words;
 
-pub use acpi_text::{
-    RunFault, Table, aml_cause_name, lex_cause_name, list_evaluation, list_refusal, list_tables,
-    load_cause_name, put, table_cause_name, tree_cause_name,
-};
+pub use acpi_text::{RunFault, Table, list_evaluation, list_refusal, list_tables, put};
 pub use any_table::{FileKind, read_any_table};
 pub use input::{INPUT_LIMIT, Input, read_input};
 pub use program::{run, run_words};
