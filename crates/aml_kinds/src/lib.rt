@@ -3,14 +3,19 @@
 
 mod bytes;
 mod copies;
+mod fitting;
+mod joins;
 mod kind;
 mod kind_copies;
 mod package;
+mod same_kinds;
 mod shape;
 mod value;
 
 pub use bytes::Bytes;
 pub use copies::copy;
+pub use fitting::fits;
+pub use joins::{is_within, join};
 pub use kind::{ElementKind, Kind};
 pub use package::Package;
 pub use shape::Shape;

@@ -17,7 +17,7 @@ pub(crate) const MOST_NESTED: u8 = 64;
 #[cycle(value)]
 #[derive(Drop)]
 pub struct Package {
-    elements: Vec<Element>,
+    pub(crate) elements: Vec<Element>,
     /// How many packages stand in one another here, this one counted.
     depth: u8,
 }

@@ -15,7 +15,7 @@ use std::marker::Model;
 #[cycle(kind)]
 #[derive(Drop)]
 pub struct Shape {
-    places: Vec<ElementKind>,
+    pub(crate) places: Vec<ElementKind>,
     /// How many shapes stand in one another here, this one counted.
     depth: u8,
 }
