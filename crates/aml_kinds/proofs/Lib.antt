@@ -1,4 +1,6 @@
 pub mod Elements
+pub mod JoinLaws
 pub mod Lengths
 pub mod SameKinds
+pub mod Widens
 pub mod Within
