@@ -1,7 +1,7 @@
 -- Joins of kinds: their order makes no difference.
 use Rattle.std.proofs.Common.{◌≡◌, ℕ, ◌==◌, max, Bool, true, false, ap, refl, sym, ◌∙◌, subst, arith}
 use Rattle.aml_kinds.specs.Kinds.{Kind, IntUpTo, BufOf, StrOf, PkgOf, AnyPkg, Mixed, Shape}
-use Rattle.aml_kinds.specs.Same.{same_shape}
+use Rattle.aml_kinds.specs.SameKinds.{same_shape}
 use Rattle.aml_kinds.specs.Joins.{join, if_same}
 use Rattle.aml_kinds.proofs.SameKinds.{same_number, number_same, same_shape-equal, shape_same}
 

@@ -1,8 +1,8 @@
 -- What is found to be the same is equal.
-use Rattle.std.proofs.Common.{◌≡◌, ℕ, ◌==◌, ◌&&◌, Bool, true, false, ap, refl, ◌∙◌, arith}
+use Rattle.std.proofs.Common.{◌≡◌, ℕ, ◌==◌, ◌&&◌, Bool, true, false, ap, refl, ◌∙◌, arith, sym, subst, IsTrue, ◌↔◌}
 use Rattle.std.proofs.lemmas.Bool.Decides.{nat_tests}
 use Rattle.aml_kinds.specs.Kinds.{Kind, IntUpTo, BufOf, StrOf, PkgOf, AnyPkg, Mixed, Shape, bare, with, ElementKind, ValueOf, AnyName, Anything}
-use Rattle.aml_kinds.specs.Same.{same_kind, same_shape, same_element}
+use Rattle.aml_kinds.specs.SameKinds.{same_kind, same_shape, same_element_kind}
 
 pub same_number : (m n : ℕ) → (m == n) ≡ true → m ≡ n
 same_number m n e = grind (arith, nat_tests)
@@ -10,11 +10,11 @@ same_number m n e = grind (arith, nat_tests)
 pub number_same : (n : ℕ) → (n == n) ≡ true
 number_same n = grind (arith, nat_tests)
 
-both_first : (a b : Bool) → (a && b) ≡ true → a ≡ true
+pub both_first : (a b : Bool) → (a && b) ≡ true → a ≡ true
 both_first true b e = refl
 both_first false b e = e
 
-both_second : (a b : Bool) → (a && b) ≡ true → b ≡ true
+pub both_second : (a b : Bool) → (a && b) ≡ true → b ≡ true
 both_second true b e = e
 both_second false b e = cc
 
@@ -31,14 +31,14 @@ mutual
   pub same_shape-equal : (s t : Shape) → same_shape s t ≡ true → s ≡ t
   same_shape-equal bare bare e = refl
   same_shape-equal (with d ds) (with f fs) e =
-      ap (λ g. with g ds) (same_element-equal d f (both_first (same_element d f) (same_shape ds fs) e)) ∙ ap (λ g. with f g) (same_shape-equal ds fs (both_second (same_element d f) (same_shape ds fs) e))
+      ap (λ g. with g ds) (same_element_kind-equal d f (both_first (same_element_kind d f) (same_shape ds fs) e)) ∙ ap (λ g. with f g) (same_shape-equal ds fs (both_second (same_element_kind d f) (same_shape ds fs) e))
   same_shape-equal s t e = cc
 
-  pub same_element-equal : (d f : ElementKind) → same_element d f ≡ true → d ≡ f
-  same_element-equal (ValueOf j) (ValueOf k) e = ap ValueOf (same_kind-equal j k e)
-  same_element-equal AnyName AnyName e = refl
-  same_element-equal Anything Anything e = refl
-  same_element-equal d f e = cc
+  pub same_element_kind-equal : (d f : ElementKind) → same_element_kind d f ≡ true → d ≡ f
+  same_element_kind-equal (ValueOf j) (ValueOf k) e = ap ValueOf (same_kind-equal j k e)
+  same_element_kind-equal AnyName AnyName e = refl
+  same_element_kind-equal Anything Anything e = refl
+  same_element_kind-equal d f e = cc
 
 mutual
   pub kind_same : (k : Kind) → same_kind k k ≡ true
@@ -53,7 +53,12 @@ mutual
   shape_same bare = refl
   shape_same (with e es) = ap (λ b. b && same_shape es es) (element_same e) ∙ shape_same es
 
-  pub element_same : (e : ElementKind) → same_element e e ≡ true
+  pub element_same : (e : ElementKind) → same_element_kind e e ≡ true
   element_same (ValueOf k) = kind_same k
   element_same AnyName = refl
   element_same Anything = refl
+
+-- whether two kinds are found to be the same decides whether they are
+pub same_kind_decides : (b : Bool) (j k : Kind) → b ≡ same_kind j k → IsTrue b ↔ (j ≡ k)
+same_kind_decides b j k e =
+    (λ h. same_kind-equal j k (sym e ∙ h), λ h. e ∙ subst (λ x. same_kind j x ≡ true) h (kind_same j))

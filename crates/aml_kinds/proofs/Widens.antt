@@ -6,7 +6,7 @@ use Rattle.aml_kinds.specs.Kinds.{Kind, IntUpTo, BufOf, StrOf, PkgOf, AnyPkg, Mi
 use Rattle.aml_kinds.specs.Fits.{fits, fits_shape, fits_place, most_elements}
 use Rattle.aml_kinds.specs.Joins.{if_same, IsWithin}
 use Rattle.aml_kinds.specs.Laws.{AreSmall, Widens}
-use Rattle.aml_kinds.specs.Same.{same_shape}
+use Rattle.aml_kinds.specs.SameKinds.{same_shape}
 
 -- a kind within another: the same, of smaller integers, a shape within any, or anything within mixed
 data Widened : Kind → Kind → Type 0 where

@@ -1,7 +1,7 @@
 -- Kinds within others.
 use Rattle.std.proofs.Common.{◌≡◌, Bool, true, false, ap, refl, ◌∙◌, IsTrue, ◌↔◌}
 use Rattle.aml_kinds.specs.Kinds.{Kind, PkgOf, AnyPkg, Shape}
-use Rattle.aml_kinds.specs.Same.{same_shape}
+use Rattle.aml_kinds.specs.SameKinds.{same_shape}
 use Rattle.aml_kinds.specs.Joins.{IsWithin, if_same}
 use Rattle.aml_kinds.proofs.SameKinds.{same_shape-equal}
 

@@ -1,7 +1,7 @@
 -- The least kind that has the values of two kinds, and which kinds lie within others.
 use Rattle.std.specs.Prelude.{◌≡◌, ◌==◌, max, Bool, true, false}
 use Rattle.aml_kinds.specs.Kinds.{Kind, IntUpTo, BufOf, StrOf, PkgOf, AnyPkg, Mixed, ElementKind, ValueOf, AnyName, Anything}
-use Rattle.aml_kinds.specs.Same.{same_shape}
+use Rattle.aml_kinds.specs.SameKinds.{same_shape}
 
 -- a kind where two are equal, else another
 abbrev pub if_same : Bool → Kind → Kind → Kind

@@ -4,11 +4,22 @@ ghost use Rattle.std.specs.Prelude.{◌≡◌, IfOk, map};
 ghost use Rattle.aml_kinds.specs.KindViews.{kind_of, element_kind};
 
 use crate::kind::{ElementKind, Kind};
+use aml_namespace::NoMemory;
 use std::alloc::{AllocError, Global};
 
 /// A copy of a kind.
+pub fn copy_kind(alloc: Global, kind: &Kind) -> Result<Kind, NoMemory>
+    ensures { IfOk result (λ k. kind_of k ≡ kind_of kind.now) }
+{
+    match copied_kind(alloc, kind) {
+        Ok(made) => Ok(made),
+        Err(_) => Err(NoMemory),
+    }
+}
+
+/// A copy of a kind.
 #[cycle(copy_kind)]
-fn copied_kind(alloc: Global, kind: &Kind) -> Result<Kind, AllocError>
+pub(crate) fn copied_kind(alloc: Global, kind: &Kind) -> Result<Kind, AllocError>
     ensures { IfOk result (λ k. kind_of k ≡ kind_of kind.now) }
 {
     match kind {

@@ -68,6 +68,14 @@ impl Package {
         self.elements.len()
     }
 
+    /// How many packages stand in one another, this one counted.
+    pub fn depth(&self) -> u8
+        ensures depth { result ≡ package_depth self.now }
+        ensures shallow { result ≤ most_nested }
+    {
+        self.depth
+    }
+
     /// The elements, to be read.
     pub fn elements(&self) -> &[Element]
         ensures { elements_of result.now ≡ self.now }

@@ -61,6 +61,21 @@ impl Shape {
         }
     }
 
+    /// The number of elements.
+    pub fn len(&self) -> usize
+        ensures { result ≡ places self.now }
+    {
+        self.places.len()
+    }
+
+    /// How many shapes stand in one another, this one counted.
+    pub fn depth(&self) -> u8
+        ensures depth { result ≡ shape_depth self.now }
+        ensures shallow { result ≤ most_nested }
+    {
+        self.depth
+    }
+
     /// The kinds of the elements, to be read.
     pub fn places(&self) -> &[ElementKind]
         ensures { shape_of result.now ≡ self.now }

@@ -14,11 +14,11 @@ abbrev mutual
 
   pub same_shape : Shape → Shape → Bool
   same_shape bare bare = true
-  same_shape (with d ds) (with e es) = same_element d e && same_shape ds es
+  same_shape (with d ds) (with e es) = same_element_kind d e && same_shape ds es
   same_shape s t = false
 
-  pub same_element : ElementKind → ElementKind → Bool
-  same_element (ValueOf j) (ValueOf k) = same_kind j k
-  same_element AnyName AnyName = true
-  same_element Anything Anything = true
-  same_element d e = false
+  pub same_element_kind : ElementKind → ElementKind → Bool
+  same_element_kind (ValueOf j) (ValueOf k) = same_kind j k
+  same_element_kind AnyName AnyName = true
+  same_element_kind Anything Anything = true
+  same_element_kind d e = false
