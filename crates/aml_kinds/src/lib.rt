@@ -1,4 +1,28 @@
 //! Values that evaluation moves, and the kinds by which they are judged (ACPI 6.5, 19.3.5).
-//!
-//! So far a value is an integer: the definition that the meaning speaks of stands in `specs/Values`.
 #![tactic(auto)]
+
+mod bytes;
+mod copies;
+mod fitting;
+mod joins;
+mod kind;
+mod kind_copies;
+mod law;
+mod package;
+mod same_kinds;
+mod same_values;
+mod shape;
+mod value;
+
+pub use bytes::Bytes;
+pub use copies::copy;
+pub use fitting::fits;
+pub use joins::{is_within, join, join_elements};
+pub use kind::{ElementKind, Kind};
+pub use kind_copies::copy_kind;
+pub use law::{fits_what_it_lies_within, join_associates, join_commutes, join_stays};
+pub use package::Package;
+pub use same_kinds::is_same_kind;
+pub use same_values::is_same_value;
+pub use shape::Shape;
+pub use value::{Element, Value};

@@ -1,0 +1,16 @@
+-- Elements as lists.
+use Rattle.std.proofs.Common.{◌≡◌, suc, List, [], ◌∷◌, length, ap, refl}
+use Rattle.aml_kinds.specs.Values.{count}
+use Rattle.aml_kinds.specs.Views.{elements_of}
+use Rattle.aml_kinds.specs.Kinds.{places}
+use Rattle.aml_kinds.specs.KindViews.{shape_of}
+use Rattle.aml_kinds.specs.declared.kind.ElementKind as program_kind
+use Rattle.aml_kinds.specs.declared.value.Element as program_element
+
+pub count-elements_of : (es : List program_element.Element) → count (elements_of es) ≡ length es
+count-elements_of [] = refl
+count-elements_of (e ∷ es) = ap suc (count-elements_of es)
+
+pub places-shape_of : (es : List program_kind.ElementKind) → places (shape_of es) ≡ length es
+places-shape_of [] = refl
+places-shape_of (e ∷ es) = ap suc (places-shape_of es)

@@ -1,0 +1,74 @@
+// Joins of kinds, and kinds within others.
+
+ghost use Rattle.std.specs.Prelude.{◌≡◌, ◌↔◌, IsTrue, IfOk};
+ghost use Rattle.aml_kinds.specs.Joins as spec;
+ghost use Rattle.aml_kinds.specs.Joins.{IsWithin};
+ghost use Rattle.aml_kinds.specs.KindViews.{kind_of, element_kind};
+
+use crate::kind::{ElementKind, Kind};
+use crate::same_kinds::shapes_match;
+use aml_namespace::NoMemory;
+use std::alloc::{AllocError, Global};
+
+/// The least kind that has the values of both.
+pub fn join(alloc: Global, j: &Kind, k: &Kind) -> Result<Kind, NoMemory>
+    ensures { IfOk result (λ joined. kind_of joined ≡ spec.join (kind_of j.now) (kind_of k.now)) }
+{
+    match joined(alloc, j, k) {
+        Ok(kind) => Ok(kind),
+        Err(_) => Err(NoMemory),
+    }
+}
+
+/// The least kind that has the values of both.
+fn joined(alloc: Global, j: &Kind, k: &Kind) -> Result<Kind, AllocError>
+    ensures { IfOk result (λ joined. kind_of joined ≡ spec.join (kind_of j.now) (kind_of k.now)) }
+{
+    match (j, k) {
+        (Kind::Int(m), Kind::Int(n)) => Ok(Kind::Int(if m < n { *n } else { *m })),
+        (Kind::Buf(m), Kind::Buf(n)) => Ok(if m == n { Kind::Buf(*m) } else { Kind::Mixed }),
+        (Kind::Str(m), Kind::Str(n)) => Ok(if m == n { Kind::Str(*m) } else { Kind::Mixed }),
+        (Kind::Pkg(s), Kind::Pkg(t)) => {
+            if shapes_match(&s.places, &t.places) {
+                Ok(Kind::Pkg(s.copied(alloc)?))
+            } else {
+                Ok(Kind::AnyPkg)
+            }
+        }
+        (Kind::Pkg(_) | Kind::AnyPkg, Kind::Pkg(_) | Kind::AnyPkg) => Ok(Kind::AnyPkg),
+        _ => Ok(Kind::Mixed),
+    }
+}
+
+/// What is known of an element that is of the one kind or of the other.
+pub fn join_elements(
+    alloc: Global,
+    d: &ElementKind,
+    e: &ElementKind,
+) -> Result<ElementKind, NoMemory>
+    ensures { IfOk result (λ e'. element_kind e' ≡ spec.join_elements (element_kind d.now) (element_kind e.now)) }
+{
+    match (d, e) {
+        (ElementKind::Unset, _) | (_, ElementKind::Unset) => Ok(ElementKind::Unset),
+        (ElementKind::Value(j), ElementKind::Value(k)) => match joined(alloc, j, k) {
+            Ok(kind) => Ok(ElementKind::Value(kind)),
+            Err(_) => Err(NoMemory),
+        },
+        _ => Ok(ElementKind::Name),
+    }
+}
+
+/// Whether a kind lies within another: joined to it, it adds nothing.
+pub fn is_within(j: &Kind, k: &Kind) -> bool
+    ensures { IsTrue result ↔ IsWithin (kind_of j.now) (kind_of k.now) }
+{
+    match (j, k) {
+        (_, Kind::Mixed) => true,
+        (Kind::Int(m), Kind::Int(n)) => m <= n,
+        (Kind::Buf(m), Kind::Buf(n)) => m == n,
+        (Kind::Str(m), Kind::Str(n)) => m == n,
+        (Kind::Pkg(s), Kind::Pkg(t)) => shapes_match(&s.places, &t.places),
+        (Kind::Pkg(_) | Kind::AnyPkg, Kind::AnyPkg) => true,
+        _ => false,
+    }
+}
