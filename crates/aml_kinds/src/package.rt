@@ -23,8 +23,7 @@ pub struct Package {
 }
 
 impl Model for Package {
-    ghost use Rattle.std.specs.Prelude.{◌≡◌, ◌≤◌};
-    ghost use Rattle.aml_kinds.specs.Values.{Elements, package_depth, most_nested};
+    ghost use Rattle.aml_kinds.specs.Values.{Elements, package_depth, IsNested};
 
     ghost Value = { Elements };
 
@@ -36,7 +35,7 @@ impl Model for Package {
 
     ghost view = { λ a. elements_of a.elements.items };
 
-    ghost invariant = { λ a. (a.depth ≡ package_depth (elements_of a.elements.items)) × (a.depth ≤ most_nested) };
+    ghost invariant = { λ a. IsNested a.depth (elements_of a.elements.items) };
 
     ghost size = { package_depth };
 

@@ -24,7 +24,7 @@ impl Model for Shape {
     ghost use Rattle.std.specs.Prelude.{◌≡◌, ◌≤◌};
     ghost use Rattle.aml_kinds.specs.Values.{most_nested};
     ghost use Rattle.aml_kinds.specs.Kinds as kinds;
-    ghost use Rattle.aml_kinds.specs.Kinds.{shape_depth};
+    ghost use Rattle.aml_kinds.specs.Kinds.{shape_depth, IsNestedShape};
 
     ghost Value = { kinds.Shape };
 
@@ -36,7 +36,7 @@ impl Model for Shape {
 
     ghost view = { λ a. shape_of a.places.items };
 
-    ghost invariant = { λ a. (a.depth ≡ shape_depth (shape_of a.places.items)) × (a.depth ≤ most_nested) };
+    ghost invariant = { λ a. IsNestedShape a.depth (shape_of a.places.items) };
 
     ghost size = { shape_depth };
 
