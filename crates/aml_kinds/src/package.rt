@@ -1,7 +1,8 @@
 // Packages, no deeper than terms may be.
 
 ghost use Rattle.std.specs.Prelude.{◌≡◌, ◌≤◌, ◌↔◌, suc, IfOk, IfErr, IsOk};
-ghost use Rattle.aml_kinds.specs.Values.{package_depth, element_depth, greatest_depth, most_nested, count};
+ghost use Rattle.aml_kinds.specs.Values.{package_depth, element_depth, greatest_depth};
+ghost use Rattle.aml_kinds.specs.Values.{most_nested, count};
 ghost use Rattle.aml_kinds.specs.Views.{element, elements_of};
 
 use crate::copies::copied_elements;
@@ -68,25 +69,26 @@ impl Package {
     }
 
     /// How many packages stand in one another, this one counted.
-    pub fn depth(&self) -> u8
+    pub fn depth(&self) -> usize
         ensures depth { result ≡ package_depth self.now }
         ensures shallow { result ≤ most_nested }
     {
-        self.depth
+        self.depth as usize
     }
 
     /// The elements, to be read.
     pub fn elements(&self) -> &[Element]
         ensures { elements_of result.now ≡ self.now }
     {
-        &self.elements
+        self.elements.as_slice()
     }
 
     /// The elements given back.
     pub fn into_elements(self) -> Vec<Element>
         ensures { elements_of result.items ≡ self }
     {
-        self.elements
+        let Package { elements, depth: _ } = self;
+        elements
     }
 
     /// A copy.
