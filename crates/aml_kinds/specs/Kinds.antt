@@ -1,5 +1,6 @@
 -- Kinds: what is known of a value before evaluation.
-use Rattle.std.specs.Prelude.{ℕ, suc, max, List, [], ◌∷◌}
+use Rattle.std.specs.Prelude.{◌≡◌, ◌≤◌, ℕ, suc, max, List, [], ◌∷◌}
+use Rattle.aml_kinds.specs.Values.{most_nested}
 
 mutual
   -- a kind: integers up to the greatest, buffers and strings of a size, packages of a shape,
@@ -55,3 +56,7 @@ abbrev mutual
 -- the same of a shape, itself counted
 abbrev pub shape_depth : Shape → ℕ
 shape_depth s = suc (inner_depth s)
+
+-- the depth of a shape, which is not too great
+abbrev pub IsNestedShape : ℕ → Shape → Type 0
+IsNestedShape deep s = (deep ≡ shape_depth s) × (deep ≤ most_nested)

@@ -45,14 +45,14 @@ impl Bytes {
     pub fn into_vec(self) -> Vec<u8>
         ensures { result.items ≡ self }
     {
-        self.items
+        let Self { items } = self;
+        items
     }
 
     /// A copy.
     pub(crate) fn copy(&self) -> Result<Bytes, AllocError>
         ensures { IfOk result (λ b. b ≡ self.now) }
     {
-        let items = self.items.clone()?;
-        Ok(Bytes { items })
+        Ok(Bytes::new(self.items.clone()?))
     }
 }

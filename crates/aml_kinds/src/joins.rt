@@ -46,7 +46,8 @@ pub fn join_elements(
     d: &ElementKind,
     e: &ElementKind,
 ) -> Result<ElementKind, NoMemory>
-    ensures { IfOk result (λ e'. element_kind e' ≡ spec.join_elements (element_kind d.now) (element_kind e.now)) }
+    ensures { IfOk result (λ made.
+        element_kind made ≡ spec.join_elements (element_kind d.now) (element_kind e.now)) }
 {
     match (d, e) {
         (ElementKind::Unset, _) | (_, ElementKind::Unset) => Ok(ElementKind::Unset),

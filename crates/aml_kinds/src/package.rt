@@ -1,7 +1,8 @@
 // Packages, no deeper than terms may be.
 
 ghost use Rattle.std.specs.Prelude.{◌≡◌, ◌≤◌, ◌↔◌, suc, IfOk, IfErr, IsOk};
-ghost use Rattle.aml_kinds.specs.Values.{package_depth, element_depth, greatest_depth, most_nested, count};
+ghost use Rattle.aml_kinds.specs.Values.{package_depth, element_depth, greatest_depth};
+ghost use Rattle.aml_kinds.specs.Values.{most_nested, count};
 ghost use Rattle.aml_kinds.specs.Views.{element, elements_of};
 
 use crate::copies::copied_elements;
@@ -23,8 +24,7 @@ pub struct Package {
 }
 
 impl Model for Package {
-    ghost use Rattle.std.specs.Prelude.{◌≡◌, ◌≤◌};
-    ghost use Rattle.aml_kinds.specs.Values.{Elements, package_depth, most_nested};
+    ghost use Rattle.aml_kinds.specs.Values.{Elements, package_depth, IsNested};
 
     ghost Value = { Elements };
 
@@ -36,7 +36,7 @@ impl Model for Package {
 
     ghost view = { λ a. elements_of a.elements.items };
 
-    ghost invariant = { λ a. (a.depth ≡ package_depth (elements_of a.elements.items)) × (a.depth ≤ most_nested) };
+    ghost invariant = { λ a. IsNested a.depth (elements_of a.elements.items) };
 
     ghost size = { package_depth };
 
@@ -69,25 +69,26 @@ impl Package {
     }
 
     /// How many packages stand in one another, this one counted.
-    pub fn depth(&self) -> u8
+    pub fn depth(&self) -> usize
         ensures depth { result ≡ package_depth self.now }
         ensures shallow { result ≤ most_nested }
     {
-        self.depth
+        self.depth as usize
     }
 
     /// The elements, to be read.
     pub fn elements(&self) -> &[Element]
         ensures { elements_of result.now ≡ self.now }
     {
-        &self.elements
+        self.elements.as_slice()
     }
 
     /// The elements given back.
     pub fn into_elements(self) -> Vec<Element>
         ensures { elements_of result.items ≡ self }
     {
-        self.elements
+        let Package { elements, depth: _ } = self;
+        elements
     }
 
     /// A copy.

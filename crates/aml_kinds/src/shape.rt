@@ -21,10 +21,8 @@ pub struct Shape {
 }
 
 impl Model for Shape {
-    ghost use Rattle.std.specs.Prelude.{◌≡◌, ◌≤◌};
-    ghost use Rattle.aml_kinds.specs.Values.{most_nested};
     ghost use Rattle.aml_kinds.specs.Kinds as kinds;
-    ghost use Rattle.aml_kinds.specs.Kinds.{shape_depth};
+    ghost use Rattle.aml_kinds.specs.Kinds.{shape_depth, IsNestedShape};
 
     ghost Value = { kinds.Shape };
 
@@ -36,7 +34,7 @@ impl Model for Shape {
 
     ghost view = { λ a. shape_of a.places.items };
 
-    ghost invariant = { λ a. (a.depth ≡ shape_depth (shape_of a.places.items)) × (a.depth ≤ most_nested) };
+    ghost invariant = { λ a. IsNestedShape a.depth (shape_of a.places.items) };
 
     ghost size = { shape_depth };
 
@@ -69,25 +67,26 @@ impl Shape {
     }
 
     /// How many shapes stand in one another, this one counted.
-    pub fn depth(&self) -> u8
+    pub fn depth(&self) -> usize
         ensures depth { result ≡ shape_depth self.now }
         ensures shallow { result ≤ most_nested }
     {
-        self.depth
+        self.depth as usize
     }
 
     /// The kinds of the elements, to be read.
     pub fn places(&self) -> &[ElementKind]
         ensures { shape_of result.now ≡ self.now }
     {
-        &self.places
+        self.places.as_slice()
     }
 
     /// The kinds of the elements given back.
     pub fn into_places(self) -> Vec<ElementKind>
         ensures { shape_of result.items ≡ self }
     {
-        self.places
+        let Shape { places, depth: _ } = self;
+        places
     }
 
     /// A copy.
