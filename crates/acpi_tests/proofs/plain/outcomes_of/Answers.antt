@@ -4,8 +4,8 @@ use Rattle.aml_plain.proofs.Methods.{parsed, there}
 use Rattle.acpi_tests.proofs.plain.outcomes_of.Goals as goal
 
 -- the body that was read has its shape
-pub evaluate_terms-requires-clause-shaped : goal.evaluate_terms-requires-clause-shaped
-evaluate_terms-requires-clause-shaped c =
+pub evaluate_terms-outcome-requires-clause-shaped : goal.evaluate_terms-outcome-requires-clause-shaped
+evaluate_terms-outcome-requires-clause-shaped c =
     let m = there (shown c.args.namespace.now) 0 c.requires in
     rw c.deref.ensures.value (body_shaped _ _ _ _ (c.in-Ok.ensures m.0 m.1)).1
 
