@@ -1,4 +1,4 @@
--- The least kind that has the values of two kinds, and which kinds lie within others.
+-- What is known of a value that is of one of two kinds, and which kinds lie within others.
 use Rattle.std.specs.Prelude.{◌≡◌, ◌==◌, max, Bool, true, false}
 use Rattle.aml_kinds.specs.Kinds.{Kind, IntUpTo, BufOf, StrOf, PkgOf, AnyPkg, Mixed, ElementKind, ValueOf, AnyName, Anything}
 use Rattle.aml_kinds.specs.SameKinds.{same_shape}

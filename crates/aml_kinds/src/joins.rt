@@ -10,7 +10,7 @@ use crate::same_kinds::shapes_match;
 use aml_namespace::NoMemory;
 use std::alloc::{AllocError, Global};
 
-/// The least kind that has the values of both.
+/// What is known of a value that is of the one kind or of the other.
 pub fn join(alloc: Global, j: &Kind, k: &Kind) -> Result<Kind, NoMemory>
     ensures { IfOk result (λ joined. kind_of joined ≡ spec.join (kind_of j.now) (kind_of k.now)) }
 {
@@ -20,7 +20,7 @@ pub fn join(alloc: Global, j: &Kind, k: &Kind) -> Result<Kind, NoMemory>
     }
 }
 
-/// The least kind that has the values of both.
+/// What is known of a value that is of the one kind or of the other.
 fn joined(alloc: Global, j: &Kind, k: &Kind) -> Result<Kind, AllocError>
     ensures { IfOk result (λ joined. kind_of joined ≡ spec.join (kind_of j.now) (kind_of k.now)) }
 {
