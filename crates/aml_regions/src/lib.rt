@@ -1,6 +1,11 @@
-//! Accesses of operation regions, and the events that others see (ACPI 6.5, 5.5.2.4).
+//! Accesses of operation regions, who answers them, and the events that others see (ACPI 6.5,
+//! 5.5.2.4).
 #![tactic(auto)]
 
 mod access;
+mod event;
+mod world;
 
 pub use access::Access;
+pub use event::Event;
+pub use world::World;
