@@ -1,2 +1,4 @@
+pub mod Bytes
 pub mod Events
+pub mod Registers
 pub mod Worlds

@@ -3,9 +3,12 @@
 #![tactic(auto)]
 
 mod access;
+mod bytes;
 mod event;
+mod registers;
 mod world;
 
 pub use access::Access;
 pub use event::Event;
+pub use registers::RegisterFile;
 pub use world::World;
