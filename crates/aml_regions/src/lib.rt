@@ -5,10 +5,12 @@
 mod access;
 mod bytes;
 mod event;
+mod law;
 mod registers;
 mod world;
 
 pub use access::Access;
 pub use event::Event;
+pub use law::reads_what_was_written;
 pub use registers::RegisterFile;
 pub use world::World;
