@@ -15,6 +15,8 @@ mod operators;
 #[cfg(test)]
 mod plain;
 #[cfg(test)]
+mod regions;
+#[cfg(test)]
 mod sums;
 #[cfg(test)]
 mod tables;

@@ -1,14 +1,8 @@
--- What others see of an evaluation.
+-- What others see of an evaluation: its calls on a world, in order.
 use Rattle.std.specs.Prelude.{◌≡◌, ℕ, ◌<◌, ◌^◌, List, Some, slice_get}
 use Rattle.aml_regions.specs.declared.access.Access.{Access}
-
--- a read with what was answered, a write, a Notify of an object, a Sleep, a Stall
-pub data Event : Type 0 where
-  Read : (access : Access) (value : ℕ) → Event
-  Written : (access : Access) (value : ℕ) → Event
-  Notified : (object value : ℕ) → Event
-  Slept : (value : ℕ) → Event
-  Stalled : (value : ℕ) → Event
+pub use Rattle.aml_regions.specs.declared.event.Event.{Event}
+pub use Rattle.aml_regions.specs.declared.event.Event.TheVariants.{Read, Written, Notified, Slept, Stalled}
 
 -- every answer fits the width of its access
 pub record AreWords (log : List Event) : Type 0 where

@@ -1,6 +1,16 @@
-//! Accesses of operation regions, and the events that others see (ACPI 6.5, 5.5.2.4).
+//! Accesses of operation regions, who answers them, and the events that others see (ACPI 6.5,
+//! 5.5.2.4).
 #![tactic(auto)]
 
 mod access;
+mod bytes;
+mod event;
+mod law;
+mod registers;
+mod world;
 
 pub use access::Access;
+pub use event::Event;
+pub use law::reads_what_was_written;
+pub use registers::RegisterFile;
+pub use world::World;

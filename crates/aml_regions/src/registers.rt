@@ -1,0 +1,146 @@
+// A world of bytes, which keeps its log.
+
+ghost use Rattle.std.specs.Prelude.{◌≡◌, ◌<◌, ◌^◌, ℕ, [], OnOk, OnErr, IfOk, IsErr};
+ghost use Rattle.aml_regions.specs.Bytes.{unit_of, with_unit, SameBytes};
+ghost use Rattle.aml_regions.specs.Events.{Event, Read, Written, Notified, Slept, Stalled};
+ghost use Rattle.aml_regions.specs.Registers.{contents};
+ghost use Rattle.aml_regions.specs.Worlds.{IsUnit, MakesEvent, CountsRefusal};
+
+use crate::access::Access;
+use crate::bytes::{byte, make_room, put_unit, unit};
+use crate::event::Event;
+use crate::world::World;
+use aml_namespace::{NoMemory, ObjectId};
+use std::alloc::Global;
+use std::collections::BTreeMap;
+
+/// A world of bytes, by space and address, 0 where none was set. Memory is taken for bytes that
+/// were set, wherever they stand, and for the log.
+#[derive(Drop)]
+pub struct RegisterFile {
+    pub(crate) bytes: BTreeMap<(u8, u64), u8>,
+    pub(crate) events: Vec<Event>,
+    pub(crate) refusals: u64,
+}
+
+impl RegisterFile {
+    /// No byte is set, and nothing has happened.
+    pub fn new(alloc: Global) -> RegisterFile
+        ensures bytes { SameBytes (λ _ _. 0) (contents result) }
+        ensures log { result.events.items ≡ [] }
+        ensures refusals { result.refusals ≡ 0 }
+    {
+        RegisterFile {
+            bytes: BTreeMap::new(alloc),
+            events: Vec::new(alloc),
+            refusals: 0,
+        }
+    }
+
+    /// The byte at an address of a space.
+    pub fn byte(&self, space: u8, address: u64) -> u8
+        ensures { result ≡ contents self.now space address }
+    {
+        byte(&self.bytes, space, address)
+    }
+
+    /// The events of the calls that were not refused, in order.
+    pub fn events(&self) -> &[Event]
+        ensures { result.now ≡ self.now.events.items }
+    {
+        &self.events
+    }
+
+    /// How many calls were refused.
+    pub fn refusals(&self) -> u64
+        ensures { result ≡ self.now.refusals }
+    {
+        self.refusals
+    }
+
+    // Makes an event, or counts a refusal.
+    fn make(&mut self, event: Event) -> Result<(), NoMemory>
+        ensures event { MakesEvent result (λ _. event) self.old.events.items self.new.events.items }
+        ensures refusal { CountsRefusal result self.old.refusals self.new.refusals }
+        ensures kept { self.new.bytes ≡ self.old.bytes }
+    {
+        match self.events.push(event) {
+            Ok(()) => Ok(()),
+            Err(_) => self.refuse(),
+        }
+    }
+
+    // Counts a refusal.
+    fn refuse(&mut self) -> Result<(), NoMemory>
+        ensures refused { IsErr result }
+        ensures log { self.new.events ≡ self.old.events }
+        ensures refusal { CountsRefusal result self.old.refusals self.new.refusals }
+        ensures kept { self.new.bytes ≡ self.old.bytes }
+    {
+        self.refusals = self.refusals.saturating_add(1);
+        Err(NoMemory)
+    }
+}
+
+impl World for RegisterFile {
+    ghost log = { λ file. file.events.items };
+
+    ghost refusals = { λ file. file.refusals };
+
+    fn read(&mut self, access: Access) -> Result<u64, NoMemory>
+        requires { IsUnit access }
+        ensures fits { IfOk result (λ value. value < 2 ^ access.width) }
+        ensures event { MakesEvent result (Read access) self.old.events.items self.new.events.items }
+        ensures refusal { CountsRefusal result self.old.refusals self.new.refusals }
+        ensures value { IfOk result (λ value. value ≡ unit_of (contents self.old) access) }
+        ensures kept { SameBytes (contents self.old) (contents self.new) }
+    {
+        let value = unit(&self.bytes, access);
+        self.make(Event::Read(access, value))?;
+        Ok(value)
+    }
+
+    fn write(&mut self, access: Access, value: u64) -> Result<(), NoMemory>
+        requires unit { IsUnit access }
+        requires fits { value < 2 ^ access.width }
+        ensures event { MakesEvent result (λ _. Written access value)
+            self.old.events.items self.new.events.items }
+        ensures refusal { CountsRefusal result self.old.refusals self.new.refusals }
+        ensures put { OnOk result
+            (SameBytes (with_unit (contents self.old) access value) (contents self.new)) }
+        ensures kept { OnErr result (SameBytes (contents self.old) (contents self.new)) }
+    {
+        let Ok(()) = make_room(&mut self.bytes, access) else {
+            return self.refuse();
+        };
+        self.make(Event::Written(access, value))?;
+        put_unit(&mut self.bytes, access, value)
+    }
+
+    fn notify(&mut self, object: ObjectId, value: u64) -> Result<(), NoMemory>
+        ensures event { MakesEvent result (λ _. Notified object value)
+            self.old.events.items self.new.events.items }
+        ensures refusal { CountsRefusal result self.old.refusals self.new.refusals }
+        ensures kept { SameBytes (contents self.old) (contents self.new) }
+    {
+        self.make(Event::Notified(object, value))
+    }
+
+    fn sleep(&mut self, milliseconds: u64) -> Result<(), NoMemory>
+        ensures event { MakesEvent result (λ _. Slept milliseconds)
+            self.old.events.items self.new.events.items }
+        ensures refusal { CountsRefusal result self.old.refusals self.new.refusals }
+        ensures kept { SameBytes (contents self.old) (contents self.new) }
+    {
+        self.make(Event::Slept(milliseconds))
+    }
+
+    fn stall(&mut self, microseconds: u64) -> Result<(), NoMemory>
+        ensures event { MakesEvent result (λ _. Stalled microseconds)
+            self.old.events.items self.new.events.items }
+        ensures refusal { CountsRefusal result self.old.refusals self.new.refusals }
+        ensures kept { SameBytes (contents self.old) (contents self.new) }
+    {
+        self.make(Event::Stalled(microseconds))
+    }
+}

@@ -1,0 +1,46 @@
+// Who answers an evaluation's accesses.
+
+ghost use Rattle.std.specs.Prelude.{◌<◌, ◌^◌, ℕ, List, IfOk};
+ghost use Rattle.aml_regions.specs.Events.{Event, Read, Written, Notified, Slept, Stalled};
+ghost use Rattle.aml_regions.specs.Worlds.{IsUnit, MakesEvent, CountsRefusal};
+
+use crate::access::Access;
+use aml_namespace::{NoMemory, ObjectId};
+
+/// Who answers the accesses of operation regions, and keeps what happens. Each call adds its one
+/// event to the log; or it is refused for want of memory, which is counted, and changes nothing
+/// else.
+pub trait World {
+    ghost log: { Self → List Event };
+
+    ghost refusals: { Self → ℕ };
+
+    /// The unit's value.
+    fn read(&mut self, access: Access) -> Result<u64, NoMemory>
+        requires { IsUnit access }
+        ensures fits { IfOk result (λ value. value < 2 ^ access.width) }
+        ensures event { MakesEvent result (Read access) (log self.old) (log self.new) }
+        ensures refusal { CountsRefusal result (refusals self.old) (refusals self.new) };
+
+    /// Gives the unit a value.
+    fn write(&mut self, access: Access, value: u64) -> Result<(), NoMemory>
+        requires unit { IsUnit access }
+        requires fits { value < 2 ^ access.width }
+        ensures event { MakesEvent result (λ _. Written access value) (log self.old) (log self.new) }
+        ensures refusal { CountsRefusal result (refusals self.old) (refusals self.new) };
+
+    /// Tells of a Notify of an object.
+    fn notify(&mut self, object: ObjectId, value: u64) -> Result<(), NoMemory>
+        ensures event { MakesEvent result (λ _. Notified object value) (log self.old) (log self.new) }
+        ensures refusal { CountsRefusal result (refusals self.old) (refusals self.new) };
+
+    /// Tells of a Sleep.
+    fn sleep(&mut self, milliseconds: u64) -> Result<(), NoMemory>
+        ensures event { MakesEvent result (λ _. Slept milliseconds) (log self.old) (log self.new) }
+        ensures refusal { CountsRefusal result (refusals self.old) (refusals self.new) };
+
+    /// Tells of a Stall.
+    fn stall(&mut self, microseconds: u64) -> Result<(), NoMemory>
+        ensures event { MakesEvent result (λ _. Stalled microseconds) (log self.old) (log self.new) }
+        ensures refusal { CountsRefusal result (refusals self.old) (refusals self.new) };
+}
