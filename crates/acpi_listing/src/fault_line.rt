@@ -20,13 +20,7 @@ pub fn list_fault<W: Write>(alloc: Global, out: &mut W, fault: Fault) -> Result<
         Fault::File => put(out, b"fault E523 File\n"),
         Fault::NoMemory => put(out, b"fault E524 NoMemory\n"),
         Fault::NoSuchObject => put(out, b"fault E525 NoSuchObject\n"),
-        Fault::Table { cause, file, at } => list_place(
-            alloc,
-            out,
-            cause.text(),
-            file,
-            at,
-        ),
+        Fault::Table { cause, file, at } => list_place(alloc, out, cause.text(), file, at),
         Fault::Load(refusal) => {
             let name = refusal.cause.text();
             list_place(alloc, out, name, refusal.table, refusal.at)
