@@ -1,12 +1,17 @@
-.PHONY: run test growths edits check fmt
+.PHONY: run test cases growths edits check fmt
 
 # Builds acpicheck, proofs included, and evaluates the method of the stored run.
 run:
 	@cd crates/acpicheck && rt run < stdin
 
-# The gate: every crate proved from nothing, must-fail edits refused, tests and programs run.
+# The gate: every crate proved from nothing, must-fail edits refused, tests and programs run, and then the built
+# program over its stored cases. The last line counts both.
 test:
-	rt ci
+	@rt ci | python3 bench/cases.py after
+
+# The built program over its stored cases.
+cases:
+	@python3 bench/cases.py
 
 # Each growth of memory refused in turn, in the test programs that `make test` leaves.
 growths:

@@ -14,6 +14,10 @@ abbrev pub IsRead : Option (List ℕ) → Option (List ℕ) → Input → Type 0
 IsRead old new read =
     Consumes old new (vec_items read.bytes) × (read.is_whole ≡ true → IsAtEnd new × (length (vec_items read.bytes) ≤ limit))
 
+-- all bytes of a stream, at most 16 MiB
+abbrev pub IsAllOf : Option (List ℕ) → Option (List ℕ) → List ℕ → Type 0
+IsAllOf old new bytes = Consumes old new bytes × IsAtEnd new × (length bytes ≤ limit)
+
 -- the next line of some bytes, without its end, and the bytes behind it; none where no byte is left
 abbrev pub NextLine : List ℕ → Option (List ℕ) → List ℕ → Type 0
 NextLine bytes None rest = (bytes ≡ []) × (rest ≡ [])

@@ -4,3 +4,4 @@ pub mod Faults
 pub mod Arguments
 pub mod Input
 pub mod Commands
+pub mod Program

@@ -4,6 +4,7 @@ ghost use Rattle.std.specs.Prelude.{IfOk};
 ghost use Rattle.acpi_listing.specs.Input.{IsRead};
 
 use std::alloc::{AllocError, Global};
+use std::io;
 use std::io::Read;
 
 /// The most bytes of standard input, and of one file: 16 MiB.
@@ -16,6 +17,8 @@ pub struct Input {
     /// Whether the bytes are all that the stream had: no read failed, and they are no more than
     /// [`INPUT_LIMIT`].
     pub is_whole: bool,
+    /// Why a read failed, where one did.
+    pub failure: Option<io::Error>,
 }
 
 /// Reads a stream to its end, or until a read fails or the bytes are more than [`INPUT_LIMIT`].
@@ -30,13 +33,15 @@ pub fn read_input<R: Read>(alloc: Global, input: &mut R) -> Result<Input, AllocE
                 return Ok(Input {
                     bytes,
                     is_whole: true,
+                    failure: None,
                 });
             }
             Ok(n) => bytes.extend_from_slice(&chunk[..n])?,
-            Err(_) => {
+            Err(error) => {
                 return Ok(Input {
                     bytes,
                     is_whole: false,
+                    failure: Some(error),
                 });
             }
         }
@@ -44,5 +49,6 @@ pub fn read_input<R: Read>(alloc: Global, input: &mut R) -> Result<Input, AllocE
     Ok(Input {
         bytes,
         is_whole: false,
+        failure: None,
     })
 }

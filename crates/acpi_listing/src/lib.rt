@@ -4,6 +4,8 @@
 
 mod any_table;
 mod arguments;
+mod command_line;
+mod disk;
 mod eval;
 mod fault;
 mod fault_line;
@@ -16,6 +18,9 @@ mod words;
 
 pub use acpi_text::{RunFault, Table, list_evaluation, list_refusal, list_tables, put};
 pub use any_table::{FileKind, read_any_table};
+pub use command_line::{command_words, run_program};
+pub use disk::{Disk, Unread, read_whole};
+pub use fault::Fault;
 pub use input::{INPUT_LIMIT, Input, read_input};
 pub use program::{run, run_words};
 pub use source::{Source, SourceFault};

@@ -11,7 +11,7 @@ use crate::files::list_files;
 use crate::hex_lines::{HexLines, Lines};
 use crate::input::{Input, read_input};
 use crate::source::Source;
-use crate::words::{Request, read_words};
+use crate::words::{Request, begins_with_command, read_words};
 use acpi_text::{RunFault, put};
 use std::alloc::{AllocError, Global};
 use std::convert::AsStr;
@@ -81,16 +81,23 @@ fn is_torn(input: &Input, first: &[u8]) -> bool
     !input.is_whole && first.len() == input.bytes.len()
 }
 
+// The words of a line. Behind a first one that names no command no other changes the answer, so those
+// are left out.
 fn split_words(alloc: Global, text: &str) -> Result<Vec<&str>, AllocError> {
     let mut words = Vec::new(alloc);
-    for word in text.split(' ') {
+    let count = if begins_with_command(text) {
+        usize::MAX
+    } else {
+        1
+    };
+    for word in text.split(' ').take(count) {
         words.push(word)?;
     }
     Ok(words)
 }
 
-// Writes a fault's line, and answers its status.
-fn report<W: Write>(alloc: Global, out: &mut W, fault: Fault) -> Result<u8, RunFault>
+/// Writes a fault's line, and answers its status.
+pub fn report<W: Write>(alloc: Global, out: &mut W, fault: Fault) -> Result<u8, RunFault>
     ensures status { IfOk result (λ status. status ≤ 3) }
     ensures told { Reports fault (W.contents out.old) (W.contents out.new) result }
 {

@@ -50,6 +50,25 @@ pub fn read_words<'a, S: AsStr>(alloc: Global, words: &'a [S]) -> Result<Request
     }
 }
 
+/// Whether the first word of a line names a command.
+pub fn begins_with_command(text: &str) -> bool {
+    let first = match text.split_once(' ') {
+        Some((first, _)) => first,
+        None => text,
+    };
+    first == "tables" || first == "eval"
+}
+
+/// Tells what is wrong with words that are no command line, or the help that they ask for.
+pub fn explain_words<S: AsStr, N: Eprint>(alloc: Global, words: &[S], notes: &N) {
+    let Ok(command) = command(alloc) else {
+        return;
+    };
+    if let Err(error) = command.try_get_matches_from(words) {
+        let _ = notes.eprint(&error);
+    }
+}
+
 fn words_fault(kind: ErrorKind) -> Fault
     ensures { (result ≡ fault.CommandLine) ⊎ (result ≡ fault.NoMemory) }
 {

@@ -3,6 +3,7 @@
 
 mod calls;
 mod rows;
+mod whole;
 
 use acpi_listing::{RunFault, run};
 use hex;

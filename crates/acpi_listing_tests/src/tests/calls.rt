@@ -18,13 +18,13 @@ const EVAL: [&str; 7] = [
     "eval", "--plain", "1000", "--method", "\\M000", "--args", "41",
 ];
 
-const LINE_1: &str = "table DSDT length 48 revision 2 oem \"ACPICK\" \"ROWS0001\" 0x1\n";
+pub const LINE_1: &str = "table DSDT length 48 revision 2 oem \"ACPICK\" \"ROWS0001\" 0x1\n";
 
 // The first table as `dsdt.bin`, the same with a wrong last byte as `bad.bin`, and `vast.bin`, which
 // no memory can hold.
 #[derive(Drop)]
-struct Shelf {
-    alloc: Global,
+pub struct Shelf {
+    pub alloc: Global,
 }
 
 impl Source for Shelf {

@@ -389,4 +389,9 @@ pub const TABLES: &[(&str, &str, u8)] = &[
         "table DSDT length 48 revision 2 oem \"ACPICK\" \"ROWS0001\" 0x1\nfault E523 File\n",
         1,
     ),
+    (
+        "tables @ @ @\n445344542400000002a741435049434b524f57533030303101000000524f575301000000\n445344542400000002a641435049434b524f57533030303102000000524f575301000000\n445344542400000002a541435049434b524f57533030303103000000524f575301000000\n",
+        "table DSDT length 36 revision 2 oem \"ACPICK\" \"ROWS0001\" 0x1\ntable DSDT length 36 revision 2 oem \"ACPICK\" \"ROWS0001\" 0x2\ntable DSDT length 36 revision 2 oem \"ACPICK\" \"ROWS0001\" 0x3\n",
+        0,
+    ),
 ];

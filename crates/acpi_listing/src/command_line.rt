@@ -1,0 +1,125 @@
+// The program: its words, its streams and its status.
+
+ghost use Rattle.std.specs.Prelude.{◌≡◌, ◌⊎◌, ◌≤◌, [], IfErr, IfOk, OnOk, Ok};
+ghost use Rattle.std.specs.Io.Buffered.{writer_buffer, writer_contents};
+ghost use Rattle.std.specs.Io.KnownBytes.{Keeps};
+ghost use Rattle.acpi_listing.specs.Program.{RunsEither, RunsProgram};
+ghost use Rattle.acpi_listing.specs.declared.fault.Fault.TheVariants as fault;
+
+use crate::fault::Fault;
+use crate::program::{report, run, run_words};
+use crate::source::Source;
+use crate::words::explain_words;
+use acpi_text::RunFault;
+use std::alloc::Global;
+use std::env;
+use std::io::{BufWriter, ErrorKind, Read, Write};
+use std::rt::Env;
+
+/// The words of the command line, behind the program's name.
+///
+/// Fault: E520 where one is no UTF-8.
+pub fn command_words<R: Env + AllocGlobal>(rt: &R) -> Result<Vec<String>, Fault>
+    ensures { IfErr result (λ f. (f ≡ fault.CommandLine) ⊎ (f ≡ fault.NoMemory)) }
+{
+    let mut words = Vec::new(rt.alloc());
+    match env::args(rt) {
+        Ok(all) => {
+            for word in all.skip(1) {
+                words.push(word)?;
+            }
+            Ok(words)
+        }
+        Err(error) => Err(words_fault(error.kind())),
+    }
+}
+
+fn words_fault(kind: ErrorKind) -> Fault
+    ensures { (result ≡ fault.CommandLine) ⊎ (result ≡ fault.NoMemory) }
+{
+    match kind {
+        ErrorKind::OutOfMemory => Fault::NoMemory,
+        _ => Fault::CommandLine,
+    }
+}
+
+/// Runs the program by its words, without words by its standard input, and answers the status that it
+/// ends with: that of [`run_words`] or [`run`]; 1 where not all was written.
+pub fn run_program<R: Read, F: Source, W: Write + Drop, N: Eprint>(
+    alloc: Global,
+    words: Result<Vec<String>, Fault>,
+    input: &mut R,
+    files: &mut F,
+    out: &mut BufWriter<W>,
+    notes: &N,
+) -> u8
+    ensures printed { RunsProgram F.answers files.old files.new words
+        (R.remaining input.old) (R.remaining input.new)
+        (writer_contents W.contents out.old) (writer_contents W.contents out.new)
+        (writer_buffer out.new) result }
+    ensures status { result ≤ 3 }
+{
+    let ended = run_either(alloc, words, input, files, out, notes);
+    match finish(ended, out, notes) {
+        Ok(status) => status,
+        Err(_) => 1,
+    }
+}
+
+// By the words, or without words by standard input.
+fn run_either<R: Read, F: Source, W: Write, N: Eprint>(
+    alloc: Global,
+    words: Result<Vec<String>, Fault>,
+    input: &mut R,
+    files: &mut F,
+    out: &mut W,
+    notes: &N,
+) -> Result<u8, RunFault>
+    ensures printed { RunsEither F.answers files.old files.new words
+        (R.remaining input.old) (R.remaining input.new)
+        (W.contents out.old) (W.contents out.new) result }
+    ensures status { IfOk result (λ status. status ≤ 3) }
+{
+    let words = match words {
+        Ok(words) => words,
+        Err(fault) => {
+            let why = match fault {
+                Fault::NoMemory => "no memory for the words",
+                _ => "a word is no UTF-8",
+            };
+            let _ = notes.eprint("acpicheck: ");
+            let _ = notes.eprintln(why);
+            return report(alloc, out, fault);
+        }
+    };
+    if words.is_empty() {
+        return run(alloc, input, out);
+    }
+    let ended = run_words(alloc, words.as_slice(), files, out);
+    if let Ok(2) = ended {
+        explain_words(alloc, words.as_slice(), notes);
+    }
+    ended
+}
+
+// Writes out what is still held. Standard error tells why that fails, but where nobody reads on.
+fn finish<W: Write + Drop, N: Eprint>(
+    ended: Result<u8, RunFault>,
+    out: &mut BufWriter<W>,
+    notes: &N,
+) -> Result<u8, RunFault>
+    ensures same { IfOk result (λ status. ended ≡ Ok status) }
+    ensures all { OnOk result (writer_buffer out.new ≡ []) }
+    ensures bytes { Keeps (writer_contents W.contents out.old) (writer_contents W.contents out.new) }
+{
+    match out.flush() {
+        Ok(()) => ended,
+        Err(error) => {
+            if error.kind() != ErrorKind::BrokenPipe {
+                let _ = notes.eprint("acpicheck: standard output: ");
+                let _ = notes.eprintln(&error);
+            }
+            Err(RunFault::Write)
+        }
+    }
+}
