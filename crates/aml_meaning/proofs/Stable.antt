@@ -2,7 +2,7 @@
 use Rattle.std.proofs.Common.{ℕ, ◌+◌, List, subst}
 use Rattle.aml_operators.specs.Tree.{Trees}
 use Rattle.aml_kinds.specs.Values.{Value}
-use Rattle.aml_regions.specs.Events.{Event}
+use Rattle.aml_regions.specs.declared.event.Event.{Event}
 use Rattle.aml_meaning.specs.State.{State, with_steps}
 use Rattle.aml_meaning.specs.Parts.{Stays}
 use Rattle.aml_meaning.specs.Calls.{framed}

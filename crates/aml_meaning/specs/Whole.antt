@@ -2,7 +2,7 @@
 use Rattle.std.specs.Prelude.{◌≡◌, ℕ, ◌+◌, List, [], Option}
 use Rattle.aml_operators.specs.Tree.{Trees}
 use Rattle.aml_kinds.specs.Values.{Value}
-use Rattle.aml_regions.specs.Events.{Event}
+use Rattle.aml_regions.specs.declared.event.Event.{Event}
 use Rattle.aml_meaning.specs.declared.error.AmlError.{AmlError}
 use Rattle.aml_meaning.specs.State.{State, with_steps, entered, Error, Out, Goes, Halts}
 use Rattle.aml_meaning.specs.Calls.{framed}

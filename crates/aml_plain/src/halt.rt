@@ -2,7 +2,7 @@
 
 ghost use Rattle.std.specs.Prelude.{◌≡◌, suc, OnOk, List, Option};
 ghost use Rattle.aml_kinds.specs.Values.{Value};
-ghost use Rattle.aml_regions.specs.Events.{Event};
+ghost use Rattle.aml_regions.specs.declared.event.Event.{Event};
 ghost use Rattle.aml_meaning.specs.declared.error.AmlCause.TheVariants as cause;
 ghost use Rattle.aml_meaning.specs.Parts.{tick};
 ghost use Rattle.aml_meaning.specs.Runs.{By, Runs, state};

@@ -1,6 +1,6 @@
 use Rattle.std.proofs.Common.{drop, List, Option, Result}
 use Rattle.aml_kinds.specs.Values.{Value}
-use Rattle.aml_regions.specs.Events.{Event}
+use Rattle.aml_regions.specs.declared.event.Event.{Event}
 use Rattle.aml_operators.specs.Tree.{views}
 use Rattle.aml_meaning.specs.State.{State}
 use Rattle.aml_meaning.specs.Meaning.{mean_all}
