@@ -1,8 +1,8 @@
 -- What others see of an evaluation: its calls on a world, in order.
 use Rattle.std.specs.Prelude.{◌≡◌, ℕ, ◌<◌, ◌^◌, List, Some, slice_get}
 use Rattle.aml_regions.specs.declared.access.Access.{Access}
-pub use Rattle.aml_regions.specs.declared.event.Event.{Event}
-pub use Rattle.aml_regions.specs.declared.event.Event.TheVariants.{Read, Written, Notified, Slept, Stalled}
+use Rattle.aml_regions.specs.declared.event.Event.{Event}
+use Rattle.aml_regions.specs.declared.event.Event.TheVariants.{Read}
 
 -- every answer fits the width of its access
 pub record AreWords (log : List Event) : Type 0 where

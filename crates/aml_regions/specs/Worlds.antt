@@ -2,7 +2,7 @@
 use Rattle.std.specs.Prelude.{◌≡◌, ◌⊎◌, ◌+◌, ◌-◌, ◌/◌, ◌^◌, ◌≤◌, ◌++◌, ◌∷◌, ℕ, [], List, Result, MatchResult, nat_le, if◌then◌else◌}
 use Rattle.aml_namespace.specs.declared.memory.NoMemory.{NoMemory}
 use Rattle.aml_regions.specs.declared.access.Access.{Access}
-use Rattle.aml_regions.specs.Events.{Event}
+use Rattle.aml_regions.specs.declared.event.Event.{Event}
 
 -- a unit of 8, 16, 32 or 64 bits that ends at or below 2 ^ 64
 pub record IsUnit (access : Access) : Type 0 where

@@ -2,7 +2,8 @@
 
 ghost use Rattle.std.specs.Prelude.{◌≡◌, ◌<◌, ◌^◌, ℕ, [], OnOk, OnErr, IfOk, IsErr};
 ghost use Rattle.aml_regions.specs.Bytes.{unit_of, with_unit, SameBytes};
-ghost use Rattle.aml_regions.specs.Events.{Event, Read, Written, Notified, Slept, Stalled};
+ghost use Rattle.aml_regions.specs.declared.event.Event.{Event};
+ghost use Rattle.aml_regions.specs.declared.event.Event.TheVariants.{Read, Written, Notified, Slept, Stalled};
 ghost use Rattle.aml_regions.specs.Registers.{contents};
 ghost use Rattle.aml_regions.specs.Worlds.{IsUnit, MakesEvent, CountsRefusal};
 

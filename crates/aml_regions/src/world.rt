@@ -1,7 +1,8 @@
 // Who answers an evaluation's accesses.
 
 ghost use Rattle.std.specs.Prelude.{◌<◌, ◌^◌, ℕ, List, IfOk};
-ghost use Rattle.aml_regions.specs.Events.{Event, Read, Written, Notified, Slept, Stalled};
+ghost use Rattle.aml_regions.specs.declared.event.Event.{Event};
+ghost use Rattle.aml_regions.specs.declared.event.Event.TheVariants.{Read, Written, Notified, Slept, Stalled};
 ghost use Rattle.aml_regions.specs.Worlds.{IsUnit, MakesEvent, CountsRefusal};
 
 use crate::access::Access;
