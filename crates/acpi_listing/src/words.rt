@@ -1,6 +1,8 @@
 // The words of a command line.
 
-ghost use Rattle.std.specs.Prelude.{◌≡◌, ◌⊎◌, IfErr};
+ghost use Rattle.std.specs.Prelude.{◌≡◌, ◌⊎◌, ℕ, List, IfErr, IfOk, Some, codes, map, option_map, vec_items};
+ghost use Rattle.std.specs.Str.Parse.{digits_value, without_leading_plus};
+ghost use Rattle.clap.specs.Words.{first_value, found_of, matched_of, one_text, raw_values};
 ghost use Rattle.acpi_listing.specs.declared.fault.Fault.TheVariants as fault;
 
 use crate::fault::Fault;
@@ -115,8 +117,11 @@ fn eval_command<'a>(alloc: Global) -> Result<Command<'a>, AllocError> {
         .arg(file)
 }
 
+// All values of `files`, in their order.
 fn files_of<'a>(alloc: Global, found: &ArgMatches<'a>) -> Result<Vec<&'a str>, Fault>
-    ensures { IfErr result (λ f. (f ≡ fault.CommandLine) ⊎ (f ≡ fault.NoMemory)) }
+    ensures files { IfOk result (λ files. Some (map (λ name. name.now) (vec_items files))
+        ≡ option_map raw_values (matched_of (found_of found.now) (codes "files"))) }
+    ensures faults { IfErr result (λ f. (f ≡ fault.CommandLine) ⊎ (f ≡ fault.NoMemory)) }
 {
     match found.get_strs("files") {
         Some(files) => Ok(Vec::from_slice(alloc, files)?),
@@ -124,8 +129,18 @@ fn files_of<'a>(alloc: Global, found: &ArgMatches<'a>) -> Result<Vec<&'a str>, F
     }
 }
 
+// Each part of the request is the value of its option.
 fn eval_of<'a>(found: &ArgMatches<'a>) -> Result<EvalRequest<'a>, Fault>
-    ensures { IfErr result (λ f. f ≡ fault.CommandLine) }
+    ensures file { IfOk result
+        (λ r. Some r.file.now ≡ first_value (found_of found.now) (codes "file")) }
+    ensures method { IfOk result
+        (λ r. Some r.method.now ≡ first_value (found_of found.now) (codes "method")) }
+    ensures args { IfOk result (λ r. option_map (λ text. text.now) r.args
+        ≡ first_value (found_of found.now) (codes "args")) }
+    ensures steps { IfOk result (λ r. (text : List ℕ)
+        → one_text (found_of found.now) (codes "plain") ≡ Some text
+        → r.steps ≡ digits_value 10 (without_leading_plus text)) }
+    ensures faults { IfErr result (λ f. f ≡ fault.CommandLine) }
 {
     let (Some(file), Some(method), Some(steps)) = (
         found.get_str("file"),
