@@ -57,7 +57,8 @@ fn hex_digits(element: &str) -> Option<&str>
 fn read_digits(digits: &str, radix: u32) -> Option<u64>
     requires least { 2 ≤ radix }
     requires most { radix ≤ 36 }
-    ensures { MatchOption result ((digits_value radix digits.now < 2 ^ 64) → IsNumeral radix digits.now → ⊥)
+    ensures { MatchOption result
+        ((digits_value radix digits.now < 2 ^ 64) → IsNumeral radix digits.now → ⊥)
         (λ n. (n < 2 ^ 64) × IsNumeral radix digits.now × (n ≡ digits_value radix digits.now)) }
 {
     if digits.starts_with('+') {

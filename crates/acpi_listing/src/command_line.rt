@@ -110,7 +110,8 @@ fn finish<W: Write + Drop, N: Eprint>(
 ) -> Result<u8, RunFault>
     ensures same { IfOk result (λ status. ended ≡ Ok status) }
     ensures all { OnOk result (writer_buffer out.new ≡ []) }
-    ensures bytes { Keeps (writer_contents W.contents out.old) (writer_contents W.contents out.new) }
+    ensures bytes { Keeps (writer_contents W.contents out.old)
+        (writer_contents W.contents out.new) }
 {
     match out.flush() {
         Ok(()) => ended,

@@ -23,7 +23,8 @@ impl<'a> Lines<'a> {
 
     /// The next line without its end, None where no byte is left.
     pub fn next_line(&mut self) -> Option<&'a [u8]>
-        ensures { NextLine self.old.rest.now (option_map (λ line. line.now) result) self.new.rest.now }
+        ensures { NextLine self.old.rest.now (option_map (λ line. line.now) result)
+            self.new.rest.now }
     {
         let bytes = self.rest;
         if bytes.is_empty() {

@@ -30,5 +30,5 @@ abbrev pub Associates : Type 0
 Associates = (i j k : Kind) → join (join i j) k ≡ join i (join j k)
 
 -- a kind joined to itself stays
-abbrev pub Stays : Type 0
-Stays = (k : Kind) → join k k ≡ k
+abbrev pub IsIdempotent : Type 0
+IsIdempotent = (k : Kind) → join k k ≡ k

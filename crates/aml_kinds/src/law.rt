@@ -1,6 +1,6 @@
 // The laws of kinds. Each function does nothing: its contract is the law.
 
-ghost use Rattle.aml_kinds.specs.Laws.{Widens, Commutes, Associates, Stays};
+ghost use Rattle.aml_kinds.specs.Laws.{Widens, Commutes, Associates, IsIdempotent};
 
 /// What fits a kind fits each kind that it lies within, where no shape in the first has more
 /// elements than a package may have.
@@ -20,5 +20,5 @@ pub fn join_associates()
 
 /// A kind joined to itself stays.
 pub fn join_stays()
-    ensures { Stays }
+    ensures { IsIdempotent }
 {}

@@ -6,7 +6,7 @@ use Rattle.aml_lex.specs.declared.fault.LexCause.TheVariants.{BadPkgLength, BadN
 use Rattle.aml_lex.specs.declared.fault.LexFault.{LexFault}
 use Rattle.aml_lex.specs.Numbers.{little, pkg_value}
 use Rattle.aml_lex.specs.Read.{Read, Found, Ends, Wrong, behind, bytes_read, placed, fault_of}
-use Rattle.aml_lex.specs.Reading.{Gives, with_value, pkg_length_read, pkg_length_at, package_of, package_end_at, name_string_read, name_string_at, integer_read, integer_placed, integer_data_at, string_read, string_data_at}
+use Rattle.aml_lex.specs.Reading.{IsSeenAs, with_value, pkg_length_read, pkg_length_at, package_of, package_end_at, name_string_read, name_string_at, integer_read, integer_placed, integer_data_at, string_read, string_data_at}
 use Rattle.aml_lex.specs.Exact.{IsRead, IsReadIfAny, Reads, ReadsPkgLength, ReadsInteger, ReadsPackage}
 use Rattle.aml_lex.specs.Spelling.{SpellsPkgLength, SpellsName, SpellsInteger, SpellsString}
 use Rattle.aml_lex.proofs.Readers.{IsRight, no_front, ends_at, reads, found_at}
@@ -14,7 +14,7 @@ use Rattle.aml_lex.proofs.Spelled.{pkg_length_reader, integer_reader, string_rea
 use Rattle.aml_lex.proofs.SpelledNames.{name_string_reader}
 
 -- an answer that a definition gives, seen by the view
-pub seen : {X V : Type 0} (view : X → V) (result : Result (X × ℕ) LexFault) (answer : Result (V × ℕ) LexFault) → Gives view result answer → with_value view result ≡ answer
+pub seen : {X V : Type 0} (view : X → V) (result : Result (X × ℕ) LexFault) (answer : Result (V × ℕ) LexFault) → IsSeenAs view result answer → with_value view result ≡ answer
 seen view (Ok r) answer e = sym e
 seen view (Err fault) answer e = sym e
 

@@ -109,9 +109,9 @@ unfoldable pub string_data_at : List ℕ → ℕ → Result (List ℕ × ℕ) Le
 string_data_at bytes at = placed BadString at (length bytes) (string_read (drop at bytes))
 
 -- the program's answer, seen by a view of its value, is that of a definition
-abbrev pub Gives : {X V : Type 0} → (X → V) → Result (X × ℕ) LexFault → Result (V × ℕ) LexFault → Type 0
-Gives view (Ok r) answer = answer ≡ Ok (view r.0, r.1)
-Gives view (Err fault) answer = answer ≡ Err fault
+abbrev pub IsSeenAs : {X V : Type 0} → (X → V) → Result (X × ℕ) LexFault → Result (V × ℕ) LexFault → Type 0
+IsSeenAs view (Ok r) answer = answer ≡ Ok (view r.0, r.1)
+IsSeenAs view (Err fault) answer = answer ≡ Err fault
 
 -- an answer with its value seen by a view
 abbrev pub with_value : {X V : Type 0} → (X → V) → Result (X × ℕ) LexFault → Result (V × ℕ) LexFault

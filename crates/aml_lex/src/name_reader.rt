@@ -6,7 +6,7 @@ ghost use Rattle.aml_lex.specs.Characters.{fits_name, is_lead_name_char};
 ghost use Rattle.aml_lex.specs.Names.{name_of};
 ghost use Rattle.aml_lex.specs.NameStrings.{segments_of};
 ghost use Rattle.aml_lex.specs.Read.{place_behind, placed, tested_read};
-ghost use Rattle.aml_lex.specs.Reading.{Gives, carets, counted_read, is_rooted, name_string_at, path_read, seg_read, segs_read, with_value};
+ghost use Rattle.aml_lex.specs.Reading.{IsSeenAs, carets, counted_read, is_rooted, name_string_at, path_read, seg_read, segs_read, with_value};
 ghost use Rattle.aml_lex.specs.Exact.{Reads};
 ghost use Rattle.aml_lex.specs.Spelling.{SpellsName};
 ghost use Rattle.aml_lex.specs.declared.fault.LexCause.TheVariants.{BadName};
@@ -35,7 +35,8 @@ fn fits_name(leads: bool, byte: u8) -> bool
 /// The place behind one byte of a name segment.
 fn name_char(bytes: &[u8], at: usize, leads: bool) -> Result<usize, LexFault>
     requires { at ≤ length bytes.now }
-    ensures gives { result ≡ place_behind BadName at (length bytes.now) (tested_read (fits_name leads ∷ []) (drop at bytes.now)) }
+    ensures gives { result ≡ place_behind BadName at (length bytes.now)
+        (tested_read (fits_name leads ∷ []) (drop at bytes.now)) }
     ensures size { IfOk result (λ next. next ≡ at + 1) }
     ensures within { IfOk result (λ next. next ≤ length bytes.now) }
 {
@@ -57,7 +58,8 @@ fn name_char(bytes: &[u8], at: usize, leads: bool) -> Result<usize, LexFault>
 /// The place behind the name segment at a place.
 fn name_seg(bytes: &[u8], at: usize) -> Result<usize, LexFault>
     requires { at ≤ length bytes.now }
-    ensures gives { result ≡ place_behind BadName at (length bytes.now) (seg_read (drop at bytes.now)) }
+    ensures gives { result ≡ place_behind BadName at (length bytes.now)
+        (seg_read (drop at bytes.now)) }
     ensures size { IfOk result (λ next. next ≡ at + 4) }
     ensures within { IfOk result (λ next. next ≤ length bytes.now) }
 {
@@ -70,7 +72,7 @@ fn name_seg(bytes: &[u8], at: usize) -> Result<usize, LexFault>
 /// The bytes of so many name segments from a place on, and the place behind them.
 fn name_segs(bytes: &[u8], at: usize, count: usize) -> Result<(&[u8], usize), LexFault>
     requires { at ≤ length bytes.now }
-    ensures gives { Gives (λ (segments : Bor (List ℕ)). segments_of segments.now) result
+    ensures gives { IsSeenAs (λ (segments : Bor (List ℕ)). segments_of segments.now) result
         (placed BadName at (length bytes.now) (segs_read count (drop at bytes.now))) }
     ensures size { IfOk result (λ r. r.1 ≡ at + 4 * count) }
     ensures within { IfOk result (λ r. r.1 ≤ length bytes.now) }
@@ -88,7 +90,7 @@ fn name_segs(bytes: &[u8], at: usize, count: usize) -> Result<(&[u8], usize), Le
 #[tactic(auto, using(crate::proofs::Places::placed_behind))]
 fn counted_segs(bytes: &[u8], at: usize) -> Result<(&[u8], usize), LexFault>
     requires { at ≤ length bytes.now }
-    ensures gives { Gives (λ (segments : Bor (List ℕ)). segments_of segments.now) result
+    ensures gives { IsSeenAs (λ (segments : Bor (List ℕ)). segments_of segments.now) result
         (placed BadName at (length bytes.now) (counted_read (drop at bytes.now))) }
     ensures ahead { IfOk result (λ r. at < r.1) }
     ensures within { IfOk result (λ r. r.1 ≤ length bytes.now) }
@@ -107,7 +109,7 @@ fn counted_segs(bytes: &[u8], at: usize) -> Result<(&[u8], usize), LexFault>
 #[tactic(auto, using(crate::proofs::Places::placed_behind))]
 fn name_path(bytes: &[u8], at: usize) -> Result<(&[u8], usize), LexFault>
     requires { at ≤ length bytes.now }
-    ensures gives { Gives (λ (segments : Bor (List ℕ)). segments_of segments.now) result
+    ensures gives { IsSeenAs (λ (segments : Bor (List ℕ)). segments_of segments.now) result
         (placed BadName at (length bytes.now) (path_read (drop at bytes.now))) }
     ensures ahead { IfOk result (λ r. at < r.1) }
     ensures within { IfOk result (λ r. r.1 ≤ length bytes.now) }
@@ -151,7 +153,7 @@ fn starts_with_root(bytes: &[u8], at: usize) -> bool
 /// has there.
 pub fn name_string(bytes: &[u8], at: usize) -> Result<(NameRef<'_>, usize), LexFault>
     requires { at ≤ length bytes.now }
-    ensures gives { Gives name_of result (name_string_at bytes.now at) }
+    ensures gives { IsSeenAs name_of result (name_string_at bytes.now at) }
     ensures spells { Reads SpellsName BadName bytes.now at (with_value name_of result) }
     ensures ahead { IfOk result (λ r. at < r.1) }
     ensures within { IfOk result (λ r. r.1 ≤ length bytes.now) }
@@ -163,7 +165,7 @@ pub fn name_string(bytes: &[u8], at: usize) -> Result<(NameRef<'_>, usize), LexF
 #[tactic(auto, unfolding(crate::specs::Reading::name_string_at))]
 pub(crate) fn find_name_string(bytes: &[u8], at: usize) -> Result<(NameRef<'_>, usize), LexFault>
     requires { at ≤ length bytes.now }
-    ensures gives { Gives name_of result (name_string_at bytes.now at) }
+    ensures gives { IsSeenAs name_of result (name_string_at bytes.now at) }
     ensures ahead { IfOk result (λ r. at < r.1) }
     ensures within { IfOk result (λ r. r.1 ≤ length bytes.now) }
 {

@@ -3,7 +3,7 @@
 ghost use Rattle.std.specs.Prelude.{◌≡◌, ◌≤◌, ◌<◌, ℕ, List, length, IfOk};
 ghost use Rattle.std.specs.Borrow.{Bor};
 ghost use Rattle.aml_lex.specs.Exact.{Reads};
-ghost use Rattle.aml_lex.specs.Reading.{Gives, string_data_at, with_value};
+ghost use Rattle.aml_lex.specs.Reading.{IsSeenAs, string_data_at, with_value};
 ghost use Rattle.aml_lex.specs.Spelling.{SpellsString};
 ghost use Rattle.aml_lex.specs.declared.fault.LexCause.TheVariants.{BadString};
 
@@ -14,7 +14,8 @@ use crate::fault::{LexCause, LexFault, truncated_fault};
 /// Faults: E201 at the end of the bytes, where no 00 closes the text; E206 at the first byte above 7F.
 pub fn string_data(bytes: &[u8], at: usize) -> Result<(&[u8], usize), LexFault>
     requires { at ≤ length bytes.now }
-    ensures gives { Gives (λ (text : Bor (List ℕ)). text.now) result (string_data_at bytes.now at) }
+    ensures gives { IsSeenAs (λ (text : Bor (List ℕ)). text.now) result
+        (string_data_at bytes.now at) }
     ensures spells { Reads SpellsString BadString bytes.now at
         (with_value (λ (text : Bor (List ℕ)). text.now) result) }
     ensures ahead { IfOk result (λ r. at < r.1) }
@@ -27,7 +28,8 @@ pub fn string_data(bytes: &[u8], at: usize) -> Result<(&[u8], usize), LexFault>
 #[tactic(auto, unfolding(crate::specs::Reading::string_data_at))]
 pub(crate) fn find_string_data(bytes: &[u8], at: usize) -> Result<(&[u8], usize), LexFault>
     requires { at ≤ length bytes.now }
-    ensures gives { Gives (λ (text : Bor (List ℕ)). text.now) result (string_data_at bytes.now at) }
+    ensures gives { IsSeenAs (λ (text : Bor (List ℕ)). text.now) result
+        (string_data_at bytes.now at) }
     ensures ahead { IfOk result (λ r. at < r.1) }
     ensures within { IfOk result (λ r. r.1 ≤ length bytes.now) }
 {

@@ -25,7 +25,8 @@ pub fn evaluate_terms(
 ) -> Outcome
     requires known { method.0 < length (shown namespace.now).entries }
     requires shaped { AreShaped code.Body (views body.now) }
-    ensures { (m : Method) → method_at (shown namespace.now) method.0 ≡ Some m → Evaluates (shown namespace.now) m (views body.now) arguments.now fuel result }
+    ensures { let ns = shown namespace.now in (m : Method) → method_at ns method.0 ≡ Some m →
+        Evaluates ns m (views body.now) arguments.now fuel result }
 {
     let table = namespace.method(method).unwrap().table;
     evaluate_body(body, table, namespace.width(), arguments, fuel)
@@ -43,8 +44,11 @@ pub fn evaluate_plain(
     fuel: u64,
 ) -> Result<Outcome, NoMemory>
     requires known { method.0 < length (shown namespace.now).entries }
-    requires parses { (m : Method) → method_at (shown namespace.now) method.0 ≡ Some m → (ts : List Tree) × IsBodyOf (shown namespace.now) m ts }
-    ensures { IfOk result (λ outcome. (m : Method) → method_at (shown namespace.now) method.0 ≡ Some m → (ts : List Tree) → IsBodyOf (shown namespace.now) m ts → Evaluates (shown namespace.now) m (trees ts) arguments.now fuel outcome) }
+    requires parses { let ns = shown namespace.now in
+        (m : Method) → method_at ns method.0 ≡ Some m → (ts : List Tree) × IsBodyOf ns m ts }
+    ensures { let ns = shown namespace.now in IfOk result (λ outcome.
+        (m : Method) → method_at ns method.0 ≡ Some m → (ts : List Tree) → IsBodyOf ns m ts →
+        Evaluates ns m (trees ts) arguments.now fuel outcome) }
 {
     match namespace.tree(alloc, method) {
         Ok(body) => Ok(evaluate_terms(namespace, method, &body, arguments, fuel)),

@@ -10,7 +10,7 @@ use Rattle.std.specs.Ordering.{is_eq, ordering_then, nat_cmp}
 use Rattle.std.proofs.Math.Pow.{pow_mono}
 use Rattle.std.proofs.lemmas.Nat.{pow-add}
 use Rattle.std.proofs.lemmas.List.{get_or-take, length-take-le}
-use Rattle.aml_regions.specs.Bytes.{place_cmp, with_run, number_at}
+use Rattle.aml_regions.specs.Bytes.{place_cmp, with_run, number_from}
 
 -- both parts are equal
 then_is_eq : (o p : Ordering) → is_eq (ordering_then o p) ≡ is_eq o && is_eq p
@@ -82,8 +82,8 @@ run_none old space at run s a =
     none_at false v o = refl
 
 -- no bytes make 0
-pub number_none : (n : ℕ) (bytes : ℕ → ℕ) (at : ℕ) → n ≡ 0 → 0 ≡ number_at n bytes at
-unfolding number_at
+pub number_none : (n : ℕ) (bytes : ℕ → ℕ) (at : ℕ) → n ≡ 0 → 0 ≡ number_from n bytes at
+unfolding number_from
 number_none n bytes at e = rw e refl
 
 pub none_fits : (n : ℕ) → n ≡ 0 → 0 < 2 ^ (8 * n)
@@ -91,8 +91,8 @@ none_fits n e = rw e (omega arith)
 
 -- one byte before a number's
 pub number_more : (n m at next value byte : ℕ) (bytes : ℕ → ℕ) → m ≡ suc n → next ≡ at + 1 → byte ≡ bytes at →
-    value ≡ number_at n bytes next → value * 256 + byte ≡ number_at m bytes at
-unfolding number_at
+    value ≡ number_from n bytes next → value * 256 + byte ≡ number_from m bytes at
+unfolding number_from
 number_more n m at next value byte bytes more behind here known =
     rw (more, known, here, behind) (omega arith)
 

@@ -4,7 +4,7 @@ use Rattle.std.specs.Prelude.{◌==◌, ◌&&◌, nat_le, nat_lt}
 use Rattle.std.specs.Int.{byte_at}
 use Rattle.std.proofs.lemmas.Bool.Decides.{nat_tests}
 use Rattle.std.proofs.lemmas.Nat.{pow-add, shr-shr}
-use Rattle.aml_regions.specs.Bytes.{number_at, with_run, with_unit}
+use Rattle.aml_regions.specs.Bytes.{number_from, with_run, with_unit}
 use Rattle.aml_regions.specs.Worlds.{IsUnit}
 use Rattle.aml_regions.specs.Laws.{ReadsWhatWasWritten}
 use Rattle.aml_regions.specs.declared.access.Access.{Access}
@@ -29,15 +29,15 @@ byte_shift (suc i) value = ap (λ m. value / m % 256) (pow_bytes (suc i))
 
 -- the number of a number's bytes
 number_of_bytes : (n at value : ℕ) (bytes : ℕ → ℕ) → ((i : ℕ) → i < n → bytes (at + i) ≡ value / 2 ^ (8 * i) % 256) →
-    value < 2 ^ (8 * n) → number_at n bytes at ≡ value
-unfolding number_at
+    value < 2 ^ (8 * n) → number_from n bytes at ≡ value
+unfolding number_from
 number_of_bytes zero at value bytes each fits = omega arith
 number_of_bytes (suc n) at value bytes each fits =
     let start : at + 0 ≡ at = omega arith in
     let first : bytes at ≡ value % 256 = ap bytes (sym start) ∙ (each 0 (omega arith) ∙ sym (byte_shift 0 value)) in
     let eight : 8 * suc n ≡ 8 * n + 8 = omega arith in
     let bound : value < 2 ^ (8 * n) * 2 ^ 8 = rw (← pow-add 2 (8 * n) 8, ← eight) fits in
-    let behind : number_at n bytes (at + 1) ≡ value / 256 =
+    let behind : number_from n bytes (at + 1) ≡ value / 256 =
     number_of_bytes n (at + 1) (value / 256) bytes
     (λ i within.
     let place : at + 1 + i ≡ at + suc i = omega arith in

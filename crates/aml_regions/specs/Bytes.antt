@@ -36,10 +36,10 @@ abbrev pub with_unit : (ℕ → ℕ → ℕ) → Access → ℕ → ℕ → ℕ 
 with_unit old access value = with_run old access.space access.address (access.width / 8) (λ i. byte_at i value)
 
 -- the number of so many bytes from an address on, the lowest first
-unfoldable pub number_at : ℕ → (ℕ → ℕ) → ℕ → ℕ
-number_at zero bytes at = 0
-number_at (suc n) bytes at = bytes at + 256 * number_at n bytes (at + 1)
+unfoldable pub number_from : ℕ → (ℕ → ℕ) → ℕ → ℕ
+number_from zero bytes at = 0
+number_from (suc n) bytes at = bytes at + 256 * number_from n bytes (at + 1)
 
 -- a unit's value
 abbrev pub unit_of : (ℕ → ℕ → ℕ) → Access → ℕ
-unit_of bytes access = number_at (access.width / 8) (bytes access.space) access.address
+unit_of bytes access = number_from (access.width / 8) (bytes access.space) access.address

@@ -91,7 +91,8 @@ impl World for RegisterFile {
     fn read(&mut self, access: Access) -> Result<u64, NoMemory>
         requires { IsUnit access }
         ensures fits { IfOk result (λ value. value < 2 ^ access.width) }
-        ensures event { MakesEvent result (Read access) self.old.events.items self.new.events.items }
+        ensures event { MakesEvent result (Read access)
+            self.old.events.items self.new.events.items }
         ensures refusal { CountsRefusal result self.old.refusals self.new.refusals }
         ensures value { IfOk result (λ value. value ≡ unit_of (contents self.old) access) }
         ensures kept { SameBytes (contents self.old) (contents self.new) }

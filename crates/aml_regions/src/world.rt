@@ -27,12 +27,14 @@ pub trait World {
     fn write(&mut self, access: Access, value: u64) -> Result<(), NoMemory>
         requires unit { IsUnit access }
         requires fits { value < 2 ^ access.width }
-        ensures event { MakesEvent result (λ _. Written access value) (log self.old) (log self.new) }
+        ensures event { MakesEvent result (λ _. Written access value)
+            (log self.old) (log self.new) }
         ensures refusal { CountsRefusal result (refusals self.old) (refusals self.new) };
 
     /// Tells of a Notify of an object.
     fn notify(&mut self, object: ObjectId, value: u64) -> Result<(), NoMemory>
-        ensures event { MakesEvent result (λ _. Notified object value) (log self.old) (log self.new) }
+        ensures event { MakesEvent result (λ _. Notified object value)
+            (log self.old) (log self.new) }
         ensures refusal { CountsRefusal result (refusals self.old) (refusals self.new) };
 
     /// Tells of a Sleep.
@@ -42,6 +44,7 @@ pub trait World {
 
     /// Tells of a Stall.
     fn stall(&mut self, microseconds: u64) -> Result<(), NoMemory>
-        ensures event { MakesEvent result (λ _. Stalled microseconds) (log self.old) (log self.new) }
+        ensures event { MakesEvent result (λ _. Stalled microseconds)
+            (log self.old) (log self.new) }
         ensures refusal { CountsRefusal result (refusals self.old) (refusals self.new) };
 }

@@ -82,8 +82,8 @@ impl<'a, A: Arity> Reader<'a, A> {
         at: usize,
         depth: u8,
     ) -> Result<Term, TreeFault>
-        ensures gives { ReadsAs view result (term_at self.now.code (A.counts self.now.arity.now) depth
-            asker spot bytes.now at) }
+        ensures gives { ReadsAs view result
+            (term_at self.now.code (A.counts self.now.arity.now) depth asker spot bytes.now at) }
         ensures ahead { IfOk result (λ t. at < (out-Term t).end) }
         ensures within { IfOk result (λ t. (out-Term t).end ≤ length bytes.now) }
     {
