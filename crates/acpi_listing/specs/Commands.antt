@@ -1,6 +1,5 @@
 -- What the commands do, from words that were read to what is printed.
-use Rattle.std.specs.Prelude.{◌≡◌, ◌≤◌, ◌⊎◌, ◌-◌, ◌^◌, ℕ, List, [], ◌∷◌, ◌++◌, All, Bool, length, Option, Some, None, Result, Ok, Err, IfOk, map, option_map, vec_items}
-use Rattle.std.specs.Str.{IsUtf8}
+use Rattle.std.specs.Prelude.{◌≡◌, ◌≤◌, ◌⊎◌, ◌-◌, ◌^◌, ℕ, List, ◌∷◌, ◌++◌, All, Bool, length, Option, Some, None, Result, Ok, Err, IfOk, map, option_map, vec_items}
 use Rattle.std.specs.Io.KnownBytes.{Appends}
 use Rattle.aml_lex.specs.declared.names.NameSeg.{NameSeg}
 use Rattle.aml_namespace.specs.Widths.{bits_of}
@@ -20,7 +19,9 @@ use Rattle.acpi_text.specs.Lists.{Lists}
 use Rattle.acpi_text.specs.Outcome.{outcome_line, refusal_line}
 use Rattle.acpi_listing.specs.Faults.{fault_line}
 use Rattle.acpi_listing.specs.Files.{Answers, Opens, ListsFiles}
-use Rattle.acpi_listing.specs.Input.{NextLine, IsTorn, IsRead, hex_answers}
+use Rattle.acpi_listing.specs.FirstLine.{StartsWith, FailsToStart}
+use Rattle.acpi_listing.specs.Input.{IsRead, hex_answers}
+use Rattle.acpi_listing.specs.Words.{AsksFor, AsksNothing}
 use Rattle.acpi_listing.specs.declared.fault.Fault.{Fault}
 use Rattle.acpi_listing.specs.declared.fault.Fault.TheVariants as fault
 use Rattle.acpi_listing.specs.declared.fault.Stop.{Stop}
@@ -102,11 +103,11 @@ abbrev pub Obeys : {F : Type 0} → Answers F → F → Request → F → Option
 Obeys answers old (Tables names) new held holds r = ListsFiles answers old (map (λ name. name.now) (vec_items names)) new held holds r
 Obeys answers old (Eval request) new held holds r = EvaluatesFile answers old request.file.now request.method.now (option_map (λ text. text.now) request.args) request.steps new held holds r
 
--- words are a command that is obeyed, or none, and then nothing is read or printed
-abbrev pub ObeysWords : {F : Type 0} → Answers F → F → F → Option (List ℕ) → Option (List ℕ) → Result ℕ Stop → Type 0
-ObeysWords answers old new held holds r =
-    ((request : Request) × Obeys answers old request new held holds r)
-    ⊎ ((f : Fault) × ((f ≡ fault.CommandLine) ⊎ (f ≡ fault.NoMemory)) × (r ≡ Err (Faulty f)) × (new ≡ old) × (holds ≡ held))
+-- what the words ask for is done; or they are no command line, and then nothing is read or printed
+abbrev pub ObeysWords : {F : Type 0} → Answers F → List (List ℕ) → F → F → Option (List ℕ) → Option (List ℕ) → Result ℕ Stop → Type 0
+ObeysWords answers words old new held holds r =
+    ((request : Request) × AsksFor words request × Obeys answers old request new held holds r)
+    ⊎ ((f : Fault) × ((f ≡ fault.NoMemory) ⊎ ((f ≡ fault.CommandLine) × AsksNothing words)) × (r ≡ Err (Faulty f)) × (new ≡ old) × (holds ≡ held))
 
 -- the status of a fault
 abbrev pub fault_status : Fault → ℕ
@@ -124,20 +125,17 @@ Ends (Err (Faulty f)) held holds r = Reports f held holds r
 Ends (Err (Run f)) held holds r = (r ≡ Err f) × (holds ≡ held)
 
 -- a command by its words: what it prints, and behind it a fault's line where it ends with a fault
-abbrev pub RunsWords : {F : Type 0} → Answers F → F → F → Option (List ℕ) → Option (List ℕ) → Result ℕ RunFault → Type 0
-RunsWords answers old new held holds r =
-    (ended : Result ℕ Stop) × (between : Option (List ℕ)) × ObeysWords answers old new held between ended × Ends ended between holds r
+abbrev pub RunsWords : {F : Type 0} → Answers F → List (List ℕ) → F → F → Option (List ℕ) → Option (List ℕ) → Result ℕ RunFault → Type 0
+RunsWords answers words old new held holds r =
+    (ended : Result ℕ Stop) × (between : Option (List ℕ)) × ObeysWords answers words old new held between ended × Ends ended between holds r
 
--- a command by standard input: the first line has its words, the others are its files
+-- a command by what was read of standard input: by the words of the first line, with the files on the others
 abbrev pub RunsBytes : List ℕ → Bool → Option (List ℕ) → Option (List ℕ) → Result ℕ RunFault → Type 0
 RunsBytes bytes whole held holds r =
-    ((bytes ≡ []) × Reports fault.File held holds r)
-    ⊎ ((line rest : List ℕ) × NextLine bytes (Some line) rest
-    × ((IsTorn whole line bytes × Reports fault.File held holds r)
-    ⊎ ((IsTorn whole line bytes → ⊥) × (((IsUtf8 line → ⊥) × Reports fault.CommandLine held holds r)
-    ⊎ (Reports fault.NoMemory held holds r
-    ⊎ ((old new : HexLines) × (old.lines.rest.now ≡ rest) × (old.is_whole ≡ whole) × RunsWords hex_answers old new held holds r))))))
+    ((words : List (List ℕ)) × (old new : HexLines) × StartsWith bytes whole words old × RunsWords hex_answers words old new held holds r)
+    ⊎ ((f : Fault) × ((f ≡ fault.NoMemory) ⊎ FailsToStart bytes whole f) × Reports f held holds r)
 
+-- a command by standard input
 abbrev pub RunsInput : Option (List ℕ) → Option (List ℕ) → Option (List ℕ) → Option (List ℕ) → Result ℕ RunFault → Type 0
 RunsInput old new held holds r =
     Reports fault.NoMemory held holds r

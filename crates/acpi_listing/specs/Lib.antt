@@ -1,7 +1,11 @@
 pub mod Reading
 pub mod Files
 pub mod Faults
+pub mod Steps
 pub mod Arguments
+pub mod CommandLine
+pub mod Words
 pub mod Input
+pub mod FirstLine
 pub mod Commands
 pub mod Program

@@ -1,5 +1,5 @@
 -- The program: by its words or by standard input, with its status.
-use Rattle.std.specs.Prelude.{◌≡◌, ◌⊎◌, ℕ, List, [], ◌∷◌, Option, Result, Ok, Err, Vec, vec_items}
+use Rattle.std.specs.Prelude.{◌≡◌, ◌⊎◌, ℕ, List, [], ◌∷◌, Option, Result, Ok, Err, Vec, String, map, string_bytes, vec_items}
 use Rattle.std.specs.Io.KnownBytes.{Keeps}
 use Rattle.acpi_text.specs.declared.writing.RunFault.{RunFault}
 use Rattle.acpi_listing.specs.Commands.{Reports, RunsWords, RunsInput}
@@ -7,13 +7,13 @@ use Rattle.acpi_listing.specs.Files.{Answers}
 use Rattle.acpi_listing.specs.declared.fault.Fault.{Fault}
 
 -- a command by words where there are some, else by standard input
-abbrev pub RunsByWords : {F A : Type 0} → Answers F → F → F → List A → Option (List ℕ) → Option (List ℕ) → Option (List ℕ) → Option (List ℕ) → Result ℕ RunFault → Type 0
+abbrev pub RunsByWords : {F : Type 0} → Answers F → F → F → List (List ℕ) → Option (List ℕ) → Option (List ℕ) → Option (List ℕ) → Option (List ℕ) → Result ℕ RunFault → Type 0
 RunsByWords answers old new [] from to held holds r = RunsInput from to held holds r
-RunsByWords answers old new (_ ∷ _) from to held holds r = RunsWords answers old new held holds r
+RunsByWords answers old new (word ∷ words) from to held holds r = RunsWords answers (word ∷ words) old new held holds r
 
 -- words that cannot be had are told as a fault, and nothing is read
-abbrev pub RunsEither : {F A B : Type 0} → Answers F → F → F → Result (Vec A B) Fault → Option (List ℕ) → Option (List ℕ) → Option (List ℕ) → Option (List ℕ) → Result ℕ RunFault → Type 0
-RunsEither answers old new (Ok words) from to held holds r = RunsByWords answers old new (vec_items words) from to held holds r
+abbrev pub RunsEither : {F B : Type 0} → Answers F → F → F → Result (Vec (String B) B) Fault → Option (List ℕ) → Option (List ℕ) → Option (List ℕ) → Option (List ℕ) → Result ℕ RunFault → Type 0
+RunsEither answers old new (Ok words) from to held holds r = RunsByWords answers old new (map string_bytes (vec_items words)) from to held holds r
 RunsEither answers old new (Err f) from to held holds r = Reports f held holds r × (new ≡ old) × (to ≡ from)
 
 -- the status of an end, with the bytes that are left unwritten: none, or it is 1
@@ -22,7 +22,7 @@ IsStatusOf (Ok ended) unwritten status = ((status ≡ ended) × (unwritten ≡ [
 IsStatusOf (Err _) unwritten status = status ≡ 1
 
 -- the program: what it prints, of that a beginning where a write fails, and its status
-abbrev pub RunsProgram : {F A B : Type 0} → Answers F → F → F → Result (Vec A B) Fault → Option (List ℕ) → Option (List ℕ) → Option (List ℕ) → Option (List ℕ) → List ℕ → ℕ → Type 0
+abbrev pub RunsProgram : {F B : Type 0} → Answers F → F → F → Result (Vec (String B) B) Fault → Option (List ℕ) → Option (List ℕ) → Option (List ℕ) → Option (List ℕ) → List ℕ → ℕ → Type 0
 RunsProgram answers old new words from to held holds unwritten status =
     (ended : Result ℕ RunFault) × (between : Option (List ℕ)) × RunsEither answers old new words from to held between ended
     × Keeps between holds × IsStatusOf ended unwritten status

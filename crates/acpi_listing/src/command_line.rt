@@ -9,7 +9,7 @@ ghost use Rattle.acpi_listing.specs.declared.fault.Fault.TheVariants as fault;
 use crate::fault::Fault;
 use crate::program::{report, run, run_words};
 use crate::source::Source;
-use crate::words::explain_words;
+use crate::words::words_error;
 use acpi_text::RunFault;
 use std::alloc::Global;
 use std::env;
@@ -30,11 +30,12 @@ pub fn command_words<R: Env + AllocGlobal>(rt: &R) -> Result<Vec<String>, Fault>
             }
             Ok(words)
         }
-        Err(error) => Err(words_fault(error.kind())),
+        Err(error) => Err(fault_of_unread(error.kind())),
     }
 }
 
-fn words_fault(kind: ErrorKind) -> Fault
+// Why the words cannot be had.
+fn fault_of_unread(kind: ErrorKind) -> Fault
     ensures { (result ≡ fault.CommandLine) ⊎ (result ≡ fault.NoMemory) }
 {
     match kind {
@@ -96,8 +97,10 @@ fn run_either<R: Read, F: Source, W: Write, N: Eprint>(
         return run(alloc, input, out);
     }
     let ended = run_words(alloc, words.as_slice(), files, out);
-    if let Ok(2) = ended {
-        explain_words(alloc, words.as_slice(), notes);
+    if let Ok(2) = ended
+        && let Some(error) = words_error(alloc, words.as_slice())
+    {
+        let _ = notes.eprint(&error);
     }
     ended
 }

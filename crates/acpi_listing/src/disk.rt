@@ -1,6 +1,6 @@
 // The files of the disk.
 
-ghost use Rattle.std.specs.Prelude.{IfOk, vec_items};
+ghost use Rattle.std.specs.Prelude.{◌≡◌, IfOk, vec_items};
 ghost use Rattle.acpi_listing.specs.Input.{IsAllOf};
 
 use crate::input::{INPUT_LIMIT, read_input};
@@ -19,7 +19,9 @@ pub struct Disk<'a, R> {
 
 impl<'a, R> Disk<'a, R> {
     /// The files that this handle opens.
-    pub fn new(rt: &'a R) -> Self {
+    pub fn new(rt: &'a R) -> Self
+        ensures { result.rt ≡ rt.entry }
+    {
         Disk { rt }
     }
 }

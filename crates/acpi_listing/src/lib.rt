@@ -10,6 +10,7 @@ mod eval;
 mod fault;
 mod fault_line;
 mod files;
+mod first_line;
 mod hex_lines;
 mod input;
 mod program;

@@ -1,22 +1,20 @@
 // The program over any source of files and any writer.
 
-ghost use Rattle.std.specs.Prelude.{◌≡◌, ◌≤◌, ◌↔◌, IsTrue, IfOk, vec_items};
-ghost use Rattle.acpi_listing.specs.Input.{IsTorn};
+ghost use Rattle.std.specs.Prelude.{◌≡◌, ◌≤◌, IfOk, map};
 ghost use Rattle.acpi_listing.specs.Commands.{ObeysWords, Reports, RunsWords, RunsInput};
 
 use crate::eval::evaluate;
 use crate::fault::{Fault, Stop};
 use crate::fault_line::list_fault;
 use crate::files::list_files;
-use crate::hex_lines::{HexLines, Lines};
-use crate::input::{Input, read_input};
+use crate::first_line::read_first_line;
+use crate::input::read_input;
 use crate::source::Source;
-use crate::words::{Request, begins_with_command, read_words};
+use crate::words::{Request, read_words};
 use acpi_text::{RunFault, put};
-use std::alloc::{AllocError, Global};
+use std::alloc::Global;
 use std::convert::AsStr;
 use std::io::{Read, Write};
-use std::str;
 
 /// Runs the command that the words ask for, and answers the status that the program ends with: 0 done;
 /// 1 a fault; 2 words that are no command line; 3 a method that cannot be read, an AML error, or out of
@@ -30,7 +28,7 @@ pub fn run_words<S: AsStr, F: Source, W: Write>(
     out: &mut W,
 ) -> Result<u8, RunFault>
     ensures status { IfOk result (λ status. status ≤ 3) }
-    ensures printed { RunsWords F.answers files.old files.new
+    ensures printed { RunsWords F.answers (map S.text words.entry.now) files.old files.new
         (W.contents out.old) (W.contents out.new) result }
 {
     match obey(alloc, words, files, out) {
@@ -53,47 +51,10 @@ pub fn run<R: Read, W: Write>(alloc: Global, input: &mut R, out: &mut W) -> Resu
     let Ok(input) = read_input(alloc, input) else {
         return report(alloc, out, Fault::NoMemory);
     };
-    let mut lines = Lines::new(&input.bytes);
-    let Some(first) = lines.next_line() else {
-        return report(alloc, out, Fault::File);
-    };
-    if is_torn(&input, first) {
-        return report(alloc, out, Fault::File);
+    match read_first_line(alloc, &input) {
+        Ok((words, mut files)) => run_words(alloc, words.as_slice(), &mut files, out),
+        Err(fault) => report(alloc, out, fault),
     }
-    let Ok(text) = str::from_utf8(first) else {
-        return report(alloc, out, Fault::CommandLine);
-    };
-    let Ok(words) = split_words(alloc, text) else {
-        return report(alloc, out, Fault::NoMemory);
-    };
-    let mut files = HexLines {
-        alloc,
-        lines,
-        is_whole: input.is_whole,
-    };
-    run_words(alloc, words.as_slice(), &mut files, out)
-}
-
-// Whether the first line may go on behind what was read.
-fn is_torn(input: &Input, first: &[u8]) -> bool
-    ensures { IsTrue result ↔ IsTorn input.now.is_whole first.now (vec_items input.now.bytes) }
-{
-    !input.is_whole && first.len() == input.bytes.len()
-}
-
-// The words of a line. Behind a first one that names no command no other changes the answer, so those
-// are left out.
-fn split_words(alloc: Global, text: &str) -> Result<Vec<&str>, AllocError> {
-    let mut words = Vec::new(alloc);
-    let count = if begins_with_command(text) {
-        usize::MAX
-    } else {
-        1
-    };
-    for word in text.split(' ').take(count) {
-        words.push(word)?;
-    }
-    Ok(words)
 }
 
 /// Writes a fault's line, and answers its status.
@@ -112,7 +73,7 @@ fn obey<S: AsStr, F: Source, W: Write>(
     out: &mut W,
 ) -> Result<u8, Stop>
     ensures status { IfOk result (λ status. status ≤ 3) }
-    ensures printed { ObeysWords F.answers files.old files.new
+    ensures printed { ObeysWords F.answers (map S.text words.entry.now) files.old files.new
         (W.contents out.old) (W.contents out.new) result }
 {
     match read_words(alloc, words)? {

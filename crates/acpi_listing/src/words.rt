@@ -1,13 +1,16 @@
 // The words of a command line.
 
-ghost use Rattle.std.specs.Prelude.{◌≡◌, ◌⊎◌, ℕ, List, IfErr, IfOk, Some, codes, map, option_map, vec_items};
-ghost use Rattle.std.specs.Str.Parse.{digits_value, without_leading_plus};
-ghost use Rattle.clap.specs.Words.{first_value, found_of, matched_of, one_text, raw_values};
+ghost use Rattle.std.specs.Prelude.{◌≡◌, ◌⊎◌, IfErr, IfOk, IfSome, Some, None, false, codes, map, vec_items};
+ghost use Rattle.clap.specs.Words.{HasKind, all_of, app_of, fault_of, found_of, rows_of, rule_of, subcommand_rows_of};
+ghost use Rattle.clap.specs.declared.Command.TheViews.{out-Command as fields_of};
+ghost use Rattle.acpi_listing.specs.Steps.{Tries};
+ghost use Rattle.acpi_listing.specs.CommandLine.{acpicheck_app, eval_app, tables_app, file_rule, files_rule, option_rule, plain_rule};
+ghost use Rattle.acpi_listing.specs.Words.{AsksFor, AsksNothing, HasParts, IsRequest};
 ghost use Rattle.acpi_listing.specs.declared.fault.Fault.TheVariants as fault;
 
 use crate::fault::Fault;
 use clap::error::ErrorKind;
-use clap::{Arg, ArgAction, ArgMatches, Command, value_parser};
+use clap::{Arg, ArgAction, ArgMatches, Command, Error, value_parser};
 use std::alloc::{AllocError, Global};
 use std::convert::AsStr;
 
@@ -37,42 +40,33 @@ pub struct EvalRequest<'a> {
 ///
 /// Fault: E520 for any other words, `--help` too.
 pub fn read_words<'a, S: AsStr>(alloc: Global, words: &'a [S]) -> Result<Request<'a>, Fault>
-    ensures { IfErr result (λ f. (f ≡ fault.CommandLine) ⊎ (f ≡ fault.NoMemory)) }
+    ensures { let texts = map S.text words.entry.now in
+        Tries (AsksFor texts) (λ f. (f ≡ fault.CommandLine) × AsksNothing texts) result }
 {
     let matches = match command(alloc)?.try_get_matches_from(words) {
         Ok(matches) => matches,
-        Err(error) => return Err(words_fault(error.kind())),
+        Err(error) => return Err(fault_of_kind(error.kind())),
     };
-    match matches.subcommand() {
-        Some(("tables", found)) => Ok(Request::Tables {
-            files: files_of(alloc, found)?,
-        }),
-        Some(("eval", found)) => Ok(Request::Eval(eval_of(found)?)),
-        _ => Err(Fault::CommandLine),
-    }
+    request_of(alloc, &matches)
 }
 
-/// Whether the first word of a line names a command.
-pub fn begins_with_command(text: &str) -> bool {
-    let first = match text.split_once(' ') {
-        Some((first, _)) => first,
-        None => text,
-    };
-    first == "tables" || first == "eval"
-}
-
-/// Tells what is wrong with words that are no command line, or the help that they ask for.
-pub fn explain_words<S: AsStr, N: Eprint>(alloc: Global, words: &[S], notes: &N) {
+/// What is wrong with words that are no command line, or the help that they ask for. None where there
+/// is no memory to tell it, or where the words are a command line.
+pub fn words_error<S: AsStr>(alloc: Global, words: &[S]) -> Option<Error>
+    ensures { IfSome result (HasKind (fault_of acpicheck_app (map S.text words.now))) }
+{
     let Ok(command) = command(alloc) else {
-        return;
+        return None;
     };
-    if let Err(error) = command.try_get_matches_from(words) {
-        let _ = notes.eprint(&error);
+    match command.try_get_matches_from(words) {
+        Ok(_) => None,
+        Err(error) => Some(error),
     }
 }
 
-fn words_fault(kind: ErrorKind) -> Fault
-    ensures { (result ≡ fault.CommandLine) ⊎ (result ≡ fault.NoMemory) }
+fn fault_of_kind(kind: ErrorKind) -> Fault
+    ensures memory { kind ≡ ErrorKind.OutOfMemory → result ≡ fault.NoMemory }
+    ensures faults { (result ≡ fault.CommandLine) ⊎ (result ≡ fault.NoMemory) }
 {
     match kind {
         ErrorKind::OutOfMemory => Fault::NoMemory,
@@ -80,7 +74,9 @@ fn words_fault(kind: ErrorKind) -> Fault
     }
 }
 
-fn command<'a>(alloc: Global) -> Result<Command<'a>, AllocError> {
+fn command<'a>(alloc: Global) -> Result<Command<'a>, AllocError>
+    ensures { IfOk result (λ c. app_of c ≡ acpicheck_app) }
+{
     Command::new(alloc, "acpicheck")
         .no_binary_name(true)
         .subcommand_required(true)
@@ -88,40 +84,85 @@ fn command<'a>(alloc: Global) -> Result<Command<'a>, AllocError> {
         .subcommand(eval_command(alloc)?)
 }
 
-fn tables_command<'a>(alloc: Global) -> Result<Command<'a>, AllocError> {
-    let files = Arg::new(alloc, "files")
-        .required(true)
-        .action(ArgAction::Append)
-        .num_args(1..);
-    Command::new(alloc, "tables").arg(files)
+fn tables_command<'a>(alloc: Global) -> Result<Command<'a>, AllocError>
+    ensures app { IfOk result (λ c. app_of c ≡ tables_app) }
+    ensures local { IfOk result (λ c. (fields_of c).has_globals ≡ false) }
+{
+    Command::new(alloc, "tables").arg(files_arg(alloc))
 }
 
-fn eval_command<'a>(alloc: Global) -> Result<Command<'a>, AllocError> {
-    let method = Arg::new(alloc, "method")
-        .long("method")
+fn eval_command<'a>(alloc: Global) -> Result<Command<'a>, AllocError>
+    ensures app { IfOk result (λ c. app_of c ≡ eval_app) }
+    ensures local { IfOk result (λ c. (fields_of c).has_globals ≡ false) }
+{
+    Command::new(alloc, "eval")
+        .arg(option_arg(alloc, "method").required(true))?
+        .arg(option_arg(alloc, "args"))?
+        .arg(steps_arg(alloc))?
+        .arg(file_arg(alloc))
+}
+
+// One file or more.
+fn files_arg<'a>(alloc: Global) -> Arg<'a>
+    ensures rule { rule_of result ≡ files_rule }
+    ensures local { result.global ≡ false }
+{
+    Arg::new(alloc, "files")
         .required(true)
-        .action(ArgAction::Set);
-    let args = Arg::new(alloc, "args").long("args").action(ArgAction::Set);
-    let plain = Arg::new(alloc, "plain")
-        .long("plain")
+        .action(ArgAction::Append)
+        .num_args(1..)
+}
+
+fn file_arg<'a>(alloc: Global) -> Arg<'a>
+    ensures rule { rule_of result ≡ file_rule }
+    ensures local { result.global ≡ false }
+{
+    Arg::new(alloc, "file")
         .required(true)
         .action(ArgAction::Set)
-        .value_parser(value_parser!(u64));
-    let file = Arg::new(alloc, "file")
+}
+
+// The number of steps, below 2^64.
+fn steps_arg<'a>(alloc: Global) -> Arg<'a>
+    ensures rule { rule_of result ≡ plain_rule }
+    ensures local { result.global ≡ false }
+{
+    option_arg(alloc, "plain")
         .required(true)
-        .action(ArgAction::Set);
-    Command::new(alloc, "eval")
-        .arg(method)?
-        .arg(args)?
-        .arg(plain)?
-        .arg(file)
+        .value_parser(value_parser!(u64))
+}
+
+// An option of that name with one value.
+fn option_arg<'a>(alloc: Global, name: &'a str) -> Arg<'a>
+    ensures rule { rule_of result ≡ option_rule name.entry.now }
+    ensures local { result.global ≡ false }
+{
+    Arg::new(alloc, name).long(name).action(ArgAction::Set)
+}
+
+// The request of a command that the words gave.
+fn request_of<'a>(alloc: Global, matches: &ArgMatches<'a>) -> Result<Request<'a>, Fault>
+    ensures { let found = subcommand_rows_of matches.now in
+        Tries (IsRequest found)
+        (λ f. (f ≡ fault.CommandLine) × ((r : _) → IsRequest found r → ⊥)) result }
+{
+    let Some((name, found)) = matches.subcommand() else {
+        return Err(Fault::CommandLine);
+    };
+    match name {
+        "tables" => Ok(Request::Tables {
+            files: files_of(alloc, found)?,
+        }),
+        "eval" => Ok(Request::Eval(eval_of(found)?)),
+        _ => Err(Fault::CommandLine),
+    }
 }
 
 // All values of `files`, in their order.
 fn files_of<'a>(alloc: Global, found: &ArgMatches<'a>) -> Result<Vec<&'a str>, Fault>
-    ensures files { IfOk result (λ files. Some (map (λ name. name.now) (vec_items files))
-        ≡ option_map raw_values (matched_of (found_of found.now) (codes "files"))) }
-    ensures faults { IfErr result (λ f. (f ≡ fault.CommandLine) ⊎ (f ≡ fault.NoMemory)) }
+    ensures { let given = all_of (codes "files") (rows_of (found_of found.now)) in
+        Tries (λ files. given ≡ Some (map (λ name. name.now) (vec_items files)))
+        (λ f. (f ≡ fault.CommandLine) × (given ≡ None)) result }
 {
     match found.get_strs("files") {
         Some(files) => Ok(Vec::from_slice(alloc, files)?),
@@ -131,22 +172,17 @@ fn files_of<'a>(alloc: Global, found: &ArgMatches<'a>) -> Result<Vec<&'a str>, F
 
 // Each part of the request is the value of its option.
 fn eval_of<'a>(found: &ArgMatches<'a>) -> Result<EvalRequest<'a>, Fault>
-    ensures file { IfOk result
-        (λ r. Some r.file.now ≡ first_value (found_of found.now) (codes "file")) }
-    ensures method { IfOk result
-        (λ r. Some r.method.now ≡ first_value (found_of found.now) (codes "method")) }
-    ensures args { IfOk result (λ r. option_map (λ text. text.now) r.args
-        ≡ first_value (found_of found.now) (codes "args")) }
-    ensures steps { IfOk result (λ r. (text : List ℕ)
-        → one_text (found_of found.now) (codes "plain") ≡ Some text
-        → r.steps ≡ digits_value 10 (without_leading_plus text)) }
-    ensures faults { IfErr result (λ f. f ≡ fault.CommandLine) }
+    ensures parts { IfOk result (HasParts (rows_of (found_of found.now))) }
+    ensures faults { IfErr result (λ f. (f ≡ fault.CommandLine)
+        × ((r : _) → HasParts (rows_of (found_of found.now)) r → ⊥)) }
 {
-    let (Some(file), Some(method), Some(steps)) = (
-        found.get_str("file"),
-        found.get_str("method"),
-        found.get_one::<u64>("plain"),
-    ) else {
+    let Some(file) = found.get_str("file") else {
+        return Err(Fault::CommandLine);
+    };
+    let Some(method) = found.get_str("method") else {
+        return Err(Fault::CommandLine);
+    };
+    let Some(steps) = found.get_one::<u64>("plain") else {
         return Err(Fault::CommandLine);
     };
     Ok(EvalRequest {

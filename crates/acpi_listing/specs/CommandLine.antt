@@ -1,0 +1,48 @@
+-- The command line that the program takes: its commands, their options and files.
+use Rattle.std.specs.Prelude.{ℕ, List, true, Some, codes}
+use Rattle.clap.specs.Words.{App, Rule, new_app, new_rule, with_rule, with_subcommand}
+use Rattle.clap.specs.Lexer.{usize_max}
+use Rattle.clap.specs.Simple.{on_top}
+use Rattle.clap.specs.declared.builder.action.ArgAction.TheVariants.{Append, Set}
+use Rattle.clap.specs.declared.builder.value_parser.ValueParser.TheVariants.{Unsigned}
+
+-- one file or more
+abbrev pub files_rule : Rule
+files_rule = record (new_rule (codes "files")) {
+  required = true;
+  action = Some Append;
+  range = Some (record { start_inclusive = 1; end_inclusive = usize_max });
+}
+
+abbrev pub file_rule : Rule
+file_rule = record (new_rule (codes "file")) { required = true; action = Some Set }
+
+-- an option with one value
+abbrev pub option_rule : List ℕ → Rule
+option_rule name = record (new_rule name) { long = Some name; action = Some Set }
+
+abbrev pub method_rule : Rule
+method_rule = record (option_rule (codes "method")) { required = true }
+
+abbrev pub args_rule : Rule
+args_rule = option_rule (codes "args")
+
+-- a number below 2^64
+abbrev pub plain_rule : Rule
+plain_rule = record (option_rule (codes "plain")) {
+  required = true;
+  parser = Some (Unsigned 0 18446744073709551615);
+}
+
+abbrev pub tables_app : App
+tables_app = with_rule (new_app (codes "tables")) files_rule
+
+abbrev pub eval_app : App
+eval_app = with_rule (with_rule (with_rule (with_rule (new_app (codes "eval")) method_rule) args_rule) plain_rule) file_rule
+
+-- the words have no program's name in front, and one of the commands is wanted
+abbrev pub commands_app : App
+commands_app = on_top (λ s. record s { no_binary_name = true; subcommand_required = true }) (new_app (codes "acpicheck"))
+
+abbrev pub acpicheck_app : App
+acpicheck_app = with_subcommand (with_subcommand commands_app tables_app.top) eval_app.top

@@ -1,0 +1,36 @@
+-- What words ask for.
+use Rattle.std.specs.Prelude.{◌≡◌, ◌<◌, ◌^◌, ℕ, List, [], Option, Some, codes, map, option_map, vec_items}
+use Rattle.std.specs.Str.Parse.{IsNumeral, digits_value, without_leading_plus}
+use Rattle.clap.specs.Words.{Row, Text, all_of, fault_of, first_of, one_of, subcommand_of}
+use Rattle.acpi_listing.specs.CommandLine.{acpicheck_app}
+use Rattle.acpi_listing.specs.declared.words.Request.{Request}
+use Rattle.acpi_listing.specs.declared.words.Request.TheVariants.{Tables, Eval}
+use Rattle.acpi_listing.specs.declared.words.EvalRequest.{EvalRequest}
+
+-- a text is a number below 2^64 in decimal digits, a plus may stand first
+abbrev pub IsCount : Text → ℕ → Type 0
+IsCount text n =
+    let digits = without_leading_plus text in IsNumeral 10 digits × (n < 2 ^ 64) × (n ≡ digits_value 10 digits)
+
+-- each part of an evaluation is the value of its option
+abbrev pub HasParts : List Row → EvalRequest → Type 0
+HasParts rows request =
+    (first_of (codes "file") rows ≡ Some request.file.now)
+    × (first_of (codes "method") rows ≡ Some request.method.now)
+    × (first_of (codes "args") rows ≡ option_map (λ text. text.now) request.args)
+    × ((text : Text) × (one_of (codes "plain") rows ≡ Some text) × IsCount text request.steps)
+
+-- a command and what its words gave is a request
+abbrev pub IsRequest : Option (Text × List Row) → Request → Type 0
+IsRequest found (Tables names) =
+    (rows : List Row) × (found ≡ Some (codes "tables", rows))
+    × (all_of (codes "files") rows ≡ Some (map (λ name. name.now) (vec_items names)))
+IsRequest found (Eval request) = (rows : List Row) × (found ≡ Some (codes "eval", rows)) × HasParts rows request
+
+-- the words are a command line, and this is what they ask for
+abbrev pub AsksFor : List Text → Request → Type 0
+AsksFor words request = (fault_of acpicheck_app words ≡ []) × IsRequest (subcommand_of acpicheck_app words) request
+
+-- the words are no command line
+abbrev pub AsksNothing : List Text → Type 0
+AsksNothing words = (request : Request) → AsksFor words request → ⊥
