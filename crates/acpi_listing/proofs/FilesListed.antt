@@ -1,116 +1,95 @@
 -- Laws of listing files one after the other.
-use Rattle.std.proofs.Common.{◌≡◌, ℕ, ◌+◌, ◌<◌, ◌≤◌, List, [], ◌∷◌, ◌++◌, Option, Result, Ok, Err, refl, sym, ap, ◌∙◌, append_assoc, append-nil, take, drop, take-append-drop, length, get_or, drop-cons, suc, subst, map}
+use Rattle.std.proofs.Common.{◌≡◌, ℕ, ◌+◌, ◌<◌, ◌≤◌, List, [], ◌∷◌, ◌++◌, Option, Some, Result, Ok, Err, append-nil, refl, sym, ap, ◌∙◌, add-one, drop, length, get_or, drop-cons, subst, map}
 use Rattle.std.specs.Prelude.{IsErrAnd}
 use Rattle.std.specs.Io.KnownBytes.{Appends}
-use Rattle.std.proofs.KnownBytes.{Appends-trans}
-use Rattle.std.proofs.Math.Nat.{le_of_lt}
-use Rattle.std.proofs.lemmas.List.{take_all, take_more, map-append, length-map, length-take-le}
-use Rattle.acpi_listing.specs.Files.{Answers, Opens, IsTextOf, Listed, ListsFile, ListsFiles, StopsAt}
+use Rattle.std.proofs.lemmas.List.{drop_all}
+use Rattle.acpi_listing.specs.Files.{Answers, Opens, ReadsTable, ListsFile, ListsFiles}
+use Rattle.acpi_tables.specs.Fault.{first_fault}
+use Rattle.acpi_tables.specs.declared.fault.TableFault.{TableFault}
+use Rattle.acpi_listing.specs.Steps.{Step, Gives, Prints, Then, Writes}
+use Rattle.acpi_listing.specs.Reading.{file_kind, file_checks, Says}
+use Rattle.acpi_listing.proofs.Chains.{goes_on, stops, quiet, quiet_fault, given, given_fault, printed, cut_off, ended}
+use Rattle.acpi_text.specs.Tables.{table_text}
+use Rattle.acpi_text.specs.declared.table.Table.{Table}
 use Rattle.acpi_text.specs.declared.writing.RunFault.{RunFault}
+use Rattle.acpi_listing.specs.declared.fault.Fault.{Fault}
+use Rattle.acpi_listing.specs.declared.fault.Fault.TheVariants as fault
 use Rattle.acpi_listing.specs.declared.fault.Stop.{Stop}
 use Rattle.acpi_listing.specs.declared.fault.Stop.TheVariants.{Fault as Faulty, Run}
 
--- one more file
-pub listed_more : {F : Type 0} (answers : Answers F) (old : F) (names : List (List ℕ)) (text : List ℕ) (mid : F) (name bytes line : List ℕ) (new : F)
-    → Listed answers old names text mid → Opens answers mid name (Ok bytes) new → IsTextOf bytes line
-    → Listed answers old (names ++ (name ∷ [])) (text ++ line) new
-listed_more answers old [] text mid name bytes line new (same, none) opens is = (
-  bytes,
-  line,
-  [],
-  new,
-  subst (λ f. Opens answers f name (Ok bytes) new) same opens,
-  is,
-  (refl, refl),
-  ap (λ t. t ++ line) none ∙ sym (append-nil line),
-)
-listed_more answers old (first ∷ names) text mid name bytes line new (b, front, rest, next, o, t, l, split) opens is = (
-  b,
-  front,
-  rest ++ line,
-  next,
-  o,
-  t,
-  listed_more answers next names rest mid name bytes line new l opens is,
-  ap (λ r. r ++ line) split ∙ append_assoc front rest line,
-)
+-- a file whose table was read is what its printing is
+pub file_read : {F : Type 0} (answers : Answers F) (number : ℕ) (name bytes lent : List ℕ) (table : Table) (old new : F) (held holds : Option (List ℕ)) (r : Result (Unit {0}) Stop)
+    → lent ≡ bytes → Opens answers old name (Ok bytes) new → Says (file_kind lent) lent table
+    → Writes (Prints (table_text table)) new new held holds r → Writes (ListsFile answers number name) old new held holds r
+file_read answers number name bytes lent table old new held holds r same opens says prints =
+    quiet (λ o x n. Opens answers o name x n) (λ b. Then (Gives (ReadsTable number b)) (λ t. Prints (table_text t))) old new new held holds bytes r opens
+    (given (ReadsTable number bytes) (λ t. Prints (table_text t)) new new held holds table r (subst (λ b. Says (file_kind b) b table) same says) prints)
 
--- the names up to one, and that one
-pub names_more : {X : Type 0} (now : X → List ℕ) (xs : List X) (i : ℕ) (d : X) → i < length xs
-    → map now (take (i + 1) xs) ≡ map now (take i xs) ++ (now (get_or xs i d) ∷ [])
-names_more now xs i d below = ap (map now) (take_more xs i d below) ∙ map-append now (take i xs) (get_or xs i d ∷ [])
+-- the rest of a file's listing, behind its reading
+abbrev behind_bytes : {F : Type 0} → ℕ → List ℕ → Step F (Unit {0})
+behind_bytes number bytes = Then (Gives (ReadsTable number bytes)) (λ table. Prints (table_text table))
 
--- the names up to one, that one, and the others
-pub names_at : {X : Type 0} (now : X → List ℕ) (xs : List X) (i : ℕ) (d : X) → i < length xs
-    → map now xs ≡ map now (take i xs) ++ (now (get_or xs i d) ∷ map now (drop (suc i) xs))
-names_at now xs i d below =
-    ap (map now) (sym (take-append-drop i xs)) ∙ map-append now (take i xs) (drop i xs)
-    ∙ ap (λ l. map now (take i xs) ++ map now l) (drop-cons xs i d below)
+pub file_unread : {F : Type 0} (answers : Answers F) (number : ℕ) (name : List ℕ) (old new : F) (held : Option (List ℕ)) (f : Fault) (r : Result (Unit {0}) Stop)
+    → IsErrAnd r (λ s. s ≡ Faulty f) → Opens answers old name (Err f) new → Writes (ListsFile answers number name) old new held held r
+file_unread answers number name old new held f r is opens = quiet_fault (λ o x n. Opens answers o name x n) (behind_bytes number) old new held f r is opens
 
--- the files of the first names, and their text
-abbrev pub ListedTo : {F X : Type 0} → Answers F → F → (X → List ℕ) → List X → ℕ → F → Option (List ℕ) → Option (List ℕ) → Type 0
-ListedTo answers old now xs i new held holds =
-    (text : List ℕ) × Listed answers old (map now (take i xs)) text new × Appends held holds text
+pub file_faulty : {F : Type 0} (answers : Answers F) (number : ℕ) (name bytes lent : List ℕ) (t : TableFault) (old new : F) (held : Option (List ℕ)) (f : Fault)
+    → lent ≡ bytes → Opens answers old name (Ok bytes) new → first_fault (file_checks (file_kind lent) lent) ≡ Some t → f ≡ fault.Table t.cause number t.at
+    → Writes (ListsFile answers number name) old new held held (Err (Faulty f))
+file_faulty answers number name bytes lent t old new held f same opens first is =
+    quiet (λ o x n. Opens answers o name x n) (behind_bytes number) old new new held held bytes (Err (Faulty f)) opens
+    (given_fault (ReadsTable number bytes) (λ table. Prints (table_text table)) new held f (Err (Faulty f)) refl
+    (t, subst (λ b. first_fault (file_checks (file_kind b) b) ≡ Some t) same first, is))
 
-pub files_more : {F X V : Type 0} (answers : Answers F) (old mid new : F) (now : X → List ℕ) (xs : List X) (i : ℕ) (d : X) (v : V) (held between holds : Option (List ℕ))
-    → i < length xs → ListedTo answers old now xs i mid held between
-    → ListsFile {V = V} answers mid i (now (get_or xs i d)) new between holds (Ok v)
-    → ListedTo answers old now xs (i + 1) new held holds
-files_more answers old mid new now xs i d v held between holds below (text, listed, before) (bytes, line, opens, is, more) = (
-  text ++ line,
-  subst (λ names. Listed answers old names (text ++ line) new) (sym (names_more now xs i d below))
-      (listed_more answers old (map now (take i xs)) text mid (now (get_or xs i d)) bytes line new listed opens is),
-  Appends-trans held between holds text line before more,
-)
+pub file_listed : {F : Type 0} (answers : Answers F) (number : ℕ) (name bytes lent : List ℕ) (table : Table) (old new : F) (held holds : Option (List ℕ)) (u : Unit {0})
+    → lent ≡ bytes → Opens answers old name (Ok bytes) new → Says (file_kind lent) lent table → Appends held holds (table_text table ++ [])
+    → Writes (ListsFile answers number name) old new held holds (Ok u)
+file_listed answers number name bytes lent table old new held holds u same opens says wrote =
+    file_read answers number name bytes lent table old new held holds (Ok u) same opens says
+    (printed new held holds (table_text table) u (subst (Appends held holds) (append-nil (table_text table)) wrote))
 
--- all files
+pub file_cut : {F : Type 0} (answers : Answers F) (number : ℕ) (name bytes lent : List ℕ) (table : Table) (old new : F) (held holds : Option (List ℕ)) (f : RunFault) (r : Result (Unit {0}) Stop)
+    → IsErrAnd r (λ s. s ≡ Run f) → lent ≡ bytes → Opens answers old name (Ok bytes) new → Says (file_kind lent) lent table
+    → ((front : List ℕ) × (rest : List ℕ) × (table_text table ++ [] ≡ front ++ rest) × Appends held holds front)
+    → Writes (ListsFile answers number name) old new held holds r
+file_cut answers number name bytes lent table old new held holds f (Ok u) is same opens says part = absurd is
+file_cut answers number name bytes lent table old new held holds f (Err s) is same opens says (front, rest, split, wrote) =
+    subst (λ stop. Writes (ListsFile answers number name) old new held holds (Err stop)) (sym is)
+    (file_read answers number name bytes lent table old new held holds (Err (Run f)) same opens says
+    (cut_off new held holds (table_text table) f (front, rest, sym (append-nil (table_text table)) ∙ split, wrote)))
+
+-- the files of the names from one on make the listing of all
+abbrev pub LeftFrom : {F X : Type 0} → Answers F → F → (X → List ℕ) → List X → ℕ → F → Option (List ℕ) → Option (List ℕ) → Type 0
+LeftFrom answers old now xs i mid held between =
+    (new : _) (holds : Option (List ℕ)) (r : Result ℕ Stop) → Writes (ListsFiles answers i (map now (drop i xs))) mid new between holds r
+    → Writes (ListsFiles answers 0 (map now xs)) old new held holds r
+
+-- the names from one on
+names_from : {X : Type 0} (now : X → List ℕ) (xs : List X) (i : ℕ) (d : X) → i < length xs
+    → map now (drop i xs) ≡ now (get_or xs i d) ∷ map now (drop (i + 1) xs)
+names_from now xs i d below = rw add-one (ap (map now) (drop-cons xs i d below))
+
+-- one more file was listed
+pub files_more : {F X : Type 0} (answers : Answers F) (old mid next : F) (now : X → List ℕ) (xs : List X) (i : ℕ) (d : X) (u : Unit {0}) (held between after : Option (List ℕ))
+    → i < length xs → LeftFrom answers old now xs i mid held between
+    → Writes (ListsFile answers i (now (get_or xs i d))) mid next between after (Ok u)
+    → LeftFrom answers old now xs (i + 1) next held after
+files_more answers old mid next now xs i d u held between after below left file = λ new holds r rest.
+    left new holds r (subst (λ names. Writes (ListsFiles answers i names) mid new between holds r) (sym (names_from now xs i d below))
+    (goes_on (ListsFile answers i (now (get_or xs i d))) (λ _. ListsFiles answers (i + 1) (map now (drop (i + 1) xs))) mid next new between after holds u r file rest))
+
+-- all files were listed
 pub files_all : {F X : Type 0} (answers : Answers F) (old new : F) (now : X → List ℕ) (xs : List X) (i : ℕ) (held holds : Option (List ℕ))
-    → length xs ≤ i → ListedTo answers old now xs i new held holds → ListsFiles answers old (map now xs) new held holds (Ok 0)
-files_all answers old new now xs i held holds all (text, listed, appends) = (
-  refl,
-  (text, subst (λ l. Listed answers old (map now l) text new) (take_all i xs all) listed, appends),
-)
+    → length xs ≤ i → LeftFrom answers old now xs i new held holds → Writes (ListsFiles answers 0 (map now xs)) old new held holds (Ok 0)
+files_all answers old new now xs i held holds all left =
+    left new holds (Ok 0) (subst (λ rest. Writes (ListsFiles answers i (map now rest)) new new holds holds (Ok 0)) (sym (drop_all i xs all))
+    (ended new holds 0 0 refl))
 
--- a file whose listing failed
-pub file_stopped : {F : Type 0} (V : Type 0) (answers : Answers F) (old new : F) (number : ℕ) (name : List ℕ) (held holds : Option (List ℕ)) (bytes text : List ℕ) (r : Result V Stop) (f : RunFault)
-    → IsErrAnd r (λ s. s ≡ Run f) → Opens answers old name (Ok bytes) new → IsTextOf bytes text
-    → ((front : List ℕ) × (rest : List ℕ) × (text ≡ front ++ rest) × Appends held holds front)
-    → ListsFile answers old number name new held holds r
-file_stopped V answers old new number name held holds bytes text (Ok v) f e opens is part = absurd e
-file_stopped V answers old new number name held holds bytes text (Err s) f e opens is (front, rest, split, appends) =
-    subst (λ stop. ListsFile {V = V} answers old number name new held holds (Err stop)) (sym e)
-    (bytes, front, rest, opens, subst (IsTextOf bytes) split is, appends)
-
--- files that end at a fault or a failed listing
-pub files_stopped : {F X : Type 0} (V : Type 0) (answers : Answers F) (old mid new : F) (now : X → List ℕ) (xs : List X) (i : ℕ) (d : X) (held between holds : Option (List ℕ)) (e : Stop) (r : Result ℕ Stop)
-    → IsErrAnd r (λ s. s ≡ e) → i < length xs → ListedTo answers old now xs i mid held between
-    → ListsFile {V = V} answers mid i (now (get_or xs i d)) new between holds (Err e)
-    → ListsFiles answers old (map now xs) new held holds r
-files_stopped V answers old mid new now xs i d held between holds e (Ok v) is below listed file = absurd is
-files_stopped V answers old mid new now xs i d held between holds (Faulty f) (Err s) is below (text, listed, before) (stops, same) =
-    let count : length (map now (take i xs)) ≡ i = length-map (take i xs) now ∙ length-take-le i xs (le_of_lt below) in
-    subst (λ stop. ListsFiles answers old (map now xs) new held holds (Err stop)) (sym is) (
-      map now (take i xs),
-      map now (drop (suc i) xs),
-      now (get_or xs i d),
-      text,
-      mid,
-      names_at now xs i d below,
-      listed,
-      subst (λ h. Appends held h text) (sym same) before,
-      subst (λ n. StopsAt answers mid n (now (get_or xs i d)) f new) (sym count) stops,
-    )
-files_stopped V answers old mid new now xs i d held between holds (Run f) (Err s) is below (text, listed, before) (bytes, front, rest, opens, is_text, appends) =
-    let split : map now xs ≡ map now (take (i + 1) xs) ++ map now (drop (i + 1) xs) =
-    ap (map now) (sym (take-append-drop (i + 1) xs)) ∙ map-append now (take (i + 1) xs) (drop (i + 1) xs) in
-    subst (λ stop. ListsFiles answers old (map now xs) new held holds (Err stop)) (sym is) (
-      map now (take (i + 1) xs),
-      map now (drop (i + 1) xs),
-      text ++ front,
-      rest,
-      split,
-      subst (λ t. Listed answers old (map now (take (i + 1) xs)) t new) (sym (append_assoc text front rest))
-          (subst (λ names. Listed answers old names (text ++ (front ++ rest)) new) (sym (names_more now xs i d below))
-          (listed_more answers old (map now (take i xs)) text mid (now (get_or xs i d)) bytes (front ++ rest) new listed opens is_text)),
-      Appends-trans held between holds text front before appends,
-    )
+-- a file stopped the listing
+pub files_stopped : {F X : Type 0} (answers : Answers F) (old mid new : F) (now : X → List ℕ) (xs : List X) (i : ℕ) (d : X) (held between holds : Option (List ℕ)) (e : Stop) (r : Result ℕ Stop)
+    → IsErrAnd r (λ s. s ≡ e) → i < length xs → LeftFrom answers old now xs i mid held between
+    → Writes (ListsFile answers i (now (get_or xs i d))) mid new between holds (Err e)
+    → Writes (ListsFiles answers 0 (map now xs)) old new held holds r
+files_stopped answers old mid new now xs i d held between holds e r is below left file =
+    left new holds r (subst (λ names. Writes (ListsFiles answers i names) mid new between holds r) (sym (names_from now xs i d below))
+    (stops (ListsFile answers i (now (get_or xs i d))) (λ _. ListsFiles answers (i + 1) (map now (drop (i + 1) xs))) mid new between holds e r is file))

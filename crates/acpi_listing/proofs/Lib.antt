@@ -5,3 +5,5 @@ pub mod Elements
 pub mod Asked
 pub mod LineWords
 pub mod ByWords
+pub mod Chains
+pub mod Telling

@@ -8,8 +8,7 @@ use Rattle.aml_tree.specs.declared.fault.Refusal.{Refusal}
 use Rattle.aml_tree.specs.declared.fault.TreeFault.TheVariants.{Refused}
 use Rattle.aml_namespace.specs.declared.fault.LoadRefusal.{LoadRefusal}
 use Rattle.aml_namespace.specs.declared.method.Method.{Method}
-use Rattle.aml_namespace.specs.Load.{Shown, shown, IsLoaded, FaultyLoad}
-use Rattle.aml_namespace.specs.declared.namespace.Namespace.{Namespace}
+use Rattle.aml_namespace.specs.Load.{Shown, IsLoaded, FaultyLoad}
 use Rattle.aml_namespace.specs.Objects.{method_at, number_of, IsBodyOf, ReadsBodyOf}
 use Rattle.aml_plain.specs.Methods.{Evaluates}
 use Rattle.aml_plain.specs.declared.body.Outcome.{Outcome}
@@ -18,7 +17,8 @@ use Rattle.acpi_listing.specs.Arguments.{ListsArguments, ListsBadArguments}
 use Rattle.acpi_text.specs.Lists.{Lists}
 use Rattle.acpi_text.specs.Outcome.{outcome_line, refusal_line}
 use Rattle.acpi_listing.specs.Faults.{fault_line}
-use Rattle.acpi_listing.specs.Files.{Answers, Opens, ListsFiles}
+use Rattle.acpi_listing.specs.Files.{Answers, Reads, ListsFiles}
+use Rattle.acpi_listing.specs.Steps.{Step, Then, Gives, Still, Tells, Tries}
 use Rattle.acpi_listing.specs.FirstLine.{StartsWith, FailsToStart}
 use Rattle.acpi_listing.specs.Input.{IsRead, hex_answers}
 use Rattle.acpi_listing.specs.Words.{AsksFor, AsksNothing}
@@ -46,10 +46,9 @@ abbrev pub HasSegment : List ℕ → Option NameSeg → Type 0
 HasSegment word (Some segment) = word ≡ 92 ∷ segment.bytes
 HasSegment word None = (segment : NameSeg) → length segment.bytes ≡ 4 → word ≡ 92 ∷ segment.bytes → ⊥
 
--- a table's namespace, or why there is none
-abbrev pub LoadsOrFails : List ℕ → Result Namespace Fault → Type 0
-LoadsOrFails bytes (Ok ns) = IsLoaded bytes (shown ns)
-LoadsOrFails bytes (Err f) = (f ≡ fault.NoMemory) ⊎ ((refusal : LoadRefusal) × FaultyLoad bytes refusal × (f ≡ fault.Load refusal))
+-- why a table has no namespace
+abbrev pub FailsToLoad : List ℕ → Fault → Type 0
+FailsToLoad bytes f = (refusal : LoadRefusal) × FaultyLoad bytes refusal × (f ≡ fault.Load refusal)
 
 -- a method takes arguments: as many as it has, each an integer of the namespace
 abbrev pub Takes : Shown → Method → List ℕ → Type 0
@@ -61,53 +60,69 @@ outcome_status (Done _) = 0
 outcome_status (AmlError _) = 3
 outcome_status OutOfSteps = 3
 
--- a file's method is found in the namespace that the file's table makes
-abbrev pub Finds : {F : Type 0} → Answers F → F → List ℕ → List ℕ → F → Shown → Method → Type 0
-Finds answers old file word new ns m =
-    (bytes : List ℕ) × (id : ℕ) × Opens answers old file (Ok bytes) new × IsLoaded bytes ns × Names ns word id m
+-- the arguments, or the first fault of their text
+abbrev pub ReadsArguments : Option (List ℕ) → Result (List ℕ) Fault → Type 0
+ReadsArguments args = Tries (ListsArguments args) (λ f. (f ≡ fault.BadArgs) × ListsBadArguments args)
 
--- why a file's method is not evaluated with arguments: the file, its table, no such method, or arguments that do not fit a body that parses
-abbrev pub FaultyFile : {F : Type 0} → Answers F → F → List ℕ → List ℕ → List ℕ → F → Fault → Type 0
-FaultyFile answers old file word arguments new f =
-    Opens answers old file (Err f) new
-    ⊎ (((bytes : List ℕ) × (refusal : LoadRefusal) × Opens answers old file (Ok bytes) new × FaultyLoad bytes refusal × (f ≡ fault.Load refusal))
-    ⊎ (((bytes : List ℕ) × (ns : Shown) × Opens answers old file (Ok bytes) new × IsLoaded bytes ns × NamesNone ns word × (f ≡ fault.NoSuchObject))
-    ⊎ ((ns : Shown) × (m : Method) × (ts : List Tree) × Finds answers old file word new ns m × IsBodyOf ns m ts
-    × (Takes ns m arguments → ⊥) × (f ≡ fault.ArgsDontFit))))
+-- the namespace of a table, or the first fault of its load
+abbrev pub Loads : List ℕ → Result Shown Fault → Type 0
+Loads bytes = Tries (IsLoaded bytes) (FailsToLoad bytes)
 
--- why an evaluation ends with a fault: memory, the text of the arguments, and only then the file
-abbrev pub FaultyEval : {F : Type 0} → Answers F → F → List ℕ → List ℕ → Option (List ℕ) → F → Fault → Type 0
-FaultyEval answers old file word args new f =
-    (f ≡ fault.NoMemory)
-    ⊎ (((f ≡ fault.BadArgs) × ListsBadArguments args × (new ≡ old))
-    ⊎ ((arguments : List ℕ) × ListsArguments args arguments × FaultyFile answers old file word arguments new f))
+-- the method of that path
+abbrev pub Finds : Shown → List ℕ → Result Method Fault → Type 0
+Finds ns word (Ok m) = (id : ℕ) × Names ns word id m
+Finds ns word (Err f) = NamesNone ns word × (f ≡ fault.NoSuchObject)
 
--- what `eval` prints of a file's method, and its status: the line of a refused body, or that of the meaning's outcome
-abbrev pub IsEvalLine : {F : Type 0} → Answers F → F → List ℕ → List ℕ → Option (List ℕ) → ℕ → F → List ℕ → ℕ → Type 0
-IsEvalLine answers old file word args steps new line ended =
-    (ns : Shown) × (m : Method) × Finds answers old file word new ns m
-    × (((refusal : Refusal) × ReadsBodyOf ns m (Err (Refused refusal)) × (line ≡ refusal_line word m.table refusal) × (ended ≡ 3))
-    ⊎ ((ts : List Tree) × (arguments : List ℕ) × (outcome : Outcome) × IsBodyOf ns m ts × ListsArguments args arguments × Takes ns m arguments
-    × Evaluates ns m (trees ts) arguments steps outcome × (line ≡ outcome_line outcome) × (ended ≡ outcome_status outcome)))
+-- the terms of a method's body, or why it cannot be read
+abbrev pub ReadsBody : Shown → Method → Result (Result (List Tree) Refusal) Fault → Type 0
+ReadsBody ns m (Ok (Ok ts)) = IsBodyOf ns m ts
+ReadsBody ns m (Ok (Err refusal)) = ReadsBodyOf ns m (Err (Refused refusal))
+ReadsBody ns m (Err f) = f ≡ fault.NoMemory
 
--- how `eval` ends: its line; a fault, and nothing is printed; or a beginning of its line
-abbrev pub EvaluatesFile : {F : Type 0} → Answers F → F → List ℕ → List ℕ → Option (List ℕ) → ℕ → F → Option (List ℕ) → Option (List ℕ) → Result ℕ Stop → Type 0
-EvaluatesFile answers old file word args steps new held holds (Ok ended) =
-    (line : List ℕ) × IsEvalLine answers old file word args steps new line ended × Appends held holds line
-EvaluatesFile answers old file word args steps new held holds (Err (Faulty f)) = FaultyEval answers old file word args new f × (holds ≡ held)
-EvaluatesFile answers old file word args steps new held holds (Err (Run _)) =
-    (front rest : List ℕ) × (ended : ℕ) × IsEvalLine answers old file word args steps new (front ++ rest) ended × Appends held holds front
+-- the arguments fit the method
+abbrev pub Fit : Shown → Method → List ℕ → Result (Unit {0}) Fault → Type 0
+Fit ns m arguments (Ok _) = Takes ns m arguments
+Fit ns m arguments (Err f) = (Takes ns m arguments → ⊥) × (f ≡ fault.ArgsDontFit)
 
--- what the words ask for is done, with files of a source
-abbrev pub Obeys : {F : Type 0} → Answers F → F → Request → F → Option (List ℕ) → Option (List ℕ) → Result ℕ Stop → Type 0
-Obeys answers old (Tables names) new held holds r = ListsFiles answers old (map (λ name. name.now) (vec_items names)) new held holds r
-Obeys answers old (Eval request) new held holds r = EvaluatesFile answers old request.file.now request.method.now (option_map (λ text. text.now) request.args) request.steps new held holds r
+-- the outcome that the meaning has
+abbrev pub IsMeant : Shown → Method → List Tree → List ℕ → ℕ → Result Outcome Fault → Type 0
+IsMeant ns m ts arguments steps (Ok outcome) = Evaluates ns m (trees ts) arguments steps outcome
+IsMeant ns m ts arguments steps (Err _) = ⊥
 
--- what the words ask for is done; or they are no command line, and then nothing is read or printed
-abbrev pub ObeysWords : {F : Type 0} → Answers F → List (List ℕ) → F → F → Option (List ℕ) → Option (List ℕ) → Result ℕ Stop → Type 0
-ObeysWords answers words old new held holds r =
-    ((request : Request) × AsksFor words request × Obeys answers old request new held holds r)
-    ⊎ ((f : Fault) × ((f ≡ fault.NoMemory) ⊎ ((f ≡ fault.CommandLine) × AsksNothing words)) × (r ≡ Err (Faulty f)) × (new ≡ old) × (holds ≡ held))
+-- `eval` of a body: a refused one has its line; else the arguments must fit, and the outcome has its line
+abbrev pub EvaluatesBody : Shown → Method → List ℕ → List ℕ → ℕ → Result (List Tree) Refusal → Step (Unit {0}) ℕ
+EvaluatesBody ns m word arguments steps (Err refusal) = Tells (refusal_line word m.table refusal) 3
+EvaluatesBody ns m word arguments steps (Ok ts) =
+    Then (Gives (Fit ns m arguments)) (λ _.
+    Then (Gives (IsMeant ns m ts arguments steps)) (λ outcome.
+    Tells (outcome_line outcome) (outcome_status outcome)))
+
+-- `eval` of a table: the load, the method of that path, its body
+abbrev pub EvaluatesTable : List ℕ → List ℕ → ℕ → List ℕ → Step (Unit {0}) ℕ
+EvaluatesTable word arguments steps bytes =
+    Then (Gives (Loads bytes)) (λ ns.
+    Then (Gives (Finds ns word)) (λ m.
+    Then (Gives (ReadsBody ns m)) (EvaluatesBody ns m word arguments steps)))
+
+-- `eval`: the arguments, the file, its table
+abbrev pub EvaluatesFile : {F : Type 0} → Answers F → List ℕ → List ℕ → Option (List ℕ) → ℕ → Step F ℕ
+EvaluatesFile answers file word args steps =
+    Then (Gives (ReadsArguments args)) (λ arguments.
+    Then (Reads answers file) (λ bytes.
+    Still (EvaluatesTable word arguments steps bytes)))
+
+-- what the words ask for, or why there is nothing
+abbrev pub Asks : List (List ℕ) → Result Request Fault → Type 0
+Asks words = Tries (AsksFor words) (λ f. (f ≡ fault.CommandLine) × AsksNothing words)
+
+-- what is asked for is done, with files of a source
+abbrev pub Obeys : {F : Type 0} → Answers F → Request → Step F ℕ
+Obeys answers (Tables names) = ListsFiles answers 0 (map (λ name. name.now) (vec_items names))
+Obeys answers (Eval request) = EvaluatesFile answers request.file.now request.method.now (option_map (λ text. text.now) request.args) request.steps
+
+-- a command: its words, and what they ask for
+abbrev pub ObeysWords : {F : Type 0} → Answers F → List (List ℕ) → Step F ℕ
+ObeysWords answers words = Then (Gives (Asks words)) (Obeys answers)
 
 -- the status of a fault
 abbrev pub fault_status : Fault → ℕ
@@ -118,16 +133,16 @@ fault_status _ = 1
 abbrev pub Reports : Fault → Option (List ℕ) → Option (List ℕ) → Result ℕ RunFault → Type 0
 Reports f held holds r = IfOk r (λ ended. ended ≡ fault_status f) × Lists r held holds (fault_line f)
 
--- what follows a command: its status, its fault's line, or its end
-abbrev pub Ends : Result ℕ Stop → Option (List ℕ) → Option (List ℕ) → Result ℕ RunFault → Type 0
-Ends (Ok ended) held holds r = (r ≡ Ok ended) × (holds ≡ held)
-Ends (Err (Faulty f)) held holds r = Reports f held holds r
-Ends (Err (Run f)) held holds r = (r ≡ Err f) × (holds ≡ held)
+-- what a command wrote, how it ended, and what stands in the writer: its text, behind that a fault's line where it ended with a fault
+abbrev pub IsTold : List ℕ → Result ℕ Stop → Option (List ℕ) → Option (List ℕ) → Result ℕ RunFault → Type 0
+IsTold text (Ok status) held holds r = (r ≡ Ok status) × Appends held holds text
+IsTold text (Err (Faulty f)) held holds r = IfOk r (λ status. status ≡ fault_status f) × Lists r held holds (text ++ fault_line f)
+IsTold text (Err (Run f)) held holds r = (r ≡ Err f) × Appends held holds text
 
--- a command by its words: what it prints, and behind it a fault's line where it ends with a fault
+-- a command by its words, and what is told of it
 abbrev pub RunsWords : {F : Type 0} → Answers F → List (List ℕ) → F → F → Option (List ℕ) → Option (List ℕ) → Result ℕ RunFault → Type 0
 RunsWords answers words old new held holds r =
-    (ended : Result ℕ Stop) × (between : Option (List ℕ)) × ObeysWords answers words old new held between ended × Ends ended between holds r
+    (text : List ℕ) × (ended : Result ℕ Stop) × ObeysWords answers words old text ended new × IsTold text ended held holds r
 
 -- a command by what was read of standard input: by the words of the first line, with the files on the others
 abbrev pub RunsBytes : List ℕ → Bool → Option (List ℕ) → Option (List ℕ) → Result ℕ RunFault → Type 0

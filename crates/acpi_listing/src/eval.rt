@@ -3,9 +3,11 @@
 ghost use Rattle.std.specs.Prelude.{◌≡◌, ◌<◌, ◌≤◌, ◌⊎◌, ◌↔◌, ℕ, List, true};
 ghost use Rattle.std.specs.Prelude.{IfOk, IfErr, length, option_map, vec_items};
 ghost use Rattle.acpi_listing.specs.Arguments.{ListsArguments, ListsBadArguments};
-ghost use Rattle.aml_namespace.specs.Load.{shown};
-ghost use Rattle.acpi_listing.specs.Commands.{EvaluatesFile, LoadsOrFails, Names, NamesNone};
+ghost use Rattle.aml_namespace.specs.Load.{IsLoaded, shown};
+ghost use Rattle.acpi_listing.specs.Commands.{EvaluatesFile, EvaluatesTable, FailsToLoad, Names, NamesNone};
 ghost use Rattle.acpi_listing.specs.Commands.{HasSegment, Takes, outcome_status};
+ghost use Rattle.acpi_listing.specs.Steps.{Tells, Tries, Writes};
+ghost use Rattle.acpi_text.specs.Outcome.{outcome_line, refusal_line};
 ghost use Rattle.acpi_listing.specs.declared.fault.Fault.TheVariants as fault;
 
 use crate::arguments::read_arguments;
@@ -16,7 +18,7 @@ use acpi_text::{list_evaluation, list_refusal};
 use aml_lex::NameSeg;
 use aml_namespace::{Method, Namespace, ObjectId};
 use aml_plain::{Outcome, evaluate_terms};
-use aml_tree::TreeFault;
+use aml_tree::{Refusal, TreeFault};
 use std::alloc::Global;
 use std::io::Write;
 
@@ -28,28 +30,13 @@ pub fn evaluate<F: Source, W: Write>(
     out: &mut W,
 ) -> Result<u8, Stop>
     ensures status { IfOk result (λ status. status ≤ 3) }
-    ensures printed { EvaluatesFile F.answers files.old request.now.file.now request.now.method.now
-        (option_map (λ text. text.now) request.now.args) request.now.steps files.new
-        (W.contents out.old) (W.contents out.new) result }
+    ensures printed { Writes (EvaluatesFile F.answers request.now.file.now request.now.method.now
+        (option_map (λ text. text.now) request.now.args) request.now.steps)
+        files.old files.new (W.contents out.old) (W.contents out.new) result }
 {
     let arguments = arguments_of(alloc, request)?;
     let table = read_within_limit(files, request.file)?;
-    let namespace = load(alloc, &table)?;
-    let (id, method) = find_method(&namespace, request.method)?;
-    let body = match namespace.tree(alloc, id) {
-        Ok(body) => body,
-        Err(TreeFault::NoMemory) => return Err(Stop::Fault(Fault::NoMemory)),
-        Err(TreeFault::Refused(refusal)) => {
-            list_refusal(alloc, out, request.method, method.table, refusal)?;
-            return Ok(3);
-        }
-    };
-    if !fits(&namespace, method, &arguments) {
-        return Err(Stop::Fault(Fault::ArgsDontFit));
-    }
-    let outcome = evaluate_terms(&namespace, id, &body, &arguments, request.steps);
-    list_evaluation(alloc, out, &outcome)?;
-    Ok(status_of(&outcome))
+    evaluate_table(alloc, request, &arguments, &table, out)
 }
 
 fn arguments_of(alloc: Global, request: &EvalRequest<'_>) -> Result<Vec<u64>, Fault>
@@ -64,8 +51,62 @@ fn arguments_of(alloc: Global, request: &EvalRequest<'_>) -> Result<Vec<u64>, Fa
     }
 }
 
+// Evaluates the method of a table.
+fn evaluate_table<W: Write>(
+    alloc: Global,
+    request: &EvalRequest<'_>,
+    arguments: &[u64],
+    table: &[u8],
+    out: &mut W,
+) -> Result<u8, Stop>
+    ensures status { IfOk result (λ status. status ≤ 3) }
+    ensures printed { Writes (EvaluatesTable request.now.method.now arguments.now request.now.steps
+        table.now) tt tt (W.contents out.old) (W.contents out.new) result }
+{
+    let namespace = load(alloc, table)?;
+    let (id, method) = find_method(&namespace, request.method)?;
+    let body = match namespace.tree(alloc, id) {
+        Ok(body) => body,
+        Err(TreeFault::NoMemory) => return Err(Stop::Fault(Fault::NoMemory)),
+        Err(TreeFault::Refused(refusal)) => {
+            return tell_refusal(alloc, out, request.method, method.table, refusal);
+        }
+    };
+    if !fits(&namespace, method, arguments) {
+        return Err(Stop::Fault(Fault::ArgsDontFit));
+    }
+    let outcome = evaluate_terms(&namespace, id, &body, arguments, request.steps);
+    tell_outcome(alloc, out, &outcome)
+}
+
+// Prints how an evaluation ended, and answers the status of that.
+fn tell_outcome<W: Write>(alloc: Global, out: &mut W, outcome: &Outcome) -> Result<u8, Stop>
+    ensures status { IfOk result (λ status. status ≤ 3) }
+    ensures printed { Writes (Tells (outcome_line outcome.now) (outcome_status outcome.now))
+        (tt {0}) (tt {0}) (W.contents out.old) (W.contents out.new) result }
+{
+    list_evaluation(alloc, out, outcome)?;
+    Ok(status_of(outcome))
+}
+
+// Prints that a method's body cannot be read, and answers the status of that.
+fn tell_refusal<W: Write>(
+    alloc: Global,
+    out: &mut W,
+    path: &str,
+    table: usize,
+    refusal: Refusal,
+) -> Result<u8, Stop>
+    ensures status { IfOk result (λ status. status ≤ 3) }
+    ensures printed { Writes (Tells (refusal_line path.now table refusal) 3)
+        (tt {0}) (tt {0}) (W.contents out.old) (W.contents out.new) result }
+{
+    list_refusal(alloc, out, path, table, refusal)?;
+    Ok(3)
+}
+
 fn load<'a>(alloc: Global, table: &'a [u8]) -> Result<Namespace<'a>, Fault>
-    ensures { LoadsOrFails table.now result }
+    ensures { Tries (λ ns. IsLoaded table.now (shown ns)) (FailsToLoad table.now) result }
 {
     match Namespace::load(alloc, table) {
         Ok(namespace) => Ok(namespace),

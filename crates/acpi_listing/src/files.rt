@@ -1,7 +1,8 @@
 // The command `tables`: files that are read and listed one after the other.
 
-ghost use Rattle.std.specs.Prelude.{map};
+ghost use Rattle.std.specs.Prelude.{◌≤◌, IfOk, map};
 ghost use Rattle.acpi_listing.specs.Files.{ListsFile, ListsFiles};
+ghost use Rattle.acpi_listing.specs.Steps.{Writes};
 
 use crate::any_table::read_any_table;
 use crate::fault::{Fault, Stop};
@@ -17,8 +18,9 @@ pub fn list_files<F: Source, W: Write>(
     files: &mut F,
     out: &mut W,
 ) -> Result<u8, Stop>
-    ensures { ListsFiles F.answers files.old (map (λ name. name.now) names.now) files.new
-        (W.contents out.old) (W.contents out.new) result }
+    ensures status { IfOk result (λ status. status ≤ 3) }
+    ensures printed { Writes (ListsFiles F.answers 0 (map (λ name. name.now) names.now))
+        files.old files.new (W.contents out.old) (W.contents out.new) result }
 {
     for (number, name) in names.iter().enumerate() {
         list_file(alloc, number, name, files, out)?;
@@ -33,8 +35,8 @@ fn list_file<F: Source, W: Write>(
     files: &mut F,
     out: &mut W,
 ) -> Result<(), Stop>
-    ensures { ListsFile F.answers files.old number name.now files.new
-        (W.contents out.old) (W.contents out.new) result }
+    ensures { Writes (ListsFile F.answers number name.now)
+        files.old files.new (W.contents out.old) (W.contents out.new) result }
 {
     let bytes = read_within_limit(files, name)?;
     match read_any_table(&bytes) {

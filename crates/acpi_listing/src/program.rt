@@ -2,6 +2,7 @@
 
 ghost use Rattle.std.specs.Prelude.{◌≡◌, ◌≤◌, IfOk, map};
 ghost use Rattle.acpi_listing.specs.Commands.{ObeysWords, Reports, RunsWords, RunsInput};
+ghost use Rattle.acpi_listing.specs.Steps.{Writes};
 
 use crate::eval::evaluate;
 use crate::fault::{Fault, Stop};
@@ -73,8 +74,8 @@ fn obey<S: AsStr, F: Source, W: Write>(
     out: &mut W,
 ) -> Result<u8, Stop>
     ensures status { IfOk result (λ status. status ≤ 3) }
-    ensures printed { ObeysWords F.answers (map S.text words.entry.now) files.old files.new
-        (W.contents out.old) (W.contents out.new) result }
+    ensures printed { Writes (ObeysWords F.answers (map S.text words.entry.now))
+        files.old files.new (W.contents out.old) (W.contents out.new) result }
 {
     match read_words(alloc, words)? {
         Request::Tables { files: names } => list_files(alloc, names.as_slice(), files, out),
