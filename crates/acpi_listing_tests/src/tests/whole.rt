@@ -117,3 +117,37 @@ fn a_line_of_spaces(rt: HostRuntime) -> Result<(), Fail> {
     assert_eq!(rt; answer.ended, Ok(2));
     Ok(())
 }
+
+// A line has at most 65,536 words. Of one file more than that allows, the last word takes the rest of
+// the line, which names no file.
+#[test]
+fn a_line_of_many_files(rt: HostRuntime) -> Result<(), Fail> {
+    let alloc = rt.alloc();
+    let rows = [
+        (65_535, 65_535, "", 0),
+        (65_536, 65_534, "fault E523 File\n", 1),
+    ];
+    for (files, listed, last, status) in rows {
+        let words = " @".repeat(alloc, files)?;
+        let tables = "46414353\n".repeat(alloc, files)?;
+        let input = format!(in alloc; "tables{words}\n{tables}")?;
+        let front = "facs left out\n".repeat(alloc, listed)?;
+        let text = format!(in alloc; "{front}{last}")?;
+        let answer = told(alloc, input.as_str(), 4096, 1_000_000)?;
+        assert!(rt; answer.text.as_slice() == text.as_bytes());
+        assert_eq!(rt; answer.ended, Ok(status));
+    }
+    Ok(())
+}
+
+// Files that are named by nothing are files still, a million of them too.
+#[test]
+fn a_line_of_empty_words(rt: HostRuntime) -> Result<(), Fail> {
+    let alloc = rt.alloc();
+    let spaces = " ".repeat(alloc, 1_000_000)?;
+    let input = format!(in alloc; "tables{spaces}\n")?;
+    let answer = told(alloc, input.as_str(), 4096, 4096)?;
+    assert_eq!(rt; answer.text.as_slice(), b"fault E523 File\n".as_slice());
+    assert_eq!(rt; answer.ended, Ok(1));
+    Ok(())
+}
