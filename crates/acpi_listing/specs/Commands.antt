@@ -129,7 +129,7 @@ abbrev pub fault_status : Fault → ℕ
 fault_status fault.CommandLine = 2
 fault_status _ = 1
 
--- a fault is told on a line of its own, or a beginning of that, and its status answered
+-- a fault's line is listed, and its status answered
 abbrev pub Reports : Fault → Option (List ℕ) → Option (List ℕ) → Result ℕ RunFault → Type 0
 Reports f held holds r = IfOk r (λ ended. ended ≡ fault_status f) × Lists r held holds (fault_line f)
 

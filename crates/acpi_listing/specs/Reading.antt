@@ -2,7 +2,7 @@
 use Rattle.std.specs.Prelude.{ℕ, List, [], ⊤, Bool, nat_eq, codes, if◌then◌else◌}
 use Rattle.std.specs.List.{starts_with}
 use Rattle.acpi_text.specs.declared.table.Table.{Table}
-use Rattle.acpi_text.specs.declared.table.Table.TheVariants.{Pointer, Firmware, Addresses, Fixed, Interrupts, Other}
+use Rattle.acpi_text.specs.declared.table.Table.TheVariants as table
 use Rattle.acpi_listing.specs.declared.any_table.FileKind.{FileKind}
 use Rattle.acpi_listing.specs.declared.any_table.FileKind.TheVariants as kind
 use Rattle.acpi_tables.specs.Fault.{Check}
@@ -37,12 +37,12 @@ IsReadable kind.Other bytes = IsTable bytes
 
 -- what a file of a kind says
 abbrev pub Says : FileKind → List ℕ → Table → Type 0
-Says kind.Rsdp bytes (Pointer rsdp) = HasRsdp bytes rsdp
-Says kind.Facs bytes Firmware = ⊤
-Says kind.Xsdt bytes (Addresses xsdt) = HasXsdt bytes xsdt
-Says kind.Fadt bytes (Fixed fadt) = HasFadt bytes fadt
-Says kind.Madt bytes (Interrupts madt) = HasMadt bytes madt
-Says kind.Other bytes (Other header) = HasHeader bytes header
+Says kind.Rsdp bytes (table.Rsdp rsdp) = HasRsdp bytes rsdp
+Says kind.Facs bytes table.Facs = ⊤
+Says kind.Xsdt bytes (table.Xsdt xsdt) = HasXsdt bytes xsdt
+Says kind.Fadt bytes (table.Fadt fadt) = HasFadt bytes fadt
+Says kind.Madt bytes (table.Madt madt) = HasMadt bytes madt
+Says kind.Other bytes (table.Other header) = HasHeader bytes header
 Says _ bytes _ = ⊥
 
 -- what is looked for in a file of a kind, in order

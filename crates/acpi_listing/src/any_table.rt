@@ -57,11 +57,11 @@ pub fn read_any_table(bytes: &[u8]) -> Result<Table<'_>, TableFault>
     ensures place { IfErr result (λ fault. fault.at ≤ length bytes.now) }
 {
     match FileKind::of(bytes) {
-        FileKind::Rsdp => Ok(Table::Pointer(Rsdp::read(bytes)?)),
-        FileKind::Facs => Ok(Table::Firmware),
-        FileKind::Xsdt => Ok(Table::Addresses(Xsdt::read(bytes)?)),
-        FileKind::Fadt => Ok(Table::Fixed(Fadt::read(bytes)?)),
-        FileKind::Madt => Ok(Table::Interrupts(Madt::read(bytes)?)),
+        FileKind::Rsdp => Ok(Table::Rsdp(Rsdp::read(bytes)?)),
+        FileKind::Facs => Ok(Table::Facs),
+        FileKind::Xsdt => Ok(Table::Xsdt(Xsdt::read(bytes)?)),
+        FileKind::Fadt => Ok(Table::Fadt(Fadt::read(bytes)?)),
+        FileKind::Madt => Ok(Table::Madt(Madt::read(bytes)?)),
         FileKind::Other => Ok(Table::Other(Header::read(bytes)?)),
     }
 }

@@ -42,8 +42,8 @@ pub fn evaluate<F: Source, W: Write>(
 fn arguments_of(alloc: Global, request: &EvalRequest<'_>) -> Result<Vec<u64>, Fault>
     ensures given { IfOk result
         (λ ns. ListsArguments (option_map (λ text. text.now) request.now.args) (vec_items ns)) }
-    ensures faults { IfErr result (λ f. (f ≡ fault.NoMemory)
-        ⊎ ((f ≡ fault.BadArgs) × ListsBadArguments (option_map (λ text. text.now) request.now.args))) }
+    ensures faults { let args = option_map (λ text. text.now) request.now.args in
+        IfErr result (λ f. (f ≡ fault.NoMemory) ⊎ ((f ≡ fault.BadArgs) × ListsBadArguments args)) }
 {
     match request.args {
         Some(text) => read_arguments(alloc, text),

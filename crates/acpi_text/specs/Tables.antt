@@ -5,7 +5,7 @@ use Rattle.std.specs.Option.{option_map}
 use Rattle.acpi_text.specs.Text.{joined, hex, escaped}
 use Rattle.acpi_text.specs.Structures.{structure_line}
 use Rattle.acpi_text.specs.declared.table.Table.{Table}
-use Rattle.acpi_text.specs.declared.table.Table.TheVariants.{Pointer, Firmware, Addresses, Fixed, Interrupts, Other}
+use Rattle.acpi_text.specs.declared.table.Table.TheVariants as kind
 use Rattle.acpi_tables.specs.Xsdt.{listed}
 use Rattle.acpi_tables.specs.Fadt.{is_hardware_reduced}
 use Rattle.acpi_tables.specs.Madt.{entries, is_pcat_compatible}
@@ -68,48 +68,39 @@ unfoldable pub yes_or_absent : Option Bool → List ℕ
 yes_or_absent None = codes "absent"
 yes_or_absent (Some b) = yes_or_no b
 
--- the first three lines of a FADT's fields, of these texts
-unfoldable pub fixed_front : List ℕ → List ℕ → List ℕ → List ℕ
-fixed_front dsdt profile sci = joined (
-    codes "  dsdt " ∷ dsdt
-    ∷ codes "\n  profile " ∷ profile
-    ∷ codes "\n  sci " ∷ sci
-    ∷ codes "\n" ∷ [])
+-- the line of a field: its name and its text
+unfoldable pub field_line : List ℕ → List ℕ → List ℕ
+field_line name text = joined (codes "  " ∷ name ∷ codes " " ∷ text ∷ codes "\n" ∷ [])
 
--- the other three
-unfoldable pub fixed_back : List ℕ → List ℕ → List ℕ → List ℕ
-fixed_back flags reduced x_dsdt = joined (
-    codes "  flags " ∷ flags
-    ∷ codes "\n  hardware-reduced " ∷ reduced
-    ∷ codes "\n  x_dsdt " ∷ x_dsdt
-    ∷ codes "\n" ∷ [])
+-- the lines of fields, one after the other
+abbrev pub field_lines : List (List ℕ × List ℕ) → List ℕ
+field_lines fields = flat_map (λ field. field_line field.0 field.1) fields
 
 -- the lines of a FADT's fields
 unfoldable pub fixed_lines : Fadt → List ℕ
-fixed_lines fadt =
-    fixed_front (hex_or_absent fadt.dsdt) (decimal_or_absent fadt.preferred_profile) (decimal_or_absent fadt.sci_interrupt)
-    ++ fixed_back (hex_or_absent fadt.flags) (yes_or_absent (option_map is_hardware_reduced fadt.flags)) (hex_or_absent fadt.x_dsdt)
-
--- the lines of a MADT's own fields, the last of this text
-unfoldable pub interrupt_text : ℕ → ℕ → List ℕ → List ℕ
-interrupt_text local flags pcat = joined (
-    codes "  local 0x" ∷ hex local
-    ∷ codes "\n  flags 0x" ∷ hex flags
-    ∷ codes "\n  pcat " ∷ pcat
-    ∷ codes "\n" ∷ [])
+fixed_lines fadt = field_lines (
+    (codes "dsdt", hex_or_absent fadt.dsdt)
+    ∷ (codes "profile", decimal_or_absent fadt.preferred_profile)
+    ∷ (codes "sci", decimal_or_absent fadt.sci_interrupt)
+    ∷ (codes "flags", hex_or_absent fadt.flags)
+    ∷ (codes "hardware-reduced", yes_or_absent (option_map is_hardware_reduced fadt.flags))
+    ∷ (codes "x_dsdt", hex_or_absent fadt.x_dsdt) ∷ [])
 
 -- the lines of a MADT's own fields
 unfoldable pub interrupt_lines : Madt → List ℕ
-interrupt_lines madt = interrupt_text madt.local_address madt.flags (yes_or_no (is_pcat_compatible madt.flags))
+interrupt_lines madt = field_lines (
+    (codes "local", hex_or_absent (Some madt.local_address))
+    ∷ (codes "flags", hex_or_absent (Some madt.flags))
+    ∷ (codes "pcat", yes_or_no (is_pcat_compatible madt.flags)) ∷ [])
 
 -- what a table says
 abbrev pub table_text : Table → List ℕ
-table_text (Pointer rsdp) = pointer_line rsdp
-table_text Firmware = codes "facs left out\n"
-table_text (Addresses xsdt) = header_line xsdt.header ++ flat_map address_line (listed xsdt)
-table_text (Fixed fadt) = header_line fadt.header ++ fixed_lines fadt
-table_text (Interrupts madt) = header_line madt.header ++ (interrupt_lines madt ++ flat_map structure_line (entries madt))
-table_text (Other header) = header_line header
+table_text (kind.Rsdp rsdp) = pointer_line rsdp
+table_text kind.Facs = codes "facs left out\n"
+table_text (kind.Xsdt xsdt) = header_line xsdt.header ++ flat_map address_line (listed xsdt)
+table_text (kind.Fadt fadt) = header_line fadt.header ++ fixed_lines fadt
+table_text (kind.Madt madt) = header_line madt.header ++ (interrupt_lines madt ++ flat_map structure_line (entries madt))
+table_text (kind.Other header) = header_line header
 
 -- what tables say, one after the other
 abbrev pub tables_text : List Table → List ℕ

@@ -6,15 +6,15 @@ use acpi_tables::{Fadt, Header, Madt, Rsdp, Xsdt};
 #[derive(Clone, Copy, Debug)]
 pub enum Table<'a> {
     /// The pointer from which the others are found.
-    Pointer(Rsdp<'a>),
+    Rsdp(Rsdp<'a>),
     /// The firmware control structure, which has no header's sum and is left out.
-    Firmware,
+    Facs,
     /// An XSDT, with the addresses of the others.
-    Addresses(Xsdt<'a>),
+    Xsdt(Xsdt<'a>),
     /// A FADT, with the fixed fields.
-    Fixed(Fadt<'a>),
+    Fadt(Fadt<'a>),
     /// A MADT, with the interrupt controllers.
-    Interrupts(Madt<'a>),
+    Madt(Madt<'a>),
     /// Any other table, by its header.
     Other(Header<'a>),
 }

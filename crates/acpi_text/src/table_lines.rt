@@ -1,11 +1,13 @@
 // The lines of tables, but those of a MADT's structures.
 
-ghost use Rattle.std.specs.Prelude.{◌≡◌, IfOk, string_bytes};
-ghost use Rattle.acpi_text.specs.Tables.{name_part, oem_part, fixed_front, fixed_back, interrupt_text, header_line, pointer_line, address_line, fixed_lines, interrupt_lines, decimal_or_absent, hex_or_absent, yes_or_no, yes_or_absent};
+ghost use Rattle.std.specs.Prelude.{◌≡◌, ◌++◌, IfOk, OnOk, string_bytes};
+ghost use Rattle.std.specs.List.{flat_map};
+ghost use Rattle.acpi_text.specs.Tables.{name_part, oem_part, field_line, header_line, pointer_line, address_line, fixed_lines, interrupt_lines, decimal_or_absent, hex_or_absent, yes_or_no, yes_or_absent};
 
 use crate::escaped::escaped_text;
 use acpi_tables::{Fadt, Header, Madt, Rsdp};
 use std::alloc::{AllocError, Global};
+use std::fmt::Write;
 
 /// `table SIG length N revision N oem "TEXT" "TEXT" 0xREV`.
 #[tactic(auto, unfolding(crate::specs::Tables::header_line))]
@@ -74,35 +76,19 @@ pub fn address(alloc: Global, address: u64) -> Result<String, AllocError>
 pub fn fixed(alloc: Global, fadt: &Fadt<'_>) -> Result<String, AllocError>
     ensures { IfOk result (λ lines. string_bytes lines ≡ fixed_lines fadt.now) }
 {
-    let dsdt = hex_field(alloc, wide_u32(fadt.dsdt))?;
-    let profile = decimal_field(alloc, wide_u8(fadt.preferred_profile))?;
-    let sci = decimal_field(alloc, wide_u16(fadt.sci_interrupt))?;
-    let front = fixed_front_of(alloc, dsdt.as_str(), profile.as_str(), sci.as_str())?;
-    let flags = hex_field(alloc, wide_u32(fadt.flags))?;
     let reduced = yes_field(fadt.hardware_reduced());
-    let x_dsdt = hex_field(alloc, fadt.x_dsdt)?;
-    let back = fixed_back_of(alloc, flags.as_str(), reduced, x_dsdt.as_str())?;
-    format!(in alloc; "{front}{back}")
-}
-
-#[tactic(auto, unfolding(crate::specs::Tables::fixed_front))]
-fn fixed_front_of(alloc: Global, dsdt: &str, profile: &str, sci: &str) -> Result<String, AllocError>
-    ensures { IfOk result (λ lines. string_bytes lines ≡ fixed_front dsdt.now profile.now sci.now) }
-{
-    format!(in alloc; "  dsdt {dsdt}\n  profile {profile}\n  sci {sci}\n")
-}
-
-#[tactic(auto, unfolding(crate::specs::Tables::fixed_back))]
-fn fixed_back_of(
-    alloc: Global,
-    flags: &str,
-    reduced: &str,
-    x_dsdt: &str,
-) -> Result<String, AllocError>
-    ensures { IfOk result
-        (λ lines. string_bytes lines ≡ fixed_back flags.now reduced.now x_dsdt.now) }
-{
-    format!(in alloc; "  flags {flags}\n  hardware-reduced {reduced}\n  x_dsdt {x_dsdt}\n")
+    let fields = [
+        ("dsdt", hex_field(alloc, wide_u32(fadt.dsdt))?),
+        (
+            "profile",
+            decimal_field(alloc, wide_u8(fadt.preferred_profile))?,
+        ),
+        ("sci", decimal_field(alloc, wide_u16(fadt.sci_interrupt))?),
+        ("flags", hex_field(alloc, wide_u32(fadt.flags))?),
+        ("hardware-reduced", String::from_str(alloc, reduced)?),
+        ("x_dsdt", hex_field(alloc, fadt.x_dsdt)?),
+    ];
+    lines_of_fields(alloc, &fields)
 }
 
 /// The lines of a MADT's own fields.
@@ -111,14 +97,35 @@ pub fn interrupts(alloc: Global, madt: &Madt<'_>) -> Result<String, AllocError>
     ensures { IfOk result (λ lines. string_bytes lines ≡ interrupt_lines madt.now) }
 {
     let pcat = yes(madt.pcat_compatible());
-    interrupts_of(alloc, madt.local_address, madt.flags, pcat)
+    let fields = [
+        (
+            "local",
+            hex_field(alloc, Some(u64::from(madt.local_address)))?,
+        ),
+        ("flags", hex_field(alloc, Some(u64::from(madt.flags)))?),
+        ("pcat", String::from_str(alloc, pcat)?),
+    ];
+    lines_of_fields(alloc, &fields)
 }
 
-#[tactic(auto, unfolding(crate::specs::Tables::interrupt_text))]
-fn interrupts_of(alloc: Global, local: u32, flags: u32, pcat: &str) -> Result<String, AllocError>
-    ensures { IfOk result (λ lines. string_bytes lines ≡ interrupt_text local flags pcat.now) }
+// A line for each field, of its name and its text.
+fn lines_of_fields(alloc: Global, fields: &[(&str, String)]) -> Result<String, AllocError>
+    ensures { IfOk result (λ lines. string_bytes lines
+        ≡ flat_map (λ field. field_line field.0.now (string_bytes field.1)) fields.now) }
 {
-    format!(in alloc; "  local 0x{local:x}\n  flags 0x{flags:x}\n  pcat {pcat}\n")
+    let mut lines = String::new(alloc);
+    for (name, text) in fields {
+        push_field(&mut lines, name, text.as_str())?;
+    }
+    Ok(lines)
+}
+
+#[tactic(auto, unfolding(crate::specs::Tables::field_line))]
+fn push_field(lines: &mut String, name: &str, text: &str) -> Result<(), AllocError>
+    ensures { OnOk result
+        (string_bytes lines.new ≡ string_bytes lines.old ++ field_line name.now text.now) }
+{
+    write!(lines, "  {name} {text}\n")
 }
 
 #[tactic(auto, unfolding(crate::specs::Tables::decimal_or_absent))]

@@ -37,11 +37,11 @@ fn list_table<W: Write>(alloc: Global, out: &mut W, table: &Table<'_>) -> Result
     ensures { Lists result (W.contents out.old) (W.contents out.new) (table_text table.now) }
 {
     match table {
-        Table::Pointer(rsdp) => list_rsdp(alloc, out, rsdp),
-        Table::Firmware => put(out, b"facs left out\n"),
-        Table::Addresses(xsdt) => list_xsdt(alloc, out, xsdt),
-        Table::Fixed(fadt) => list_fadt(alloc, out, fadt),
-        Table::Interrupts(madt) => list_madt(alloc, out, madt),
+        Table::Rsdp(rsdp) => list_rsdp(alloc, out, rsdp),
+        Table::Facs => put(out, b"facs left out\n"),
+        Table::Xsdt(xsdt) => list_xsdt(alloc, out, xsdt),
+        Table::Fadt(fadt) => list_fadt(alloc, out, fadt),
+        Table::Madt(madt) => list_madt(alloc, out, madt),
         Table::Other(header) => list_header(alloc, out, header),
     }
 }

@@ -152,7 +152,7 @@ fn tables_that_were_read(rt: HostRuntime) -> Result<(), Fail> {
     };
     assert_eq!(rt; (header.length, header.revision), (48, 2));
     let mut out = Vec::new(alloc);
-    list_tables(alloc, &mut out, &[table, Table::Firmware])?;
+    list_tables(alloc, &mut out, &[table, Table::Facs])?;
     let text = format!(in alloc; "{LINE_1}facs left out\n")?;
     assert_eq!(rt; out.as_slice(), text.as_bytes());
     let short = TableFault {
