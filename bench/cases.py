@@ -15,6 +15,7 @@ A case is a folder crates/acpicheck/cases/NAME:
 | status | the status that the program must end with; no file: 0 |
 | notes | texts of which each line must stand on standard error; no file: standard error must be empty |
 | sink | the file that standard output goes to, as /dev/full, in place of a pipe |
+| memory | how many bytes of memory the program may have; no file: as many as there are |
 
 The program is the one that `rt ci` leaves in crates/acpicheck/out. With the word `after` the lines of `rt ci` are read
 from standard input and printed, and the last line counts its checks too; a run that ends without its counts is a
@@ -22,6 +23,7 @@ failure.
 """
 import os
 import re
+import resource
 import subprocess
 import sys
 import tempfile
@@ -54,14 +56,21 @@ def lay_out(case, room):
                 it.write(bytes.fromhex(part(case, name).decode("ascii")))
 
 
+def limit_of(memory):
+    """Holds the process that calls it to that many bytes."""
+    return lambda: resource.setrlimit(resource.RLIMIT_AS, (memory, memory))
+
+
 def run(program, case, room):
     """The program's status, standard output and standard error."""
     lay_out(case, room)
     sink = part(case, "sink")
+    memory = part(case, "memory")
     with open(sink.decode().strip() if sink else os.devnull, "wb") as full:
         out = full if sink else subprocess.PIPE
         ran = subprocess.run([program, *words_of(case)], input=part(case, "input", b""), stdout=out,
-                             stderr=subprocess.PIPE, cwd=room, timeout=SECONDS)
+                             stderr=subprocess.PIPE, cwd=room, timeout=SECONDS,
+                             preexec_fn=limit_of(int(memory)) if memory else None)
     return ran.returncode, ran.stdout or b"", ran.stderr
 
 
