@@ -2,3 +2,9 @@ pub mod Definitions
 pub mod Spans
 pub mod Places
 pub mod Numbered
+pub mod Positions
+pub mod PathNumbers
+pub mod Tries
+pub mod Added
+pub mod Ways
+pub mod Seen

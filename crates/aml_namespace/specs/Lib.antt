@@ -10,3 +10,6 @@ pub mod Names
 pub mod Objects
 pub mod Laws
 pub mod Causes
+pub mod Paths
+pub mod Trie
+pub mod Steps

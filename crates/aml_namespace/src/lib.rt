@@ -11,6 +11,7 @@ mod memory;
 mod method;
 mod namespace;
 mod objects;
+mod paths;
 mod width;
 
 pub use fault::{LoadCause, LoadFault, LoadRefusal};

@@ -1,0 +1,84 @@
+-- From path to path, down by segments and up by carets.
+use Rattle.std.proofs.Common.{◌≡◌, ℕ, zero, suc, ◌+◌, ◌-◌, ◌<◌, ◌≤◌, ◌⊎◌, inl, inr, List, [], ◌∷◌, ◌++◌, length, take, get_or, slice_get, Option, Some, None, cond, refl, sym, ap, ◌∙◌, arith, append_assoc, option_and_then, leb}
+use Rattle.std.proofs.lemmas.Bool.{cond-true, cond-false, le-leb, lt-leb, cases_lt}
+use Rattle.std.proofs.lemmas.List.{take-append-le, take_all, length_push}
+use Rattle.std.proofs.lemmas.Option.{none-some}
+use Rattle.aml_namespace.specs.declared.paths.Step.{Step}
+use Rattle.aml_namespace.specs.Paths.{Path, root, path_at, path_number, number_below, path_above, number_above, AreDistinct, AreClosed}
+use Rattle.aml_namespace.specs.Trie.{path_of}
+use Rattle.aml_namespace.proofs.PathNumbers.{path_at_there, path_at_is, path_number_there, path_number_within, no_longer_path}
+
+module _ (paths : List Path) (distinct : AreDistinct paths) where
+  found : (segment : List ℕ) (rest : Path) (n : ℕ) (o : Option Path) → option_and_then (λ (p : Path). path_number paths (p ++ segment ∷ [])) o ≡ Some n → option_and_then (λ (p : Path). path_number paths (p ++ segment ∷ rest)) o ≡ number_below paths n rest
+  found segment rest n None is = absurd (none-some n is)
+  found segment rest n (Some path) is =
+      let there = path_number_there paths (path ++ segment ∷ []) n is in
+      ap (path_number paths) (sym (append_assoc path (segment ∷ []) rest)) ∙ sym (ap (option_and_then (λ (p : Path). path_number paths (p ++ rest))) there)
+
+  -- one segment down, and then the rest
+  pub number_below_more : (at : ℕ) (segment : List ℕ) (rest : Path) (n : ℕ) → number_below paths at (segment ∷ []) ≡ Some n → number_below paths at (segment ∷ rest) ≡ number_below paths n rest
+  number_below_more at segment rest n is = found segment rest n (slice_get paths at) is
+
+  below_there : (segments : Path) (n : ℕ) (o : Option Path) → option_and_then (λ (p : Path). path_number paths (p ++ segments)) o ≡ Some n → n < length paths
+  below_there segments n None is = absurd (none-some n is)
+  below_there segments n (Some path) is = path_number_within paths (path ++ segments) n is
+
+  pub number_below_within : (at : ℕ) (segments : Path) (n : ℕ) → number_below paths at segments ≡ Some n → n < length paths
+  number_below_within at segments n is = below_there segments n (slice_get paths at) is
+
+  module _ (closed : AreClosed paths) where
+    missing : (segment : List ℕ) (rest : Path) (o : Option Path) → option_and_then (λ (p : Path). path_number paths (p ++ segment ∷ [])) o ≡ None → option_and_then (λ (p : Path). path_number paths (p ++ segment ∷ rest)) o ≡ None
+    missing segment rest None is = refl
+    missing segment rest (Some path) is =
+        ap (path_number paths) (sym (append_assoc path (segment ∷ []) rest)) ∙ no_longer_path paths distinct closed (path ++ segment ∷ []) rest is
+
+    -- where the first segment is missing, the rest is
+    pub number_below_missing : (at : ℕ) (segment : List ℕ) (rest : Path) → number_below paths at (segment ∷ []) ≡ None → number_below paths at (segment ∷ rest) ≡ None
+    number_below_missing at segment rest none = missing segment rest (slice_get paths at) none
+
+-- nothing is above the root
+path_above-root : (carets : ℕ) → 0 < carets → path_above carets root ≡ None
+path_above-root carets some = cond-false (leb carets 0) (Some (take (0 - carets) root)) None (lt-leb carets 0 some)
+
+path_above-none : (path : Path) → path_above 0 path ≡ Some path
+path_above-none path =
+    cond-true (leb 0 (length path)) (Some (take (length path - 0) path)) None (le-leb 0 (length path) (omega arith)) ∙ ap Some (take_all (length path - 0) path (omega arith))
+
+above_child : (path : Path) (segment : List ℕ) (carets less : ℕ) → carets ≡ suc less → (length path < less) ⊎ (less ≤ length path) → path_above carets (path ++ segment ∷ []) ≡ path_above less path
+above_child path segment carets less next (inl past) =
+    let longer = path ++ segment ∷ [] in
+    let long : length longer < carets = omega (arith, length_push path segment, next, past) in
+    cond-false (leb carets (length longer)) (Some (take (length longer - carets) longer)) None (lt-leb carets (length longer) long)
+    ∙ sym (cond-false (leb less (length path)) (Some (take (length path - less) path)) None (lt-leb less (length path) past))
+above_child path segment carets less next (inr within) =
+    let longer = path ++ segment ∷ [] in
+    let long : carets ≤ length longer = omega (arith, length_push path segment, next, within) in
+    let left : length longer - carets ≡ length path - less = omega (arith, length_push path segment, next, within) in
+    cond-true (leb carets (length longer)) (Some (take (length longer - carets) longer)) None (le-leb carets (length longer) long)
+    ∙ ap Some (ap (λ (n : ℕ). take n longer) left ∙ take-append-le (length path - less) path (segment ∷ []) (omega arith))
+    ∙ sym (cond-true (leb less (length path)) (Some (take (length path - less) path)) None (le-leb less (length path) within))
+
+module _ (paths : List Path) where
+  pub number_above_root : (carets : ℕ) → slice_get paths 0 ≡ Some root → 0 < carets → number_above paths 0 carets ≡ None
+  number_above_root carets first some =
+      ap (λ (o : Option Path). option_and_then (path_number paths) (option_and_then (path_above carets) o)) first ∙ ap (option_and_then (path_number paths)) (path_above-root carets some)
+
+  -- one caret up, and then the others
+  pub number_above_more : (at : ℕ) (step : Step) (carets less : ℕ) → slice_get paths at ≡ Some (path_of paths step) → step.parent < length paths → carets ≡ suc less → number_above paths at carets ≡ number_above paths step.parent less
+  number_above_more at step carets less is there next =
+      let parent = path_at paths step.parent in
+      ap (λ (o : Option Path). option_and_then (path_number paths) (option_and_then (path_above carets) o)) is
+      ∙ ap (option_and_then (path_number paths)) (above_child parent step.segment.bytes carets less next (cases_lt (length parent) less))
+      ∙ sym (ap (λ (o : Option Path). option_and_then (path_number paths) (option_and_then (path_above less) o)) (path_at_there paths step.parent there))
+
+  -- no caret leads to the path itself
+  pub number_above_itself : AreDistinct paths → (at : ℕ) → at < length paths → number_above paths at 0 ≡ Some at
+  number_above_itself distinct at there =
+      let path = path_at paths at in
+      let is = path_at_there paths at there in
+      ap (λ (o : Option Path). option_and_then (path_number paths) (option_and_then (path_above 0) o)) is ∙ ap (option_and_then (path_number paths)) (path_above-none path) ∙ distinct at path is
+
+  -- one step back in a path, of which the segments behind are known
+  pub path_more : (at number : ℕ) (step : Step) (behind : Path) → slice_get paths number ≡ Some (path_of paths step) → slice_get paths at ≡ Some (path_at paths number ++ behind) → slice_get paths at ≡ Some (path_at paths step.parent ++ step.segment.bytes ∷ behind)
+  path_more at number step behind is so_far =
+      so_far ∙ ap Some (ap (λ (p : Path). p ++ behind) (path_at_is paths number (path_of paths step) is) ∙ append_assoc (path_at paths step.parent) (step.segment.bytes ∷ []) behind)

@@ -1,0 +1,42 @@
+-- Paths that are kept as steps: the root first, and then one path a step.
+use Rattle.std.specs.Prelude.{◌≡◌, ◌≤◌, ℕ, suc, List, [], ◌∷◌, ◌++◌, Some, slice_get}
+use Rattle.std.specs.BTreeMap.{BTreeMap, get}
+use Rattle.std.specs.Ordering.{nat_cmp, ordering_then}
+use Rattle.std.specs.declared.cmp.Ordering.{Ordering}
+use Rattle.aml_lex.specs.declared.names.NameSeg.{NameSeg}
+use Rattle.aml_tree.specs.Owns.{segment_order}
+use Rattle.aml_namespace.specs.declared.paths.Step.{Step}
+use Rattle.aml_namespace.specs.Paths.{Path, root, path_at, number_below, AreDistinct}
+
+-- by the parent's number, and then by the segment
+abbrev pub step_order : Step → Step → Ordering
+step_order a b = ordering_then (nat_cmp a.parent b.parent) (segment_order a.segment b.segment)
+
+-- the path to which a step leads
+abbrev pub path_of : List Path → Step → Path
+path_of paths step = path_at paths step.parent ++ step.segment.bytes ∷ []
+
+-- some paths, and behind them those to which steps lead
+abbrev pub paths_from : List Path → List Step → List Path
+paths_from paths [] = paths
+paths_from paths (step ∷ steps) = paths_from (paths ++ path_of paths step ∷ []) steps
+
+abbrev pub paths_of : List Step → List Path
+paths_of steps = paths_from (root ∷ []) steps
+
+-- each step leads from a path before it to the path with the step's number
+abbrev pub LeadTo : List Step → List Path → Type 0
+LeadTo steps paths = (i : ℕ) (step : Step) → slice_get steps i ≡ Some step → (step.parent ≤ i) × (slice_get paths (suc i) ≡ Some (path_of paths step))
+
+-- the map has the number of each path that is one segment below another, and no other number
+abbrev pub HasStepNumbers : BTreeMap Step ℕ → List Path → Type 0
+HasStepNumbers numbers paths = (parent : ℕ) (segment : NameSeg) → get step_order numbers (record { parent = parent; segment = segment }) ≡ number_below paths parent (segment.bytes ∷ [])
+
+-- what the map of numbers and the steps hold of the paths that they make
+pub record Numbers (numbers : BTreeMap Step ℕ) (steps : List Step) (paths : List Path) : Type 0 where
+  pub leads : LeadTo steps paths
+  pub distinct : AreDistinct paths
+  pub known : HasStepNumbers numbers paths
+
+abbrev pub AreNumbered : BTreeMap Step ℕ → List Step → Type 0
+AreNumbered numbers steps = Numbers numbers steps (paths_of steps)
