@@ -32,6 +32,13 @@ first_from path paths (s ∷ steps) = first_from path (paths ++ path_of (path �
 pub root_first : (steps : List Step) → slice_get (paths_of steps) 0 ≡ Some root
 root_first steps = first_from root [] steps
 
+-- a number but the root's is that of the path to which the step before it leads
+pub last_step_leads : (steps : List Step) (paths : List Path) (number : ℕ) (step : Step) → LeadTo steps paths → 0 < number → slice_get steps (number - 1) ≡ Some step → (slice_get paths number ≡ Some (path_of paths step)) × (step.parent < number)
+last_step_leads steps paths number step leads below_root is =
+    let led = leads (number - 1) step is in
+    let next : suc (number - 1) ≡ number = omega arith in
+    (sym (ap (slice_get paths) next) ∙ led.1, omega (arith, led.0))
+
 module _ (steps : List Step) (paths : List Path) (count : length paths ≡ suc (length steps)) (first : slice_get paths 0 ≡ Some root) (leads : LeadTo steps paths) where
   -- what a path begins with stands at its number or before
   abbrev Begun : ℕ → Path → ℕ → Type 0

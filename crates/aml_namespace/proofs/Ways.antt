@@ -1,11 +1,12 @@
 -- From path to path, down by segments and up by carets.
-use Rattle.std.proofs.Common.{◌≡◌, ℕ, zero, suc, ◌+◌, ◌-◌, ◌<◌, ◌≤◌, ◌⊎◌, inl, inr, List, [], ◌∷◌, ◌++◌, length, take, get_or, slice_get, Option, Some, None, cond, refl, sym, ap, ◌∙◌, arith, append_assoc, option_and_then, leb}
+use Rattle.std.proofs.Common.{◌≡◌, ℕ, zero, suc, ◌+◌, ◌-◌, ◌<◌, ◌≤◌, ◌⊎◌, inl, inr, List, [], ◌∷◌, ◌++◌, length, take, drop, get_or, slice_get, Option, Some, None, cond, refl, sym, ap, ◌∙◌, arith, append_assoc, option_and_then, leb}
 use Rattle.std.proofs.lemmas.Bool.{cond-true, cond-false, le-leb, lt-leb, cases_lt}
 use Rattle.std.proofs.lemmas.List.{take-append-le, take_all, length_push}
 use Rattle.std.proofs.lemmas.Option.{none-some}
 use Rattle.aml_namespace.specs.declared.paths.Step.{Step}
 use Rattle.aml_namespace.specs.Paths.{Path, root, path_at, path_number, number_below, path_above, number_above, AreDistinct, AreClosed}
 use Rattle.aml_namespace.specs.Trie.{path_of}
+use Rattle.aml_namespace.proofs.Positions.{drop_from}
 use Rattle.aml_namespace.proofs.PathNumbers.{path_at_there, path_at_is, path_number_there, path_number_within, no_longer_path}
 
 module _ (paths : List Path) (distinct : AreDistinct paths) where
@@ -26,6 +27,10 @@ module _ (paths : List Path) (distinct : AreDistinct paths) where
   pub number_below_within : (at : ℕ) (segments : Path) (n : ℕ) → number_below paths at segments ≡ Some n → n < length paths
   number_below_within at segments n is = below_there segments n (slice_get paths at) is
 
+  -- the next of some segments down, and then those that are left
+  pub number_below_next : (at : ℕ) (segments : Path) (i : ℕ) (segment : List ℕ) (n : ℕ) → slice_get segments i ≡ Some segment → number_below paths at (segment ∷ []) ≡ Some n → number_below paths at (drop i segments) ≡ number_below paths n (drop (i + 1) segments)
+  number_below_next at segments i segment n is down = ap (number_below paths at) (drop_from segments i segment is) ∙ number_below_more at segment (drop (i + 1) segments) n down
+
   module _ (closed : AreClosed paths) where
     missing : (segment : List ℕ) (rest : Path) (o : Option Path) → option_and_then (λ (p : Path). path_number paths (p ++ segment ∷ [])) o ≡ None → option_and_then (λ (p : Path). path_number paths (p ++ segment ∷ rest)) o ≡ None
     missing segment rest None is = refl
@@ -35,6 +40,10 @@ module _ (paths : List Path) (distinct : AreDistinct paths) where
     -- where the first segment is missing, the rest is
     pub number_below_missing : (at : ℕ) (segment : List ℕ) (rest : Path) → number_below paths at (segment ∷ []) ≡ None → number_below paths at (segment ∷ rest) ≡ None
     number_below_missing at segment rest none = missing segment rest (slice_get paths at) none
+
+    -- where the next of some segments is missing, those that are left are
+    pub number_below_no_next : (at : ℕ) (segments : Path) (i : ℕ) (segment : List ℕ) → slice_get segments i ≡ Some segment → number_below paths at (segment ∷ []) ≡ None → number_below paths at (drop i segments) ≡ None
+    number_below_no_next at segments i segment is none = ap (number_below paths at) (drop_from segments i segment is) ∙ number_below_missing at segment (drop (i + 1) segments) none
 
 -- nothing is above the root
 path_above-root : (carets : ℕ) → 0 < carets → path_above carets root ≡ None

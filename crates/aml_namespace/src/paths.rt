@@ -1,10 +1,11 @@
 // Absolute paths, each under a number (ACPI 6.5, 5.3).
 
-ghost use Rattle.std.specs.Prelude.{◌≡◌, ◌<◌, ◌++◌, ◌∷◌, [], length, None, OnOk, OnErr, IfOk};
-ghost use Rattle.aml_namespace.specs.Paths.{root, path_at, number_below};
-ghost use Rattle.aml_namespace.specs.Trie.{AreNumbered};
+ghost use Rattle.std.specs.Prelude.{◌≡◌, ◌<◌, ◌++◌, ◌∷◌, [], length, slice_get, Some, None, OnOk, OnErr, IfOk};
+ghost use Rattle.aml_lex.specs.Names.{name_of};
+ghost use Rattle.aml_namespace.specs.Paths.{root, path_at, number_above, number_below};
+ghost use Rattle.aml_namespace.specs.Trie.{AreNumbered, path_of};
 
-use aml_lex::NameSeg;
+use aml_lex::{NameRef, NameSeg};
 use std::alloc::{AllocError, Global};
 use std::collections::BTreeMap;
 
@@ -30,7 +31,7 @@ pub(crate) struct Paths {
 }
 
 impl Paths {
-    ghost use Rattle.aml_namespace.specs.Steps.{paths_seen};
+    ghost use Rattle.aml_namespace.specs.Steps.{path_seen, paths_seen};
 
     /// The root alone.
     pub(crate) fn new(alloc: Global) -> Paths
@@ -58,6 +59,63 @@ impl Paths {
             segment,
         };
         self.numbers.get(&step).copied()
+    }
+
+    /// The number of the path of a name's segments below the path with this number.
+    pub(crate) fn below(&self, at: usize, name: &NameRef<'_>) -> Option<usize>
+        requires { at < length (paths_seen self.now) }
+        ensures { result ≡ number_below (paths_seen self.now) at (name_of name.now).segs }
+    {
+        let mut number = at;
+        for i in 0..name.segs() {
+            number = self.child(number, name.seg(i))?;
+        }
+        Some(number)
+    }
+
+    /// The last step to the path with this number, which is not the root.
+    fn last_step(&self, number: usize) -> Step
+        requires below_root { 0 < number }
+        requires there { number < length (paths_seen self.now) }
+        ensures leads { let paths = paths_seen self.now in
+            slice_get paths number ≡ Some (path_of paths result) }
+        ensures earlier { result.parent < number }
+    {
+        self.steps[number - 1]
+    }
+
+    /// The number of the path so many segments above the path with this number, None above the root.
+    pub(crate) fn above(&self, at: usize, carets: usize) -> Option<usize>
+        requires { at < length (paths_seen self.now) }
+        ensures { result ≡ number_above (paths_seen self.now) at carets }
+    {
+        let mut number = at;
+        let mut left = carets;
+        while left > 0 {
+            if number == 0 {
+                return None;
+            }
+            number = self.last_step(number).parent;
+            left -= 1;
+        }
+        Some(number)
+    }
+
+    /// The path with this number, its segments from the root on.
+    pub(crate) fn path(&self, alloc: Global, at: usize) -> Result<Vec<NameSeg>, AllocError>
+        requires { at < length (paths_seen self.now) }
+        ensures { IfOk result (λ segments.
+            slice_get (paths_seen self.now) at ≡ Some (path_seen segments.items)) }
+    {
+        let mut segments = Vec::new(alloc);
+        let mut number = at;
+        while number > 0 {
+            let step = self.last_step(number);
+            segments.push(step.segment)?;
+            number = step.parent;
+        }
+        segments.reverse();
+        Ok(segments)
     }
 
     /// Adds the path that is one segment below the path with this number, and answers its number.
