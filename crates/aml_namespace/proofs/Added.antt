@@ -1,5 +1,5 @@
 -- One more path, a segment below another.
-use Rattle.std.proofs.Common.{◌≡◌, ℕ, zero, suc, ◌+◌, ◌<◌, ◌≤◌, ◌⊎◌, inl, inr, List, [], ◌∷◌, ◌++◌, length, get_or, slice_get, Option, Some, None, Bool, true, false, cond, refl, sym, ap, ◌∙◌, subst, arith, option_and_then}
+use Rattle.std.proofs.Common.{◌≡◌, ℕ, suc, ◌<◌, ◌≤◌, ◌⊎◌, inl, inr, List, [], ◌∷◌, ◌++◌, length, get_or, slice_get, Option, Some, None, Bool, true, false, cond, refl, sym, ap, ◌∙◌, subst, arith, option_and_then}
 use Rattle.std.specs.declared.cmp.Ordering.{Ordering}
 use Rattle.std.specs.declared.cmp.Ordering.TheVariants.{Less, Equal, Greater}
 use Rattle.std.specs.Ordering.{nat_cmp, ordering_then, is_eq}
@@ -11,18 +11,13 @@ use Rattle.std.proofs.lemmas.Cmp.{tied_itself, nat_cmp_total, nat_list_cmp_total
 use Rattle.std.proofs.lemmas.List.{length_push, same_from_push}
 use Rattle.std.proofs.lemmas.Option.{none-some, slice_get_within, slice_get_cases}
 use Rattle.std.specs.Cmp.Lexicographic.{bytes_decides, texts_ties}
-use Rattle.aml_lex.specs.declared.names.NameSeg.{NameSeg}
 use Rattle.aml_tree.specs.Owns.{segment_order}
 use Rattle.aml_namespace.specs.declared.paths.Step.{Step}
-use Rattle.aml_namespace.specs.Paths.{Path, root, same_path, path_at, path_number, number_below, AreDistinct, AreClosed}
+use Rattle.aml_namespace.specs.Paths.{Path, same_path, path_at, path_number, number_below, AreDistinct, AreClosed}
 use Rattle.aml_namespace.specs.Trie.{step_order, path_of, paths_of, LeadTo, HasStepNumbers, Numbers, AreNumbered}
-use Rattle.aml_namespace.proofs.Positions.{slice_get_left, slice_get_last, slice_get_push, position_stays, position_new, position_other}
-use Rattle.aml_namespace.proofs.PathNumbers.{path_at_there, path_at_is, path_decides, path_nowhere, path_once, no_longer_path}
+use Rattle.aml_namespace.proofs.Positions.{slice_get_left, slice_get_last, slice_get_push}
+use Rattle.aml_namespace.proofs.PathNumbers.{path_at_there, path_at_is, number_below_at, path_number_stays, path_number_new, path_number_other, path_once, no_longer_path}
 use Rattle.aml_namespace.proofs.Tries.{paths_push, length-paths_of, root_first, paths_closed}
-
--- the test of two segments, and of two paths
-different_paths : (p q : Path) → (p ≡ q → ⊥) → same_path p q ≡ false
-different_paths p q apart = false_from_ne_true (same_path p q) (λ e. apart ((path_decides p q).0 e))
 
 -- two steps that are equal in the order are the same
 nat_tied : (a b : ℕ) → is_eq (nat_cmp a b) ≡ true → a ≡ b
@@ -43,9 +38,6 @@ same_step s t e =
 itself : (s : Step) → is_at (step_order s) s ≡ true
 itself s = ap is_eq (ap (λ (o : Ordering). ordering_then o (segment_order s.segment s.segment)) (tied_itself nat_cmp_total s.parent) ∙ tied_itself nat_list_cmp_total s.segment.bytes)
 
-below_at : (paths : List Path) (at : ℕ) (path segments : Path) → slice_get paths at ≡ Some path → number_below paths at segments ≡ path_number paths (path ++ segments)
-below_at paths at path segments is = ap (option_and_then (λ (p : Path). path_number paths (p ++ segments))) is
-
 below_past : (paths : List Path) (at : ℕ) (segments : Path) → slice_get paths at ≡ None → number_below paths at segments ≡ None
 below_past paths at segments is = ap (option_and_then (λ (p : Path). path_number paths (p ++ segments))) is
 
@@ -54,9 +46,8 @@ module _ (paths : List Path) (distinct : AreDistinct paths) (step : Step) (there
   more = paths ++ path_of paths step ∷ []
 
   distinct_of : (i : ℕ) (path : Path) → (slice_get paths i ≡ Some path) ⊎ ((i ≡ length paths) × (path ≡ path_of paths step)) → path_number more path ≡ Some i
-  distinct_of i path (inl is) = position_stays (same_path path) paths (path_of paths step) i (distinct i path is)
-  distinct_of i path (inr last) =
-      position_new (same_path path) paths (path_of paths step) (ap (path_number paths) last.1 ∙ new) ((path_decides path (path_of paths step)).1 last.1) ∙ ap Some (sym last.0)
+  distinct_of i path (inl is) = path_number_stays paths (path_of paths step) path i (distinct i path is)
+  distinct_of i path (inr last) = ap (path_number more) last.1 ∙ path_number_new paths (path_of paths step) new ∙ ap Some (sym last.0)
 
   distinct_push : AreDistinct more
   distinct_push i path is = distinct_of i path (slice_get_push paths (path_of paths step) i path is)
@@ -96,9 +87,8 @@ module _ (paths : List Path) (distinct : AreDistinct paths) (step : Step) (there
     past_of : (at : ℕ) (segment : List ℕ) (path : Path) → slice_get more at ≡ Some path → slice_get paths at ≡ None → (slice_get paths at ≡ Some path) ⊎ ((at ≡ length paths) × (path ≡ path_of paths step)) → number_below more at (segment ∷ []) ≡ None
     past_of at segment path is none (inl old) = absurd (none-some path (sym none ∙ old))
     past_of at segment path is none (inr last) =
-        let longer = path_of paths step ++ segment ∷ [] in
-        below_at more at path (segment ∷ []) is ∙ ap (λ (p : Path). path_number more (p ++ segment ∷ [])) last.1
-        ∙ position_other (same_path longer) paths (path_of paths step) (different_paths longer (path_of paths step) (longer_apart (path_of paths step) segment))
+        number_below_at more at path (segment ∷ []) is ∙ ap (λ (p : Path). path_number more (p ++ segment ∷ [])) last.1
+        ∙ path_number_other paths (path_of paths step) (path_of paths step ++ segment ∷ []) (longer_apart (path_of paths step) segment)
         ∙ no_longer_path paths distinct closed (path_of paths step) (segment ∷ []) new
 
     past : (at : ℕ) (segment : List ℕ) → slice_get paths at ≡ None → Place more at → number_below more at (segment ∷ []) ≡ None
@@ -108,17 +98,16 @@ module _ (paths : List Path) (distinct : AreDistinct paths) (step : Step) (there
     -- each other step leads where it led
     others_stay : (s : Step) → is_at (step_order step) s ≡ false → Place paths s.parent → number_below more s.parent (s.segment.bytes ∷ []) ≡ number_below paths s.parent (s.segment.bytes ∷ [])
     others_stay s apart (inl p) =
-        let path = p.0 ++ s.segment.bytes ∷ [] in
-        below_at more s.parent p.0 (s.segment.bytes ∷ []) (slice_get_left paths (path_of paths step ∷ []) s.parent p.0 p.2)
-        ∙ position_other (same_path path) paths (path_of paths step) (different_paths path (path_of paths step) (λ e. both_ways (is_at (step_order step) s) apart (one_parent s p.0 p.2 e)))
-        ∙ sym (below_at paths s.parent p.0 (s.segment.bytes ∷ []) p.2)
+        number_below_at more s.parent p.0 (s.segment.bytes ∷ []) (slice_get_left paths (path_of paths step ∷ []) s.parent p.0 p.2)
+        ∙ path_number_other paths (path_of paths step) (p.0 ++ s.segment.bytes ∷ []) (λ e. both_ways (is_at (step_order step) s) apart (one_parent s p.0 p.2 e))
+        ∙ sym (number_below_at paths s.parent p.0 (s.segment.bytes ∷ []) p.2)
     others_stay s apart (inr p) = past s.parent s.segment.bytes p.1 (slice_get_cases more s.parent).1 ∙ sym (below_past paths s.parent (s.segment.bytes ∷ []) p.1)
 
     new_number : number_below more step.parent (step.segment.bytes ∷ []) ≡ Some (length paths)
     new_number =
         let parent = path_at paths step.parent in
-        below_at more step.parent parent (step.segment.bytes ∷ []) (slice_get_left paths (path_of paths step ∷ []) step.parent parent (path_at_there paths step.parent there))
-        ∙ position_new (same_path (path_of paths step)) paths (path_of paths step) new ((path_decides (path_of paths step) (path_of paths step)).1 refl)
+        number_below_at more step.parent parent (step.segment.bytes ∷ []) (slice_get_left paths (path_of paths step ∷ []) step.parent parent (path_at_there paths step.parent there))
+        ∙ path_number_new paths (path_of paths step) new
 
     known_of : (old : Option ℕ) (s : Step) → old ≡ number_below paths s.parent (s.segment.bytes ∷ []) → (b : Bool) → is_at (step_order step) s ≡ b → cond b (Some (length paths)) old ≡ number_below more s.parent (s.segment.bytes ∷ [])
     known_of old s known true is = sym (ap (λ (x : Step). number_below more x.parent (x.segment.bytes ∷ [])) (sym (same_step step s is)) ∙ new_number)
@@ -145,7 +134,7 @@ AreNumbered-push old new steps step number next held there none updates =
     let count = length-paths_of steps in
     let closed = paths_closed steps paths count (root_first steps) held.leads in
     let parent = path_at paths step.parent in
-    let absent : path_number paths (path_of paths step) ≡ None = sym (below_at paths step.parent parent (step.segment.bytes ∷ []) (path_at_there paths step.parent there)) ∙ none in
+    let absent : path_number paths (path_of paths step) ≡ None = sym (number_below_at paths step.parent parent (step.segment.bytes ∷ []) (path_at_there paths step.parent there)) ∙ none in
     let at_end = subst (λ (n : ℕ). Updates step_order old new step (Some n)) next updates in
     let after : Numbers new (steps ++ step ∷ []) (paths ++ path_of paths step ∷ []) = record {
       leads = leads_push paths held.distinct step there absent steps count held.leads;

@@ -7,4 +7,5 @@ pub mod PathNumbers
 pub mod Tries
 pub mod Added
 pub mod Ways
+pub mod Scopes
 pub mod Seen

@@ -1,6 +1,6 @@
 -- Places in a list with one more element.
-use Rattle.std.proofs.Common.{◌≡◌, ℕ, zero, suc, ◌+◌, ◌<◌, ◌≤◌, ◌⊎◌, inl, inr, List, [], ◌∷◌, ◌++◌, length, drop, slice_get, Option, Some, None, Bool, true, false, refl, ap, ◌∙◌, arith, length-append}
-use Rattle.std.specs.Prelude.{position, not}
+use Rattle.std.proofs.Common.{◌≡◌, ℕ, zero, suc, ◌+◌, ◌⊎◌, inl, inr, List, [], ◌∷◌, ◌++◌, length, drop, slice_get, Some, None, Bool, true, false, refl, ap, ◌∙◌, arith}
+use Rattle.std.specs.Prelude.{position, not, option_map}
 use Rattle.std.proofs.lemmas.Bool.Decides.{nat_tests}
 use Rattle.std.proofs.lemmas.List.{drop_more, length_push}
 use Rattle.std.proofs.lemmas.List.Folds.{position_or_len_push}
@@ -38,6 +38,9 @@ module _ {X : Type 0} where
 
   pub position_other : (p : X → Bool) (xs : List X) (y : X) → p y ≡ false → position p (xs ++ y ∷ []) ≡ position p xs
   position_other p xs y fails = grind (arith, nat_tests, position_or_len_push p xs y, length_push xs y)
+
+  pub position_behind : (p : X → Bool) (x : X) (xs : List X) → p x ≡ false → position p (x ∷ xs) ≡ option_map suc (position p xs)
+  position_behind p x xs fails = grind (arith, nat_tests, fails)
 
   -- what is left of a list from a place on
   pub drop_from : (xs : List X) (i : ℕ) (x : X) → slice_get xs i ≡ Some x → drop i xs ≡ x ∷ drop (i + 1) xs

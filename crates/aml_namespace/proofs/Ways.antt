@@ -1,5 +1,5 @@
 -- From path to path, down by segments and up by carets.
-use Rattle.std.proofs.Common.{◌≡◌, ℕ, zero, suc, ◌+◌, ◌-◌, ◌<◌, ◌≤◌, ◌⊎◌, inl, inr, List, [], ◌∷◌, ◌++◌, length, take, drop, get_or, slice_get, Option, Some, None, cond, refl, sym, ap, ◌∙◌, arith, append_assoc, option_and_then, leb}
+use Rattle.std.proofs.Common.{◌≡◌, ℕ, suc, ◌+◌, ◌-◌, ◌<◌, ◌≤◌, ◌⊎◌, inl, inr, List, [], ◌∷◌, ◌++◌, length, take, drop, slice_get, Option, Some, None, refl, sym, ap, ◌∙◌, arith, append_assoc, option_and_then, leb}
 use Rattle.std.proofs.lemmas.Bool.{cond-true, cond-false, le-leb, lt-leb, cases_lt}
 use Rattle.std.proofs.lemmas.List.{take-append-le, take_all, length_push}
 use Rattle.std.proofs.lemmas.Option.{none-some}
@@ -7,7 +7,7 @@ use Rattle.aml_namespace.specs.declared.paths.Step.{Step}
 use Rattle.aml_namespace.specs.Paths.{Path, root, path_at, path_number, number_below, path_above, number_above, AreDistinct, AreClosed}
 use Rattle.aml_namespace.specs.Trie.{path_of}
 use Rattle.aml_namespace.proofs.Positions.{drop_from}
-use Rattle.aml_namespace.proofs.PathNumbers.{path_at_there, path_at_is, path_number_there, path_number_within, no_longer_path}
+use Rattle.aml_namespace.proofs.PathNumbers.{path_at_there, number_above_at, path_number_there, path_number_within, no_longer_path}
 
 module _ (paths : List Path) (distinct : AreDistinct paths) where
   found : (segment : List ℕ) (rest : Path) (n : ℕ) (o : Option Path) → option_and_then (λ (p : Path). path_number paths (p ++ segment ∷ [])) o ≡ Some n → option_and_then (λ (p : Path). path_number paths (p ++ segment ∷ rest)) o ≡ number_below paths n rest
@@ -69,25 +69,19 @@ above_child path segment carets less next (inr within) =
 
 module _ (paths : List Path) where
   pub number_above_root : (carets : ℕ) → slice_get paths 0 ≡ Some root → 0 < carets → number_above paths 0 carets ≡ None
-  number_above_root carets first some =
-      ap (λ (o : Option Path). option_and_then (path_number paths) (option_and_then (path_above carets) o)) first ∙ ap (option_and_then (path_number paths)) (path_above-root carets some)
+  number_above_root carets first some = number_above_at paths 0 root carets first ∙ ap (option_and_then (path_number paths)) (path_above-root carets some)
 
   -- one caret up, and then the others
   pub number_above_more : (at : ℕ) (step : Step) (carets less : ℕ) → slice_get paths at ≡ Some (path_of paths step) → step.parent < length paths → carets ≡ suc less → number_above paths at carets ≡ number_above paths step.parent less
   number_above_more at step carets less is there next =
       let parent = path_at paths step.parent in
-      ap (λ (o : Option Path). option_and_then (path_number paths) (option_and_then (path_above carets) o)) is
+      number_above_at paths at (path_of paths step) carets is
       ∙ ap (option_and_then (path_number paths)) (above_child parent step.segment.bytes carets less next (cases_lt (length parent) less))
-      ∙ sym (ap (λ (o : Option Path). option_and_then (path_number paths) (option_and_then (path_above less) o)) (path_at_there paths step.parent there))
+      ∙ sym (number_above_at paths step.parent parent less (path_at_there paths step.parent there))
 
   -- no caret leads to the path itself
   pub number_above_itself : AreDistinct paths → (at : ℕ) → at < length paths → number_above paths at 0 ≡ Some at
   number_above_itself distinct at there =
       let path = path_at paths at in
       let is = path_at_there paths at there in
-      ap (λ (o : Option Path). option_and_then (path_number paths) (option_and_then (path_above 0) o)) is ∙ ap (option_and_then (path_number paths)) (path_above-none path) ∙ distinct at path is
-
-  -- one step back in a path, of which the segments behind are known
-  pub path_more : (at number : ℕ) (step : Step) (behind : Path) → slice_get paths number ≡ Some (path_of paths step) → slice_get paths at ≡ Some (path_at paths number ++ behind) → slice_get paths at ≡ Some (path_at paths step.parent ++ step.segment.bytes ∷ behind)
-  path_more at number step behind is so_far =
-      so_far ∙ ap Some (ap (λ (p : Path). p ++ behind) (path_at_is paths number (path_of paths step) is) ∙ append_assoc (path_at paths step.parent) (step.segment.bytes ∷ []) behind)
+      number_above_at paths at path 0 is ∙ ap (option_and_then (path_number paths)) (path_above-none path) ∙ distinct at path is

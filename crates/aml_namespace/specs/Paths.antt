@@ -1,5 +1,5 @@
 -- Absolute paths and their numbers (ACPI 6.5, 5.3): a path is the segments from the root on, of four bytes each.
-use Rattle.std.specs.Prelude.{◌≡◌, ◌≤◌, ◌<◌, ◌-◌, ℕ, zero, suc, List, [], ◌∷◌, ◌++◌, length, take, slice_get, position, nat_le, nat_eq, Option, Some, None, option_and_then, Bool, if◌then◌else◌, unwrap_or}
+use Rattle.std.specs.Prelude.{◌≡◌, ◌≤◌, ◌-◌, ℕ, List, [], ◌++◌, length, take, slice_get, position, nat_le, nat_eq, Option, Some, None, option_and_then, Bool, if◌then◌else◌, unwrap_or}
 use Rattle.std.specs.Cmp.Lexicographic.{pointwise}
 
 abbrev pub Path : Type 0

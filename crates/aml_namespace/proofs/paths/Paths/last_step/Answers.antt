@@ -1,4 +1,4 @@
-use Rattle.std.proofs.Common.{◌≡◌, ◌-◌, slice_get, Some, arith}
+use Rattle.std.proofs.Common.{◌-◌, arith}
 use Rattle.std.proofs.lemmas.Option.{slice_get_read}
 use Rattle.aml_namespace.specs.Steps.{paths_seen}
 use Rattle.aml_namespace.proofs.Tries.{length-paths_of, last_step_leads}
