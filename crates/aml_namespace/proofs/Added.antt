@@ -14,7 +14,7 @@ use Rattle.std.specs.Cmp.Lexicographic.{bytes_decides, texts_ties}
 use Rattle.aml_tree.specs.Owns.{segment_order}
 use Rattle.aml_namespace.specs.declared.paths.Step.{Step}
 use Rattle.aml_namespace.specs.Paths.{Path, same_path, path_at, path_number, number_below, AreDistinct, AreClosed}
-use Rattle.aml_namespace.specs.Trie.{step_order, path_of, paths_of, LeadTo, HasStepNumbers, Numbers, AreNumbered}
+use Rattle.aml_namespace.specs.Trie.{step_order, path_of, paths_of, LeadTo, HasStepNumbers, IsTrie, AreNumbered}
 use Rattle.aml_namespace.proofs.Positions.{slice_get_left, slice_get_last, slice_get_push}
 use Rattle.aml_namespace.proofs.PathNumbers.{path_at_there, path_at_is, number_below_at, path_number_stays, path_number_new, path_number_other, path_once, no_longer_path}
 use Rattle.aml_namespace.proofs.Tries.{paths_push, length-paths_of, root_first, paths_closed}
@@ -136,9 +136,9 @@ AreNumbered-push old new steps step number next held there none updates =
     let parent = path_at paths step.parent in
     let absent : path_number paths (path_of paths step) ≡ None = sym (number_below_at paths step.parent parent (step.segment.bytes ∷ []) (path_at_there paths step.parent there)) ∙ none in
     let at_end = subst (λ (n : ℕ). Updates step_order old new step (Some n)) next updates in
-    let after : Numbers new (steps ++ step ∷ []) (paths ++ path_of paths step ∷ []) = record {
+    let after : IsTrie new (steps ++ step ∷ []) (paths ++ path_of paths step ∷ []) = record {
       leads = leads_push paths held.distinct step there absent steps count held.leads;
       distinct = distinct_push paths held.distinct step there absent;
       known = known_push paths held.distinct step there absent closed old new held.known at_end;
     } in
-    subst (λ (ps : List Path). Numbers new (steps ++ step ∷ []) ps) (sym (paths_push steps step)) after
+    subst (λ (ps : List Path). IsTrie new (steps ++ step ∷ []) ps) (sym (paths_push steps step)) after

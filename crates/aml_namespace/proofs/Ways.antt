@@ -45,31 +45,31 @@ module _ (paths : List Path) (distinct : AreDistinct paths) where
     pub number_below_no_next : (at : ℕ) (segments : Path) (i : ℕ) (segment : List ℕ) → slice_get segments i ≡ Some segment → number_below paths at (segment ∷ []) ≡ None → number_below paths at (drop i segments) ≡ None
     number_below_no_next at segments i segment is none = ap (number_below paths at) (drop_from segments i segment is) ∙ number_below_missing at segment (drop (i + 1) segments) none
 
--- nothing is above the root
-path_above-root : (carets : ℕ) → 0 < carets → path_above carets root ≡ None
-path_above-root carets some = cond-false (leb carets 0) (Some (take (0 - carets) root)) None (lt-leb carets 0 some)
+-- a path above, and none above the root
+pub path_above_within : (carets : ℕ) (path : Path) → carets ≤ length path → path_above carets path ≡ Some (take (length path - carets) path)
+path_above_within carets path within = cond-true (leb carets (length path)) (Some (take (length path - carets) path)) None (le-leb carets (length path) within)
+
+pub path_above_past : (carets : ℕ) (path : Path) → length path < carets → path_above carets path ≡ None
+path_above_past carets path past = cond-false (leb carets (length path)) (Some (take (length path - carets) path)) None (lt-leb carets (length path) past)
 
 path_above-none : (path : Path) → path_above 0 path ≡ Some path
-path_above-none path =
-    cond-true (leb 0 (length path)) (Some (take (length path - 0) path)) None (le-leb 0 (length path) (omega arith)) ∙ ap Some (take_all (length path - 0) path (omega arith))
+path_above-none path = path_above_within 0 path (omega arith) ∙ ap Some (take_all (length path - 0) path (omega arith))
 
 above_child : (path : Path) (segment : List ℕ) (carets less : ℕ) → carets ≡ suc less → (length path < less) ⊎ (less ≤ length path) → path_above carets (path ++ segment ∷ []) ≡ path_above less path
 above_child path segment carets less next (inl past) =
-    let longer = path ++ segment ∷ [] in
-    let long : length longer < carets = omega (arith, length_push path segment, next, past) in
-    cond-false (leb carets (length longer)) (Some (take (length longer - carets) longer)) None (lt-leb carets (length longer) long)
-    ∙ sym (cond-false (leb less (length path)) (Some (take (length path - less) path)) None (lt-leb less (length path) past))
+    let long : length (path ++ segment ∷ []) < carets = omega (arith, length_push path segment, next, past) in
+    path_above_past carets (path ++ segment ∷ []) long ∙ sym (path_above_past less path past)
 above_child path segment carets less next (inr within) =
     let longer = path ++ segment ∷ [] in
     let long : carets ≤ length longer = omega (arith, length_push path segment, next, within) in
     let left : length longer - carets ≡ length path - less = omega (arith, length_push path segment, next, within) in
-    cond-true (leb carets (length longer)) (Some (take (length longer - carets) longer)) None (le-leb carets (length longer) long)
+    path_above_within carets longer long
     ∙ ap Some (ap (λ (n : ℕ). take n longer) left ∙ take-append-le (length path - less) path (segment ∷ []) (omega arith))
-    ∙ sym (cond-true (leb less (length path)) (Some (take (length path - less) path)) None (le-leb less (length path) within))
+    ∙ sym (path_above_within less path within)
 
 module _ (paths : List Path) where
   pub number_above_root : (carets : ℕ) → slice_get paths 0 ≡ Some root → 0 < carets → number_above paths 0 carets ≡ None
-  number_above_root carets first some = number_above_at paths 0 root carets first ∙ ap (option_and_then (path_number paths)) (path_above-root carets some)
+  number_above_root carets first some = number_above_at paths 0 root carets first ∙ ap (option_and_then (path_number paths)) (path_above_past carets root some)
 
   -- one caret up, and then the others
   pub number_above_more : (at : ℕ) (step : Step) (carets less : ℕ) → slice_get paths at ≡ Some (path_of paths step) → step.parent < length paths → carets ≡ suc less → number_above paths at carets ≡ number_above paths step.parent less

@@ -33,10 +33,10 @@ abbrev pub HasStepNumbers : BTreeMap Step ℕ → List Path → Type 0
 HasStepNumbers numbers paths = (parent : ℕ) (segment : NameSeg) → get step_order numbers (record { parent = parent; segment = segment }) ≡ number_below paths parent (segment.bytes ∷ [])
 
 -- what the map of numbers and the steps hold of the paths that they make
-pub record Numbers (numbers : BTreeMap Step ℕ) (steps : List Step) (paths : List Path) : Type 0 where
+pub record IsTrie (numbers : BTreeMap Step ℕ) (steps : List Step) (paths : List Path) : Type 0 where
   pub leads : LeadTo steps paths
   pub distinct : AreDistinct paths
   pub known : HasStepNumbers numbers paths
 
 abbrev pub AreNumbered : BTreeMap Step ℕ → List Step → Type 0
-AreNumbered numbers steps = Numbers numbers steps (paths_of steps)
+AreNumbered numbers steps = IsTrie numbers steps (paths_of steps)

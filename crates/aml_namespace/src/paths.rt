@@ -17,9 +17,9 @@ pub(crate) struct Step {
     segment: NameSeg,
 }
 
-/// Absolute paths, each under a number: the root's is 0. With a path stand all that begin it, and of
-/// each only its last step is kept, so that a path of thousands of segments is not stored whole once
-/// for each name below it.
+/// Absolute paths, each under a number: the root's is 0. With a path stand all that begin it, and
+/// only the last step of each is kept, so that a path of thousands of segments is not stored whole
+/// once for each name below it.
 #[derive(Drop)]
 pub(crate) struct Paths {
     /// Of the paths but the root, in the order of their numbers.
@@ -84,7 +84,8 @@ impl Paths {
         self.steps[number - 1]
     }
 
-    /// The number of the path so many segments above the path with this number, None above the root.
+    /// The number of the path so many segments above the path with this number. Above the root is
+    /// none, so that the loop is no longer than the path, however many carets a name has.
     pub(crate) fn above(&self, at: usize, carets: usize) -> Option<usize>
         requires { at < length (paths_seen self.now) }
         ensures { result ≡ number_above (paths_seen self.now) at carets }
