@@ -5,7 +5,7 @@ use Rattle.std.specs.declared.cmp.Ordering.TheVariants.{Less, Equal, Greater}
 use Rattle.std.specs.Ordering.{nat_cmp, ordering_then, is_eq}
 use Rattle.std.specs.Map.{lookup}
 use Rattle.std.specs.BTreeMap.{BTreeMap, get, is_at, Updates}
-use Rattle.std.proofs.lemmas.Bool.{both_ways, false_from_ne_true}
+use Rattle.std.proofs.lemmas.Bool.{both_ways}
 use Rattle.std.proofs.lemmas.Bool.Decides.{nat_tests}
 use Rattle.std.proofs.lemmas.Cmp.{tied_itself, nat_cmp_total, nat_list_cmp_total}
 use Rattle.std.proofs.lemmas.List.{length_push, same_from_push}
@@ -13,7 +13,7 @@ use Rattle.std.proofs.lemmas.Option.{none-some, slice_get_within, slice_get_case
 use Rattle.std.specs.Cmp.Lexicographic.{bytes_decides, texts_ties}
 use Rattle.aml_tree.specs.Owns.{segment_order}
 use Rattle.aml_namespace.specs.declared.paths.Step.{Step}
-use Rattle.aml_namespace.specs.Paths.{Path, same_path, path_at, path_number, number_below, AreDistinct, AreClosed}
+use Rattle.aml_namespace.specs.Paths.{Path, path_at, path_number, number_below, AreDistinct, AreClosed}
 use Rattle.aml_namespace.specs.Trie.{step_order, path_of, paths_of, LeadTo, HasStepNumbers, IsTrie, AreNumbered}
 use Rattle.aml_namespace.proofs.Positions.{slice_get_left, slice_get_last, slice_get_push}
 use Rattle.aml_namespace.proofs.PathNumbers.{path_at_there, path_at_is, number_below_at, path_number_stays, path_number_new, path_number_other, path_once, no_longer_path}
