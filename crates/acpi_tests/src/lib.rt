@@ -5,13 +5,9 @@
 #[cfg(test)]
 mod kinds;
 #[cfg(test)]
-mod lexing;
-#[cfg(test)]
 mod meaning;
 #[cfg(test)]
 mod namespace;
-#[cfg(test)]
-mod operators;
 #[cfg(test)]
 mod plain;
 #[cfg(test)]
@@ -20,5 +16,3 @@ mod regions;
 mod sums;
 #[cfg(test)]
 mod tables;
-#[cfg(test)]
-mod tree;

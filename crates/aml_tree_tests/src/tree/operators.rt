@@ -3,7 +3,7 @@
 
 use super::body_of;
 use aml_tree::{Op, Refusal, TreeCause, TreeFault};
-use std::alloc::Global;
+use std::alloc::{AllocError, Global};
 use std::process::Abort;
 use std::test::Fail;
 
@@ -11,7 +11,7 @@ use std::test::Fail;
 type Row = (&'static [u8], Op, usize);
 
 /// Each row's bytes are one term and nothing else.
-fn terms(rt: &impl Abort, alloc: Global, rows: &[Row]) -> Result<(), Fail> {
+fn terms(rt: &impl Abort, alloc: Global, rows: &[Row]) -> Result<(), TreeFault> {
     for (bytes, op, parts) in rows {
         let statements = body_of(alloc, bytes)?;
         let found = match statements.as_slice() {
@@ -61,7 +61,8 @@ fn literals_and_variables(rt: HostRuntime) -> Result<(), Fail> {
             (&[0x6D], Op::Arg5, 0),
             (&[0x6E], Op::Arg6, 0),
         ],
-    )
+    )?;
+    Ok(())
 }
 
 #[test]
@@ -96,7 +97,8 @@ fn arithmetic(rt: HostRuntime) -> Result<(), Fail> {
             (&[0x5B, 0x28, 0x60, 0x61], Op::FromBcd, 2),
             (&[0x5B, 0x29, 0x60, 0x61], Op::ToBcd, 2),
         ],
-    )
+    )?;
+    Ok(())
 }
 
 #[test]
@@ -133,7 +135,8 @@ fn other_expressions(rt: HostRuntime) -> Result<(), Fail> {
             (&[0x5B, 0x33], Op::Timer, 0),
             (b"ABC0", Op::Invocation, 1),
         ],
-    )
+    )?;
+    Ok(())
 }
 
 #[test]
@@ -161,7 +164,8 @@ fn statements(rt: HostRuntime) -> Result<(), Fail> {
                 3,
             ),
         ],
-    )
+    )?;
+    Ok(())
 }
 
 #[test]
@@ -197,14 +201,28 @@ fn definitions(rt: HostRuntime) -> Result<(), Fail> {
             (b"\x5B\x87\x0BABC0DEF0\x60\x01", Op::BankField, 4),
             (b"\x5B\x88ABC0\x60\x61\x62", Op::DataTableRegion, 4),
         ],
-    )
+    )?;
+    Ok(())
+}
+
+/// Whether the bytes and a byte behind them are refused as an unknown opcode, at the first.
+fn is_unknown(alloc: Global, front: &[u8], byte: u8) -> Result<bool, AllocError> {
+    let mut body = front.to_vec(alloc)?;
+    body.push(byte)?;
+    Ok(matches!(
+        body_of(alloc, &body),
+        Err(TreeFault::Refused(Refusal {
+            cause: TreeCause::UnknownOpcode,
+            at: 0,
+        }))
+    ))
 }
 
 /// Every byte that is no opcode and begins no name, and every byte that makes none behind 5B.
 /// Debug, 5B31, is no statement.
 #[test]
 fn unknown_opcodes(rt: HostRuntime) -> Result<(), Fail> {
-    let rows: [(&[u8], u8, u8); 19] = [
+    let rows: &[(&[u8], u8, u8)] = &[
         (&[], 0x02, 0x05),
         (&[], 0x07, 0x07),
         (&[], 0x09, 0x09),
@@ -226,15 +244,8 @@ fn unknown_opcodes(rt: HostRuntime) -> Result<(), Fail> {
         (&[0x5B], 0x89, 0xFF),
     ];
     for (front, low, high) in rows {
-        for byte in low..=high {
-            let mut body = front.to_vec(rt.alloc())?;
-            body.push(byte)?;
-            let wanted = TreeFault::Refused(Refusal {
-                cause: TreeCause::UnknownOpcode,
-                at: 0,
-            });
-            let fault = body_of(rt.alloc(), &body).err();
-            assert_eq!(rt; fault, Some(wanted), "{byte}");
+        for byte in *low..=*high {
+            assert!(rt; is_unknown(rt.alloc(), front, byte)?, "{byte}");
         }
     }
     Ok(())

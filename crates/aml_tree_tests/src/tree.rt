@@ -10,9 +10,8 @@ mod operators;
 
 use aml_lex::NameRef;
 use aml_tree::{Arity, Op, Span, Term, TreeFault, read_body, read_module};
-use std::alloc::Global;
+use std::alloc::{AllocError, Global};
 use std::process::Abort;
-use std::test::Fail;
 
 /// A part: what it is, its place, the place behind it, and how many parts it has itself.
 type Part = (Op, usize, usize, usize);
@@ -32,16 +31,16 @@ impl Arity for ByDigit {
 }
 
 /// A table of 36 bytes of header, which no reader looks at, and a module.
-fn table_of(alloc: Global, module: &[u8]) -> Result<Vec<u8>, Fail> {
+fn table_of(alloc: Global, module: &[u8]) -> Result<Vec<u8>, AllocError> {
     let mut table = [0u8; 36].to_vec(alloc)?;
     table.extend_from_slice(module)?;
     Ok(table)
 }
 
 /// The definitions of a module.
-fn module_of(alloc: Global, module: &[u8]) -> Result<Vec<Term>, Fail> {
+fn module_of(alloc: Global, module: &[u8]) -> Result<Vec<Term>, TreeFault> {
     let table = table_of(alloc, module)?;
-    Ok(read_module(alloc, &table)?)
+    read_module(alloc, &table)
 }
 
 /// The answer for bytes that are a body and nothing else.
@@ -55,9 +54,7 @@ fn body_of(alloc: Global, body: &[u8]) -> Result<Vec<Term>, TreeFault> {
 
 /// Puts terms on a stack, so that the first comes off first.
 fn push_all<'a>(left: &mut Vec<&'a Term>, terms: &'a [Term]) -> Result<(), TreeFault> {
-    for term in terms.iter().rev() {
-        left.push(term)?;
-    }
+    left.extend(terms.iter().rev())?;
     Ok(())
 }
 
@@ -76,7 +73,7 @@ fn parts_of(alloc: Global, terms: &[Term], most: usize) -> Result<Vec<Part>, Tre
 }
 
 /// Compares every part; where memory is wanted for that, once more.
-fn compare(rt: &impl Abort, alloc: Global, terms: &[Term], rows: &[Part]) -> Result<(), Fail> {
+fn compare(rt: &impl Abort, alloc: Global, terms: &[Term], rows: &[Part]) -> Result<(), TreeFault> {
     let parts = match parts_of(alloc, terms, rows.len()) {
         Err(TreeFault::NoMemory) => parts_of(alloc, terms, rows.len())?,
         told => told?,

@@ -85,7 +85,8 @@ fn want_of_memory(rt: HostRuntime) -> Result<(), Fail> {
             (Op::Invocation, 87, 91, 1),
             (Op::NameString, 87, 91, 0),
         ],
-    )
+    )?;
+    Ok(())
 }
 
 /// The same of faults: a Method and an Else that go past the end.
