@@ -1,5 +1,7 @@
 // Worked rows, and each public call once.
 
+ghost use Rattle.std.specs.Prelude.{◌≤◌, length};
+
 use aml_lex::{
     LexFault, NameRef, NameSeg, answers_end_within, faults_stand_within, integer_data, name_string,
     package_end, pkg_length, spellings_are_read, spellings_are_unique, string_data,
@@ -8,7 +10,7 @@ use std::alloc::{AllocError, Global};
 use std::fmt::Debug;
 use std::test::Fail;
 
-/// A reader, called at the first byte; `PackageEnd` at the second.
+/// A reader.
 enum Reader {
     PkgLength,
     PackageEnd,
@@ -31,51 +33,61 @@ fn told<T: Debug + Drop>(alloc: Global, answer: Result<T, LexFault>) -> Result<S
     }
 }
 
-/// What a reader tells of the bytes.
-fn told_by(alloc: Global, reader: &Reader, bytes: &[u8]) -> Result<String, AllocError> {
+/// What a reader tells of the bytes from a place on.
+fn told_by(alloc: Global, reader: &Reader, bytes: &[u8], at: usize) -> Result<String, AllocError>
+    requires { at ≤ length bytes.now }
+{
     match reader {
-        Reader::PkgLength => told(alloc, pkg_length(bytes, 0)),
-        Reader::PackageEnd => told(alloc, package_end(bytes, bytes.len().min(1))),
-        Reader::Name => told(alloc, name_string(bytes, 0).map(name_parts)),
-        Reader::Integer => told(alloc, integer_data(bytes, 0)),
-        Reader::Text => told(alloc, string_data(bytes, 0)),
+        Reader::PkgLength => told(alloc, pkg_length(bytes, at)),
+        Reader::PackageEnd => told(alloc, package_end(bytes, at)),
+        Reader::Name => told(alloc, name_string(bytes, at).map(name_parts)),
+        Reader::Integer => told(alloc, integer_data(bytes, at)),
+        Reader::Text => told(alloc, string_data(bytes, at)),
     }
 }
 
 #[test]
 fn readers(rt: HostRuntime) -> Result<(), Fail> {
-    let rows: &[(Reader, &[u8], &str)] = &[
-        (Reader::PkgLength, &[0x3F], "(63, 1)"),
-        (Reader::PkgLength, &[0x40, 0x04], "(64, 2)"),
+    let rows: &[(Reader, &[u8], usize, &str)] = &[
+        (Reader::PkgLength, &[0x3F], 0, "(63, 1)"),
+        (Reader::PkgLength, &[0x40, 0x04], 0, "(64, 2)"),
         (
             Reader::PkgLength,
             &[0xCF, 0xFF, 0xFF, 0xFF],
+            0,
             "(268435455, 4)",
         ),
-        (Reader::PkgLength, &[0x40], "E201 Truncated 1"),
-        (Reader::PackageEnd, &[0x14, 0x00], "E202 BadPkgLength 1"),
-        (Reader::PackageEnd, &[0x14, 0x02, 0xA3], "(3, 2)"),
-        (Reader::PackageEnd, &[0x14, 0x03, 0xA3], "E207 Overrun 1"),
-        (Reader::Name, b"\\_SB_", "(true, 0, 1, 5)"),
-        (Reader::Name, b"\\\0", "(true, 0, 0, 2)"),
-        (Reader::Name, b"^^ABCD", "(false, 2, 1, 6)"),
-        (Reader::Name, &[0x2F, 0x00], "E203 BadName 1"),
-        (Reader::Name, b"0AAA", "E203 BadName 0"),
-        (Reader::Integer, &[0x0A, 0x7F], "Some((127, 2))"),
+        (Reader::PkgLength, &[0x40], 0, "E201 Truncated 1"),
+        (Reader::PackageEnd, &[0x14, 0x00], 1, "E202 BadPkgLength 1"),
+        (Reader::PackageEnd, &[0x14, 0x02, 0xA3], 1, "(3, 2)"),
+        (Reader::PackageEnd, &[0x14, 0x03, 0xA3], 1, "E207 Overrun 1"),
+        (Reader::Name, b"\\_SB_", 0, "(true, 0, 1, 5)"),
+        (Reader::Name, b"\\\0", 0, "(true, 0, 0, 2)"),
+        (Reader::Name, b"^^ABCD", 0, "(false, 2, 1, 6)"),
+        (Reader::Name, &[0x2F, 0x00], 0, "E203 BadName 1"),
+        (Reader::Name, b"0AAA", 0, "E203 BadName 0"),
+        (Reader::Integer, &[0x0A, 0x7F], 0, "Some((127, 2))"),
         (
             Reader::Integer,
             &[0x0C, 0x78, 0x56, 0x34, 0x12],
+            0,
             "Some((305419896, 5))",
         ),
-        (Reader::Integer, &[0xFF], "Some((18446744073709551615, 1))"),
-        (Reader::Integer, &[0x70], "None"),
-        (Reader::Integer, &[0x0B, 0x01], "E201 Truncated 2"),
-        (Reader::Integer, &[], "E201 Truncated 0"),
-        (Reader::Text, b"HI\0", "([72, 73], 3)"),
-        (Reader::Text, &[0x48, 0x80, 0x00], "E206 BadString 1"),
+        (
+            Reader::Integer,
+            &[0xFF],
+            0,
+            "Some((18446744073709551615, 1))",
+        ),
+        (Reader::Integer, &[0x70], 0, "None"),
+        (Reader::Integer, &[0x0B, 0x01], 0, "E201 Truncated 2"),
+        (Reader::Integer, &[], 0, "E201 Truncated 0"),
+        (Reader::Text, b"\x0DHI\0", 1, "([72, 73], 4)"),
+        (Reader::Text, &[0x48, 0x80, 0x00], 0, "E206 BadString 1"),
     ];
-    for (reader, bytes, wanted) in rows {
-        let text = told_by(rt.alloc(), reader, bytes)?;
+    for (reader, bytes, at, wanted) in rows {
+        assert!(rt; *at <= bytes.len());
+        let text = told_by(rt.alloc(), reader, bytes, *at)?;
         assert_eq!(rt; text.as_str(), *wanted);
     }
     Ok(())
