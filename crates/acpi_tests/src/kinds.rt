@@ -9,12 +9,58 @@ use aml_namespace::{NoMemory, ObjectId};
 use std::alloc::{AllocError, Global};
 use std::test::Fail;
 
+/// What a value of a row is.
+#[derive(Clone, Copy)]
+enum Sample {
+    Int(u64),
+    /// A buffer of so many bytes.
+    Buf(usize),
+    /// A string of so many bytes.
+    Str(usize),
+    /// A package of so many unset elements.
+    Unset(usize),
+    /// A package of this integer alone.
+    OfInt(u64),
+    /// A package of a package of this integer alone.
+    OfOfInt(u64),
+    /// A package of a buffer of so many bytes alone.
+    OfBuf(usize),
+    /// A package of a name alone.
+    OfName(Option<ObjectId>),
+    /// A package of 9 and a name.
+    NineAndName,
+    /// A package of 9 and an unset element.
+    NineAndUnset,
+    /// So many packages in one another, the innermost without elements.
+    Nested(usize),
+}
+
+/// What a kind of a row is.
+#[derive(Clone, Copy)]
+enum Form {
+    Int(u64),
+    Buf(u64),
+    Str(u64),
+    /// A shape of so many unset places.
+    Unset(usize),
+    /// A shape of an integer's place alone.
+    OfInt(u64),
+    /// A shape of such a shape alone.
+    OfOfInt(u64),
+    /// A shape of a package's place alone, of any shape.
+    OfAny,
+    /// A shape of a name's place alone.
+    OfName,
+    /// A shape of the places of 9 and a name.
+    NineAndName,
+    /// So many shapes in one another, the innermost without places.
+    Nested(usize),
+    AnyPkg,
+    Mixed,
+}
+
 fn bytes(alloc: Global, count: usize) -> Result<Bytes, AllocError> {
-    let mut items = Vec::new(alloc);
-    for _ in 0..count {
-        items.push(7)?;
-    }
-    Ok(Bytes::new(items))
+    Ok(Bytes::new(vec![in alloc; 7; count]?))
 }
 
 fn buffer(alloc: Global, count: usize) -> Result<Value, AllocError> {
@@ -46,9 +92,9 @@ fn package_of(alloc: Global, element: Element) -> Result<Value, AllocError> {
     package(vec![in alloc; element]?)
 }
 
-/// The package of this integer alone.
-fn package_of_integer(alloc: Global, number: u64) -> Result<Value, AllocError> {
-    package_of(alloc, Element::Value(Value::Int(number)))
+/// The shape of this place alone.
+fn shape_of(alloc: Global, place: ElementKind) -> Result<Kind, AllocError> {
+    shape(vec![in alloc; place]?)
 }
 
 /// The package of as many unset elements.
@@ -60,246 +106,372 @@ fn unset(alloc: Global, count: usize) -> Result<Value, AllocError> {
     package(elements)
 }
 
-/// The shape of this place alone.
-fn shape_of(alloc: Global, place: ElementKind) -> Result<Kind, AllocError> {
-    shape(vec![in alloc; place]?)
-}
-
-/// The shape of an integer up to 9 alone.
-fn shape_of_nine(alloc: Global) -> Result<Kind, AllocError> {
-    shape_of(alloc, ElementKind::Value(Kind::Int(9)))
-}
-
-/// The kinds of the columns in `values_fit`.
-fn columns(alloc: Global) -> Result<Vec<Kind>, AllocError> {
-    let nine = ElementKind::Value(Kind::Int(9));
-    let mut kinds = Vec::new(alloc);
-    kinds.push(Kind::Int(255))?;
-    kinds.push(Kind::Buf(2))?;
-    kinds.push(Kind::Str(2))?;
-    kinds.push(shape_of_nine(alloc)?)?;
-    kinds.push(shape_of(alloc, ElementKind::Name)?)?;
-    kinds.push(shape_of(alloc, ElementKind::Unset)?)?;
-    kinds.push(shape(vec![in alloc; nine, ElementKind::Name]?)?)?;
-    kinds.push(shape(Vec::new(alloc))?)?;
-    kinds.push(Kind::AnyPkg)?;
-    kinds.push(Kind::Mixed)?;
-    Ok(kinds)
-}
-
-/// Fails unless the value fits just the kinds of the columns that the row marks.
-fn check_row(kinds: &[Kind], value: &Value, row: &str) -> Result<(), Fail> {
-    if row.len() != kinds.len() {
-        return Err(Fail::new(format_args!("the length of {row}")));
-    }
-    for (kind, mark) in kinds.iter().zip(row.bytes()) {
-        if fits(value, kind) != (mark == b'x') {
-            return Err(Fail::new(format_args!("the row {row}")));
-        }
-    }
-    Ok(())
-}
-
-#[test]
-fn values_fit(rt: HostRuntime) -> Result<(), Fail> {
-    let alloc = rt.alloc();
-    let kinds = columns(alloc)?;
-    let nine = Element::Value(Value::Int(9));
-    let nine_again = Element::Value(Value::Int(9));
-    let two_bytes = Element::Value(buffer(alloc, 2)?);
-    let name = Element::Name(Some(ObjectId(3)));
-    let named = package(vec![in alloc; nine, Element::Name(None)]?)?;
-    let half_unset = package(vec![in alloc; nine_again, Element::Unset]?)?;
-
-    // Int(255), Buf(2), Str(2), the shapes 9, name, unset, 9 and name, none; AnyPkg, Mixed
-    check_row(&kinds, &Value::Int(0), "x........x")?;
-    check_row(&kinds, &Value::Int(255), "x........x")?;
-    check_row(&kinds, &Value::Int(256), ".........x")?;
-    check_row(&kinds, &Value::Int(u64::MAX), ".........x")?;
-    check_row(&kinds, &buffer(alloc, 0)?, ".........x")?;
-    check_row(&kinds, &buffer(alloc, 1)?, ".........x")?;
-    check_row(&kinds, &buffer(alloc, 2)?, ".x.......x")?;
-    check_row(&kinds, &buffer(alloc, 3)?, ".........x")?;
-    check_row(&kinds, &string(alloc, 1)?, ".........x")?;
-    check_row(&kinds, &string(alloc, 2)?, "..x......x")?;
-    check_row(&kinds, &string(alloc, 3)?, ".........x")?;
-    check_row(&kinds, &unset(alloc, 0)?, ".......xxx")?;
-    check_row(&kinds, &package_of_integer(alloc, 9)?, "...x.x..xx")?;
-    check_row(&kinds, &package_of_integer(alloc, 10)?, ".....x..xx")?;
-    check_row(&kinds, &package_of(alloc, two_bytes)?, ".....x..xx")?;
-    check_row(
-        &kinds,
-        &package_of(alloc, Element::Name(None))?,
-        "....xx..xx",
-    )?;
-    check_row(&kinds, &package_of(alloc, name)?, "....xx..xx")?;
-    check_row(&kinds, &unset(alloc, 1)?, ".....x..xx")?;
-    check_row(&kinds, &unset(alloc, 2)?, "........xx")?;
-    check_row(&kinds, &named, "......x.xx")?;
-    check_row(&kinds, &half_unset, "........xx")
-}
-
-#[test]
-fn packages_of_any_shape(rt: HostRuntime) -> Result<(), Fail> {
-    let alloc = rt.alloc();
-    let most = unset(alloc, 65_535)?;
-    let more = unset(alloc, 65_536)?;
-    assert!(rt; fits(&most, &Kind::AnyPkg));
-    assert!(rt; !fits(&more, &Kind::AnyPkg));
-    assert!(rt; fits(&more, &Kind::Mixed));
+/// The shape of as many unset places.
+fn unset_places(alloc: Global, count: usize) -> Result<Kind, AllocError> {
     let mut places = Vec::new(alloc);
-    for _ in 0..65_536 {
+    for _ in 0..count {
         places.push(ElementKind::Unset)?;
     }
-    let own = shape(places)?;
-    assert!(rt; fits(&more, &own));
-    assert!(rt; !fits(&most, &own));
-    assert!(rt; is_within(&own, &Kind::AnyPkg));
-    Ok(())
+    shape(places)
 }
 
-#[test]
-fn packages_in_packages(rt: HostRuntime) -> Result<(), Fail> {
-    let alloc = rt.alloc();
-    let inner = package_of_integer(alloc, 9)?;
-    let outer = package_of(alloc, Element::Value(inner))?;
-    let of_nine = shape_of(alloc, ElementKind::Value(shape_of_nine(alloc)?))?;
-    let eight = shape_of(alloc, ElementKind::Value(Kind::Int(8)))?;
-    let of_eight = shape_of(alloc, ElementKind::Value(eight))?;
-    let of_any = shape_of(alloc, ElementKind::Value(Kind::AnyPkg))?;
-    assert!(rt; fits(&outer, &of_nine));
-    assert!(rt; !fits(&outer, &of_eight));
-    assert!(rt; fits(&outer, &of_any));
-    assert!(rt; !is_within(&of_nine, &of_any));
-    Ok(())
-}
-
-/// The kinds of `kinds_are_joined`, by their letters.
-fn kind_named(alloc: Global, letter: u8) -> Result<Kind, AllocError> {
-    match letter {
-        b'i' => Ok(Kind::Int(3)),
-        b'I' => Ok(Kind::Int(9)),
-        b'b' => Ok(Kind::Buf(2)),
-        b'B' => Ok(Kind::Buf(3)),
-        b's' => Ok(Kind::Str(2)),
-        b'S' => Ok(Kind::Str(3)),
-        b'p' => shape_of_nine(alloc),
-        b'P' => shape_of(alloc, ElementKind::Name),
-        b'*' => Ok(Kind::AnyPkg),
-        _ => Ok(Kind::Mixed),
-    }
-}
-
-/// Fails unless the join of the two has the third letter, and lies within or not as that says.
-fn check_join(alloc: Global, j: u8, k: u8, expected: u8) -> Result<(), Fail> {
-    let first = kind_named(alloc, j)?;
-    let second = kind_named(alloc, k)?;
-    let third = kind_named(alloc, expected)?;
-    let joined = join(alloc, &first, &second)?;
-    if !is_same_kind(&joined, &third) {
-        return Err(Fail::new(format_args!("the join of {j} and {k}")));
-    }
-    if is_within(&first, &second) != (k == expected) {
-        return Err(Fail::new(format_args!("whether {j} is within {k}")));
-    }
-    if is_same_kind(&first, &second) != (j == k) {
-        return Err(Fail::new(format_args!("whether {j} is {k}")));
-    }
-    Ok(())
-}
-
-#[test]
-fn kinds_are_joined(rt: HostRuntime) -> Result<(), Fail> {
-    let letters = "iIbBsSpP*m";
-    let rows = [
-        ("i", "iImmmmmmmm"),
-        ("I", "IImmmmmmmm"),
-        ("b", "mmbmmmmmmm"),
-        ("B", "mmmBmmmmmm"),
-        ("s", "mmmmsmmmmm"),
-        ("S", "mmmmmSmmmm"),
-        ("p", "mmmmmmp**m"),
-        ("P", "mmmmmm*P*m"),
-        ("*", "mmmmmm***m"),
-        ("m", "mmmmmmmmmm"),
-    ];
-    for (letter, row) in rows {
-        for j in letter.bytes() {
-            for (k, expected) in letters.bytes().zip(row.bytes()) {
-                check_join(rt.alloc(), j, k, expected)?;
-            }
-        }
-    }
-    Ok(())
-}
-
-/// The places of `places_are_joined`, by their letters.
-fn place_named(letter: u8) -> ElementKind {
-    match letter {
-        b'i' => ElementKind::Value(Kind::Int(3)),
-        b'I' => ElementKind::Value(Kind::Int(9)),
-        b'm' => ElementKind::Value(Kind::Mixed),
-        b'n' => ElementKind::Name,
-        _ => ElementKind::Unset,
-    }
-}
-
-#[test]
-fn places_are_joined(rt: HostRuntime) -> Result<(), Fail> {
-    let alloc = rt.alloc();
-    let rows = [
-        ("i", "iImnu"),
-        ("I", "IImnu"),
-        ("m", "mmmnu"),
-        ("n", "nnnnu"),
-        ("u", "uuuuu"),
-    ];
-    for (letter, row) in rows {
-        for d in letter.bytes() {
-            for (e, expected) in "iImnu".bytes().zip(row.bytes()) {
-                let joined = join_elements(alloc, &place_named(d), &place_named(e))?;
-                let found = shape_of(alloc, joined)?;
-                let wanted = shape_of(alloc, place_named(expected))?;
-                assert!(rt; is_same_kind(&found, &wanted), "{d} and {e}");
-            }
-        }
-    }
-    Ok(())
-}
-
-/// As many packages in one another, the innermost without elements.
-fn nested(alloc: Global, count: usize) -> Result<Value, AllocError> {
-    let mut value = unset(alloc, 0)?;
-    for _ in 1..count {
+/// A value in so many packages.
+fn packed(alloc: Global, value: Value, count: usize) -> Result<Value, AllocError> {
+    let mut value = value;
+    for _ in 0..count {
         value = package_of(alloc, Element::Value(value))?;
     }
     Ok(value)
 }
 
-#[test]
-fn depths(rt: HostRuntime) -> Result<(), Fail> {
-    let alloc = rt.alloc();
-    let deepest = nested(alloc, 64)?;
-    let again = copy(alloc, &deepest)?;
-    assert!(rt; is_same_value(&deepest, &again));
-    let other = nested(alloc, 63)?;
-    assert!(rt; !is_same_value(&deepest, &other));
-    match Package::new(vec![in alloc; Element::Unset, Element::Value(deepest)]?) {
-        Ok(_) => assert!(rt; false, "65 packages in one another"),
-        Err(back) => assert_eq!(rt; back.len(), 2),
-    }
-    let mut kind = shape(Vec::new(alloc))?;
-    for _ in 1..64 {
+/// A kind in so many shapes.
+fn shaped(alloc: Global, kind: Kind, count: usize) -> Result<Kind, AllocError> {
+    let mut kind = kind;
+    for _ in 0..count {
         kind = shape_of(alloc, ElementKind::Value(kind))?;
     }
-    let kind_again = copy_kind(alloc, &kind)?;
-    assert!(rt; is_same_kind(&kind, &kind_again));
-    assert!(rt; Shape::new(vec![in alloc; ElementKind::Value(kind)]?).is_err());
+    Ok(kind)
+}
+
+/// The package of 9 and this element.
+fn nine_and(alloc: Global, element: Element) -> Result<Value, AllocError> {
+    package(vec![in alloc; Element::Value(Value::Int(9)), element]?)
+}
+
+/// The shape of the places of 9 and this one.
+fn nine_and_place(alloc: Global, place: ElementKind) -> Result<Kind, AllocError> {
+    shape(vec![in alloc; ElementKind::Value(Kind::Int(9)), place]?)
+}
+
+fn value_of(alloc: Global, sample: Sample) -> Result<Value, AllocError> {
+    match sample {
+        Sample::Int(number) => Ok(Value::Int(number)),
+        Sample::Buf(count) => buffer(alloc, count),
+        Sample::Str(count) => string(alloc, count),
+        Sample::Unset(count) => unset(alloc, count),
+        Sample::OfInt(number) => packed(alloc, Value::Int(number), 1),
+        Sample::OfOfInt(number) => packed(alloc, Value::Int(number), 2),
+        Sample::OfBuf(count) => packed(alloc, buffer(alloc, count)?, 1),
+        Sample::OfName(name) => package_of(alloc, Element::Name(name)),
+        Sample::NineAndName => nine_and(alloc, Element::Name(None)),
+        Sample::NineAndUnset => nine_and(alloc, Element::Unset),
+        Sample::Nested(count) => packed(alloc, unset(alloc, 0)?, count.saturating_sub(1)),
+    }
+}
+
+fn kind_of(alloc: Global, form: Form) -> Result<Kind, AllocError> {
+    match form {
+        Form::Int(greatest) => Ok(Kind::Int(greatest)),
+        Form::Buf(count) => Ok(Kind::Buf(count)),
+        Form::Str(count) => Ok(Kind::Str(count)),
+        Form::Unset(count) => unset_places(alloc, count),
+        Form::OfInt(greatest) => shaped(alloc, Kind::Int(greatest), 1),
+        Form::OfOfInt(greatest) => shaped(alloc, Kind::Int(greatest), 2),
+        Form::OfAny => shaped(alloc, Kind::AnyPkg, 1),
+        Form::OfName => shape_of(alloc, ElementKind::Name),
+        Form::NineAndName => nine_and_place(alloc, ElementKind::Name),
+        Form::Nested(count) => shaped(alloc, unset_places(alloc, 0)?, count.saturating_sub(1)),
+        Form::AnyPkg => Ok(Kind::AnyPkg),
+        Form::Mixed => Ok(Kind::Mixed),
+    }
+}
+
+/// Whether a value fits a kind.
+fn does_fit(alloc: Global, sample: Sample, form: Form) -> Result<bool, AllocError> {
+    let value = value_of(alloc, sample)?;
+    Ok(fits(&value, &kind_of(alloc, form)?))
+}
+
+/// An x for each kind that a value fits, a dot for each other.
+fn marks(alloc: Global, sample: Sample, forms: &[Form]) -> Result<String, AllocError> {
+    let mut marks = String::new(alloc);
+    for form in forms {
+        let mark = if does_fit(alloc, sample, *form)? {
+            'x'
+        } else {
+            '.'
+        };
+        marks.push(mark)?;
+    }
+    Ok(marks)
+}
+
+#[test]
+fn values_fit(rt: HostRuntime) -> Result<(), Fail> {
+    let columns: &[Form] = &[
+        Form::Int(255),
+        Form::Buf(2),
+        Form::Str(2),
+        Form::OfInt(9),
+        Form::OfName,
+        Form::Unset(1),
+        Form::NineAndName,
+        Form::Unset(0),
+        Form::AnyPkg,
+        Form::Mixed,
+    ];
+    let rows: &[(Sample, &str)] = &[
+        (Sample::Int(0), "x........x"),
+        (Sample::Int(255), "x........x"),
+        (Sample::Int(256), ".........x"),
+        (Sample::Int(u64::MAX), ".........x"),
+        (Sample::Buf(0), ".........x"),
+        (Sample::Buf(1), ".........x"),
+        (Sample::Buf(2), ".x.......x"),
+        (Sample::Buf(3), ".........x"),
+        (Sample::Str(1), ".........x"),
+        (Sample::Str(2), "..x......x"),
+        (Sample::Str(3), ".........x"),
+        (Sample::Unset(0), ".......xxx"),
+        (Sample::OfInt(9), "...x.x..xx"),
+        (Sample::OfInt(10), ".....x..xx"),
+        (Sample::OfBuf(2), ".....x..xx"),
+        (Sample::OfName(None), "....xx..xx"),
+        (Sample::OfName(Some(ObjectId(3))), "....xx..xx"),
+        (Sample::Unset(1), ".....x..xx"),
+        (Sample::Unset(2), "........xx"),
+        (Sample::NineAndName, "......x.xx"),
+        (Sample::NineAndUnset, "........xx"),
+    ];
+    for (sample, row) in rows {
+        let found = marks(rt.alloc(), *sample, columns)?;
+        assert_eq!(rt; found.as_str(), *row);
+    }
+    Ok(())
+}
+
+/// Packages in packages, and packages of more elements than any package of a kind has.
+#[test]
+fn packages_fit(rt: HostRuntime) -> Result<(), Fail> {
+    let rows: &[(Sample, Form, bool)] = &[
+        (Sample::OfOfInt(9), Form::OfOfInt(9), true),
+        (Sample::OfOfInt(9), Form::OfOfInt(8), false),
+        (Sample::OfOfInt(9), Form::OfAny, true),
+        (Sample::Unset(65_535), Form::AnyPkg, true),
+        (Sample::Unset(65_536), Form::AnyPkg, false),
+        (Sample::Unset(65_536), Form::Mixed, true),
+        (Sample::Unset(65_536), Form::Unset(65_536), true),
+        (Sample::Unset(65_535), Form::Unset(65_536), false),
+    ];
+    for (i, (sample, form, fitting)) in rows.iter().enumerate() {
+        assert!(rt;
+            does_fit(rt.alloc(), *sample, *form)? == *fitting,
+            "row {i}"
+        );
+    }
+    Ok(())
+}
+
+/// How two kinds lie: `=` the same, each within the other; `<` the first within the second; a dot
+/// neither; `?` what may not be.
+fn order(alloc: Global, first: Form, second: Form) -> Result<char, AllocError> {
+    let first = kind_of(alloc, first)?;
+    let second = kind_of(alloc, second)?;
+    match (is_same_kind(&first, &second), is_within(&first, &second)) {
+        (true, true) => Ok('='),
+        (false, true) => Ok('<'),
+        (false, false) => Ok('.'),
+        (true, false) => Ok('?'),
+    }
+}
+
+#[test]
+fn kinds_lie_within(rt: HostRuntime) -> Result<(), Fail> {
+    let rows: &[(Form, Form, char)] = &[
+        (Form::OfOfInt(9), Form::OfAny, '.'),
+        (Form::Unset(65_536), Form::AnyPkg, '<'),
+        (Form::Nested(64), Form::Nested(64), '='),
+    ];
+    for (first, second, wanted) in rows {
+        assert_eq!(rt; order(rt.alloc(), *first, *second)?, *wanted);
+    }
+    Ok(())
+}
+
+/// The letters of the kinds that are joined.
+const LETTERS: &[(char, Form)] = &[
+    ('i', Form::Int(3)),
+    ('I', Form::Int(9)),
+    ('b', Form::Buf(2)),
+    ('B', Form::Buf(3)),
+    ('s', Form::Str(2)),
+    ('S', Form::Str(3)),
+    ('p', Form::OfInt(9)),
+    ('P', Form::OfName),
+    ('*', Form::AnyPkg),
+    ('m', Form::Mixed),
+];
+
+/// The letter of a kind, or `?`.
+fn letter_of(kind: &Kind) -> char {
+    match kind {
+        Kind::Int(3) => 'i',
+        Kind::Int(9) => 'I',
+        Kind::Buf(2) => 'b',
+        Kind::Buf(3) => 'B',
+        Kind::Str(2) => 's',
+        Kind::Str(3) => 'S',
+        Kind::Pkg(shape) => match shape.places() {
+            [ElementKind::Value(Kind::Int(9))] => 'p',
+            [ElementKind::Name] => 'P',
+            _ => '?',
+        },
+        Kind::AnyPkg => '*',
+        Kind::Mixed => 'm',
+        _ => '?',
+    }
+}
+
+/// The letter of the join of two kinds.
+fn joined(alloc: Global, first: Form, second: Form) -> Result<char, Fail> {
+    let first = kind_of(alloc, first)?;
+    let second = kind_of(alloc, second)?;
+    Ok(letter_of(&join(alloc, &first, &second)?))
+}
+
+/// How a kind lies to each of the letters.
+fn orders_of(alloc: Global, form: Form) -> Result<String, AllocError> {
+    let mut orders = String::new(alloc);
+    for (_, other) in LETTERS {
+        orders.push(order(alloc, form, *other)?)?;
+    }
+    Ok(orders)
+}
+
+/// The letters of what a kind is joined to with each.
+fn joins_of(alloc: Global, form: Form) -> Result<String, Fail> {
+    let mut joins = String::new(alloc);
+    for (_, other) in LETTERS {
+        joins.push(joined(alloc, form, *other)?)?;
+    }
+    Ok(joins)
+}
+
+#[test]
+fn kinds_are_joined(rt: HostRuntime) -> Result<(), Fail> {
+    let rows: &[(&str, &str)] = &[
+        ("=<.......<", "iImmmmmmmm"),
+        (".=.......<", "IImmmmmmmm"),
+        ("..=......<", "mmbmmmmmmm"),
+        ("...=.....<", "mmmBmmmmmm"),
+        ("....=....<", "mmmmsmmmmm"),
+        (".....=...<", "mmmmmSmmmm"),
+        ("......=.<<", "mmmmmmp**m"),
+        (".......=<<", "mmmmmm*P*m"),
+        ("........=<", "mmmmmm***m"),
+        (".........=", "mmmmmmmmmm"),
+    ];
+    for ((_, form), (orders, joins)) in LETTERS.iter().zip(rows) {
+        assert_eq!(rt; orders_of(rt.alloc(), *form)?.as_str(), *orders);
+        assert_eq!(rt; joins_of(rt.alloc(), *form)?.as_str(), *joins);
+    }
+    Ok(())
+}
+
+/// The places of `places_are_joined`, by their letters.
+fn place_named(letter: char) -> ElementKind {
+    match letter {
+        'i' => ElementKind::Value(Kind::Int(3)),
+        'I' => ElementKind::Value(Kind::Int(9)),
+        'm' => ElementKind::Value(Kind::Mixed),
+        'n' => ElementKind::Name,
+        _ => ElementKind::Unset,
+    }
+}
+
+/// The letter of a place, or `?`.
+fn letter_of_place(place: &ElementKind) -> char {
+    match place {
+        ElementKind::Value(Kind::Int(3)) => 'i',
+        ElementKind::Value(Kind::Int(9)) => 'I',
+        ElementKind::Value(Kind::Mixed) => 'm',
+        ElementKind::Name => 'n',
+        ElementKind::Unset => 'u',
+        _ => '?',
+    }
+}
+
+/// The letters of what a place is joined to with each.
+fn places_joined(alloc: Global, letter: char) -> Result<String, Fail> {
+    let mut letters = String::new(alloc);
+    for other in "iImnu".chars() {
+        let joined = join_elements(alloc, &place_named(letter), &place_named(other))?;
+        letters.push(letter_of_place(&joined))?;
+    }
+    Ok(letters)
+}
+
+#[test]
+fn places_are_joined(rt: HostRuntime) -> Result<(), Fail> {
+    let rows: &[(char, &str)] = &[
+        ('i', "iImnu"),
+        ('I', "IImnu"),
+        ('m', "mmmnu"),
+        ('n', "nnnnu"),
+        ('u', "uuuuu"),
+    ];
+    for (letter, row) in rows {
+        let found = places_joined(rt.alloc(), *letter)?;
+        assert_eq!(rt; found.as_str(), *row);
+    }
+    Ok(())
+}
+
+/// Whether a value's copy is the same.
+fn is_copied(alloc: Global, sample: Sample) -> Result<bool, Fail> {
+    let value = value_of(alloc, sample)?;
+    let again = copy(alloc, &value)?;
+    Ok(is_same_value(&value, &again))
+}
+
+/// Whether a kind's copy is the same.
+fn is_kind_copied(alloc: Global, form: Form) -> Result<bool, Fail> {
+    let kind = kind_of(alloc, form)?;
+    let again = copy_kind(alloc, &kind)?;
+    Ok(is_same_kind(&kind, &again))
+}
+
+/// How many elements come back where an unset one and a value are too deep for a package.
+fn refused_of(alloc: Global, sample: Sample) -> Result<Option<usize>, AllocError> {
+    let value = value_of(alloc, sample)?;
+    match Package::new(vec![in alloc; Element::Unset, Element::Value(value)]?) {
+        Ok(_) => Ok(None),
+        Err(back) => Ok(Some(back.len())),
+    }
+}
+
+/// The same of a kind alone and a shape.
+fn places_refused_of(alloc: Global, form: Form) -> Result<Option<usize>, AllocError> {
+    let kind = kind_of(alloc, form)?;
+    match Shape::new(vec![in alloc; ElementKind::Value(kind)]?) {
+        Ok(_) => Ok(None),
+        Err(back) => Ok(Some(back.len())),
+    }
+}
+
+#[test]
+fn depths(rt: HostRuntime) -> Result<(), Fail> {
+    let rows: &[(usize, Option<usize>, Option<usize>)] = &[
+        (63, None, None),
+        (64, Some(2), Some(1)),
+    ];
+    for (depth, elements, places) in rows {
+        let refused = refused_of(rt.alloc(), Sample::Nested(*depth))?;
+        let places_refused = places_refused_of(rt.alloc(), Form::Nested(*depth))?;
+        assert_eq!(rt; (refused, places_refused), (*elements, *places));
+    }
+    Ok(())
+}
+
+#[test]
+fn copies_of_the_deepest(rt: HostRuntime) -> Result<(), Fail> {
+    let is_value_copied = is_copied(rt.alloc(), Sample::Nested(64))?;
+    assert!(rt; is_value_copied && is_kind_copied(rt.alloc(), Form::Nested(64))?);
     Ok(())
 }
 
 /// A package of each kind of element, with another in it.
-fn sample(alloc: Global) -> Result<Value, AllocError> {
+fn deep_value(alloc: Global) -> Result<Value, AllocError> {
     let name = Element::Name(Some(ObjectId(3)));
     let text = Element::Value(string(alloc, 4)?);
     let inner = Element::Value(package(vec![in alloc; name, text]?)?);
@@ -310,8 +482,8 @@ fn sample(alloc: Global) -> Result<Value, AllocError> {
 }
 
 /// A shape of each kind of place, with another in it.
-fn sample_shape(alloc: Global) -> Result<Kind, AllocError> {
-    let inner = ElementKind::Value(shape_of_nine(alloc)?);
+fn deep_shape(alloc: Global) -> Result<Kind, AllocError> {
+    let inner = ElementKind::Value(kind_of(alloc, Form::OfInt(9))?);
     let bytes = ElementKind::Value(Kind::Buf(5));
     shape(vec![in alloc; inner, bytes, ElementKind::Name, ElementKind::Unset]?)
 }
@@ -321,9 +493,9 @@ fn sample_shape(alloc: Global) -> Result<Kind, AllocError> {
 #[test]
 fn want_of_memory_in_copies(rt: HostRuntime) -> Result<(), Fail> {
     let alloc = rt.alloc();
-    let value = match sample(alloc) {
+    let value = match deep_value(alloc) {
         Ok(value) => value,
-        Err(AllocError) => sample(alloc)?,
+        Err(AllocError) => deep_value(alloc)?,
     };
     let again = match copy(alloc, &value) {
         Ok(again) => again,
@@ -337,9 +509,9 @@ fn want_of_memory_in_copies(rt: HostRuntime) -> Result<(), Fail> {
 #[test]
 fn want_of_memory_in_joins(rt: HostRuntime) -> Result<(), Fail> {
     let alloc = rt.alloc();
-    let kind = match sample_shape(alloc) {
+    let kind = match deep_shape(alloc) {
         Ok(kind) => kind,
-        Err(AllocError) => sample_shape(alloc)?,
+        Err(AllocError) => deep_shape(alloc)?,
     };
     let again = match copy_kind(alloc, &kind) {
         Ok(again) => again,
@@ -353,50 +525,73 @@ fn want_of_memory_in_joins(rt: HostRuntime) -> Result<(), Fail> {
     Ok(())
 }
 
+/// Whether two values are the same.
+fn are_same(alloc: Global, first: Sample, second: Sample) -> Result<bool, AllocError> {
+    let value = value_of(alloc, first)?;
+    Ok(is_same_value(&value, &value_of(alloc, second)?))
+}
+
 #[test]
 fn different_values(rt: HostRuntime) -> Result<(), Fail> {
-    let alloc = rt.alloc();
-    let name = package_of(alloc, Element::Name(Some(ObjectId(3))))?;
-    let other = package_of(alloc, Element::Name(Some(ObjectId(4))))?;
-    let none = package_of(alloc, Element::Name(None))?;
-    assert!(rt; !is_same_value(&name, &other));
-    assert!(rt; !is_same_value(&name, &none));
-    assert!(rt; !is_same_value(&none, &unset(alloc, 1)?));
-    assert!(rt; !is_same_value(&Value::Int(4), &Value::Int(5)));
-    assert!(rt; !is_same_value(&buffer(alloc, 4)?, &string(alloc, 4)?));
-    assert!(rt; !is_same_value(&buffer(alloc, 4)?, &buffer(alloc, 5)?));
-    assert!(rt; !is_same_value(&unset(alloc, 1)?, &unset(alloc, 2)?));
+    let name = Sample::OfName(Some(ObjectId(3)));
+    let rows: &[(Sample, Sample)] = &[
+        (name, Sample::OfName(Some(ObjectId(4)))),
+        (name, Sample::OfName(None)),
+        (Sample::OfName(None), Sample::Unset(1)),
+        (Sample::Int(4), Sample::Int(5)),
+        (Sample::Buf(4), Sample::Str(4)),
+        (Sample::Buf(4), Sample::Buf(5)),
+        (Sample::Unset(1), Sample::Unset(2)),
+        (Sample::Nested(64), Sample::Nested(63)),
+    ];
+    for (i, (first, second)) in rows.iter().enumerate() {
+        assert!(rt; !are_same(rt.alloc(), *first, *second)?, "row {i}");
+    }
     Ok(())
 }
 
 #[test]
-fn parts(rt: HostRuntime) -> Result<(), Fail> {
-    let alloc = rt.alloc();
-    let made = Bytes::new(vec![in alloc; 1, 2, 3]?);
+fn parts_of_bytes(rt: HostRuntime) -> Result<(), Fail> {
+    let made = Bytes::new(vec![in rt.alloc(); 1, 2, 3]?);
     assert_eq!(rt; made.len(), 3);
     assert_eq!(rt; made.as_slice(), [1, 2, 3].as_slice());
     assert_eq!(rt; made.into_vec().len(), 3);
-    match unset(alloc, 5)? {
-        Value::Pkg(package) => {
-            assert_eq!(rt; package.len(), 5);
-            assert_eq!(rt; package.depth(), 1);
-            assert_eq!(rt; package.elements().len(), 5);
-            assert_eq!(rt; package.into_elements().len(), 5);
-        }
-        _ => assert!(rt; false, "no package"),
-    }
-    match shape_of_nine(alloc)? {
-        Kind::Pkg(shape) => {
-            assert_eq!(rt; shape.len(), 1);
-            assert_eq!(rt; shape.depth(), 1);
-            assert_eq!(rt; shape.places().len(), 1);
-            assert_eq!(rt; shape.into_places().len(), 1);
-        }
-        _ => assert!(rt; false, "no shape"),
-    }
+    Ok(())
+}
+
+/// A package's length, its depth, and how many elements it lends and gives back.
+fn parts_of_package(package: Package) -> [usize; 4] {
+    let (length, depth) = (package.len(), package.depth());
+    let lent = package.elements().len();
+    [length, depth, lent, package.into_elements().len()]
+}
+
+/// The same of a shape and its places.
+fn parts_of_shape(shape: Shape) -> [usize; 4] {
+    let (length, depth) = (shape.len(), shape.depth());
+    let lent = shape.places().len();
+    [length, depth, lent, shape.into_places().len()]
+}
+
+#[test]
+fn parts(rt: HostRuntime) -> Result<(), Fail> {
+    let found = match unset(rt.alloc(), 5)? {
+        Value::Pkg(package) => parts_of_package(package),
+        _ => [0; 4],
+    };
+    assert_eq!(rt; found, [5, 1, 5, 5]);
+    let found = match unset_places(rt.alloc(), 1)? {
+        Kind::Pkg(shape) => parts_of_shape(shape),
+        _ => [0; 4],
+    };
+    assert_eq!(rt; found, [1, 1, 1, 1]);
+    Ok(())
+}
+
+#[test]
+fn laws() {
     fits_what_it_lies_within();
     join_commutes();
     join_associates();
     join_stays();
-    Ok(())
 }

@@ -5,6 +5,8 @@
 #[cfg(test)]
 mod kinds;
 #[cfg(test)]
+mod made;
+#[cfg(test)]
 mod meaning;
 #[cfg(test)]
 mod namespace;
@@ -12,7 +14,5 @@ mod namespace;
 mod plain;
 #[cfg(test)]
 mod regions;
-#[cfg(test)]
-mod sums;
 #[cfg(test)]
 mod tables;

@@ -6,7 +6,7 @@ use std::test::Fail;
 
 #[test]
 fn printed_errors(rt: HostRuntime) -> Result<(), Fail> {
-    let causes = [
+    let causes: &[(AmlCause, &str)] = &[
         (AmlCause::Unset, "7 30 A1 Unset"),
         (AmlCause::Kind, "7 30 A2 Kind"),
         (AmlCause::Divisor, "7 30 A3 Divisor"),
@@ -21,18 +21,23 @@ fn printed_errors(rt: HostRuntime) -> Result<(), Fail> {
         let error = AmlError {
             table: 7,
             at: 30,
-            cause,
+            cause: *cause,
         };
         let printed = format!(in rt.alloc(); "{error}")?;
-        assert_eq!(rt; printed.as_str(), text);
+        assert_eq!(rt; printed.as_str(), *text);
     }
     Ok(())
 }
 
 #[test]
 fn calls(rt: HostRuntime) {
-    assert_eq!(rt; action_of(Op::Add), Action::Binary(Arithmetic::Add));
-    assert_eq!(rt; action_of(Op::Arg6), Action::Argument(6));
-    assert_eq!(rt; action_of(Op::Noop), Action::Unwritten);
+    let rows: &[(Op, Action)] = &[
+        (Op::Add, Action::Binary(Arithmetic::Add)),
+        (Op::Arg6, Action::Argument(6)),
+        (Op::Noop, Action::Unwritten),
+    ];
+    for (op, action) in rows {
+        assert_eq!(rt; action_of(*op), *action);
+    }
     done_is_stable();
 }

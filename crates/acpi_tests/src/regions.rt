@@ -85,26 +85,22 @@ const WITHIN: Access = Access {
 #[test]
 fn bytes_that_were_never_set_are_zero(rt: HostRuntime) -> Result<(), Fail> {
     let mut file = RegisterFile::new(rt.alloc());
-    assert_eq!(rt; file.byte(0, 0), 0);
-    assert_eq!(rt; file.read(LAST_WIDE)?, 0);
+    let found = (file.byte(0, 0), file.read(LAST_WIDE)?, file.refusals());
+    assert_eq!(rt; found, (0, 0, 0));
     assert_eq!(rt; file.events(), &[Event::Read(LAST_WIDE, 0)][..]);
-    assert_eq!(rt; file.refusals(), 0);
     Ok(())
 }
 
 #[test]
 fn widths_overlap_lowest_byte_first(rt: HostRuntime) -> Result<(), Fail> {
     let mut file = RegisterFile::new(rt.alloc());
-    assert_eq!(rt;
-        written_and_read(&mut file, LAST_WIDE, 0x8877_6655_4433_2211)?,
-        0x8877_6655_4433_2211
-    );
-    assert_eq!(rt; file.read(LAST_BYTE)?, 0x88);
-    assert_eq!(rt; file.read(WITHIN)?, 0x5544);
-    file.write(WITHIN, 0xabcd)?;
-    assert_eq!(rt; file.read(LAST_WIDE)?, 0x8877_66ab_cd33_2211);
-    assert_eq!(rt; file.read(OTHER_SPACE)?, 0);
-    assert_eq!(rt; file.events().len(), 7);
+    let back = written_and_read(&mut file, LAST_WIDE, 0x8877_6655_4433_2211)?;
+    let parts = [file.read(LAST_BYTE)?, file.read(WITHIN)?];
+    let changed = written_and_read(&mut file, WITHIN, 0xabcd)?;
+    let found = [file.read(LAST_WIDE)?, file.read(OTHER_SPACE)?];
+    assert_eq!(rt; (back, parts), (0x8877_6655_4433_2211, [0x88, 0x5544]));
+    assert_eq!(rt; (changed, found), (0xabcd, [0x8877_66ab_cd33_2211, 0]));
+    assert_eq!(rt; file.events().len(), 8);
     Ok(())
 }
 

@@ -1,90 +1,67 @@
 // The first fault of a table that cannot be loaded, with its place.
 
-use super::{FIRST, dsdt_of, refused};
+use super::dsdt_of;
+use crate::made::{DSDT, changed};
 use acpi_tables::TableCause;
 use aml_lex::LexCause;
-use aml_namespace::{LoadCause, Namespace};
+use aml_namespace::{LoadCause, LoadFault, LoadRefusal, Namespace};
 use aml_tree::TreeCause;
+use std::alloc::Global;
 use std::test::Fail;
 
+fn refused(cause: LoadCause, at: usize) -> Option<LoadFault> {
+    Some(LoadFault::Refused(LoadRefusal {
+        cause,
+        table: 0,
+        at,
+    }))
+}
+
+fn fault_of(alloc: Global, table: &[u8]) -> Option<LoadFault> {
+    Namespace::load(alloc, table).err()
+}
+
+/// Bytes of the table that are others, and the fault.
 #[test]
 fn tables(rt: HostRuntime) -> Result<(), Fail> {
-    let alloc = rt.alloc();
-    let mut changed = FIRST;
-    changed[47] = 1;
-    assert_eq!(rt;
-        Namespace::load(alloc, &changed).err(),
-        refused(LoadCause::Table(TableCause::BadSum), 9)
-    );
-    changed[4] = 35;
-    assert_eq!(rt;
-        Namespace::load(alloc, &changed).err(),
-        refused(LoadCause::Table(TableCause::BadLength), 4)
-    );
-    assert_eq!(rt;
-        Namespace::load(alloc, &[]).err(),
-        refused(LoadCause::Table(TableCause::Short), 0)
-    );
-    let mut secondary = FIRST;
-    secondary[0] = b'S';
-    secondary[9] = 0x10;
-    assert_eq!(rt;
-        Namespace::load(alloc, &secondary).err(),
-        refused(LoadCause::Table(TableCause::BadSignature), 0)
-    );
+    let rows: &[(&[(usize, u8)], TableCause, usize)] = &[
+        (&[(47, 1)], TableCause::BadSum, 9),
+        (&[(47, 1), (4, 35)], TableCause::BadLength, 4),
+        (&[(0, b'S'), (9, 0x10)], TableCause::BadSignature, 0),
+    ];
+    for (changes, cause, at) in rows {
+        let table = changed(rt.alloc(), &DSDT, changes)?;
+        let wanted = refused(LoadCause::Table(*cause), *at);
+        assert_eq!(rt; fault_of(rt.alloc(), &table), wanted);
+    }
+    let short = refused(LoadCause::Table(TableCause::Short), 0);
+    assert_eq!(rt; fault_of(rt.alloc(), &[]), short);
     Ok(())
 }
 
 /// The module's own faults come before those of its definitions.
 #[test]
 fn modules(rt: HostRuntime) -> Result<(), Fail> {
-    let alloc = rt.alloc();
-    let device = [0x5b, 0x82, 0x05, b'D', b'E', b'V', b'0'];
-    let unknown_then_cut = [0x5b, 0x82, 0x05, b'D', b'E', b'V', b'0', 0x14];
-    let rows: [(&[u8], TreeCause, usize); 4] = [
+    let overrun = LoadCause::Tree(TreeCause::Lexical(LexCause::Overrun));
+    let truncated = LoadCause::Tree(TreeCause::Lexical(LexCause::Truncated));
+    let device = LoadCause::Tree(TreeCause::ModuleCode);
+    let rows: &[(&[u8], LoadCause, usize)] = &[
+        (b"\x10\x3f\x5c\x00", overrun, 37),
+        (b"\x14", truncated, 37),
+        (b"\x5b\x82\x05DEV0", device, 36),
+        (b"\x5b\x82\x05DEV0\x14", truncated, 44),
+        (b"\x14\x07^M000\x00", LoadCause::ScopeMissing, 38),
+        (b"\x14\x0b\x2eABCDM000\x00", LoadCause::ScopeMissing, 38),
+        (b"\x14\x04\x5c\x00\x00", LoadCause::ScopeMissing, 38),
         (
-            &[0x10, 0x3f, 0x5c, 0x00],
-            TreeCause::Lexical(LexCause::Overrun),
-            37,
-        ),
-        (&[0x14], TreeCause::Lexical(LexCause::Truncated), 37),
-        (&device, TreeCause::ModuleCode, 36),
-        (
-            &unknown_then_cut,
-            TreeCause::Lexical(LexCause::Truncated),
-            44,
+            b"\x14\x06M000\x00\x14\x06M000\x01",
+            LoadCause::Duplicate,
+            45,
         ),
     ];
     for (module, cause, at) in rows {
-        let table = dsdt_of(alloc, 2, module)?;
-        assert_eq!(rt;
-            Namespace::load(alloc, &table).err(),
-            refused(LoadCause::Tree(cause), at)
-        );
-    }
-    Ok(())
-}
-
-#[test]
-fn definitions(rt: HostRuntime) -> Result<(), Fail> {
-    let alloc = rt.alloc();
-    let parent = [0x14, 0x07, 0x5e, b'M', b'0', b'0', b'0', 0x00];
-    let two = [
-        0x14, 0x0b, 0x2e, b'A', b'B', b'C', b'D', b'M', b'0', b'0', b'0', 0x00,
-    ];
-    let root = [0x14, 0x04, 0x5c, 0x00, 0x00];
-    let twice = [
-        0x14, 0x06, b'M', b'0', b'0', b'0', 0x00, 0x14, 0x06, b'M', b'0', b'0', b'0', 0x01,
-    ];
-    let rows: [(&[u8], LoadCause, usize); 4] = [
-        (&parent, LoadCause::ScopeMissing, 38),
-        (&two, LoadCause::ScopeMissing, 38),
-        (&root, LoadCause::ScopeMissing, 38),
-        (&twice, LoadCause::Duplicate, 45),
-    ];
-    for (module, cause, at) in rows {
-        let table = dsdt_of(alloc, 2, module)?;
-        assert_eq!(rt; Namespace::load(alloc, &table).err(), refused(cause, at));
+        let table = dsdt_of(rt.alloc(), module)?;
+        assert_eq!(rt; fault_of(rt.alloc(), &table), refused(*cause, *at));
     }
     Ok(())
 }
