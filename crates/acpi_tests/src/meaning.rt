@@ -1,6 +1,8 @@
 // What errors are printed as, and each call once.
 
-use aml_meaning::{Action, AmlCause, AmlError, Arithmetic, action_of, done_is_stable};
+use aml_meaning::{
+    Action, AmlCause, AmlError, Arithmetic, action_of, done_is_stable, reads_are_answered,
+};
 use aml_operators::Op;
 use std::test::Fail;
 
@@ -40,4 +42,5 @@ fn calls(rt: HostRuntime) {
         assert_eq!(rt; action_of(*op), *action);
     }
     done_is_stable();
+    reads_are_answered();
 }

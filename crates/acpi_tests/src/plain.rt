@@ -19,24 +19,35 @@ fn error(cause: AmlCause, at: usize) -> Outcome {
     })
 }
 
-/// The first method's outcomes, from its terms and from its bytes.
-fn outcomes_of(
+/// The first method's outcome, from its terms.
+fn outcome_of_terms(
     alloc: Global,
     namespace: &Namespace<'_>,
     arguments: &[u64],
     fuel: u64,
-) -> Result<(Outcome, Outcome), LoadFault>
+) -> Result<Outcome, LoadFault>
     requires { 0 < length (shown namespace.now).entries }
 {
-    let method = ObjectId(0);
-    match namespace.tree(alloc, method) {
-        Ok(body) => {
-            let outcome = evaluate_terms(namespace, method, &body, arguments, fuel);
-            match evaluate_plain(alloc, namespace, method, arguments, fuel) {
-                Ok(plain) => Ok((outcome, plain)),
-                Err(NoMemory) => Err(LoadFault::NoMemory),
-            }
-        }
+    match namespace.tree(alloc, ObjectId(0)) {
+        Ok(body) => Ok(evaluate_terms(namespace, ObjectId(0), &body, arguments, fuel)),
+        Err(fault) => Err(LoadFault::from(fault)),
+    }
+}
+
+/// The first method's outcome, from its bytes.
+fn outcome_of_bytes(
+    alloc: Global,
+    namespace: &Namespace<'_>,
+    arguments: &[u64],
+    fuel: u64,
+) -> Result<Outcome, LoadFault>
+    requires { 0 < length (shown namespace.now).entries }
+{
+    match namespace.tree(alloc, ObjectId(0)) {
+        Ok(_) => match evaluate_plain(alloc, namespace, ObjectId(0), arguments, fuel) {
+            Ok(outcome) => Ok(outcome),
+            Err(NoMemory) => Err(LoadFault::NoMemory),
+        },
         Err(fault) => Err(LoadFault::from(fault)),
     }
 }
@@ -51,7 +62,8 @@ fn evaluated(
 ) -> Result<Outcome, LoadFault>
     requires { 0 < length (shown namespace.now).entries }
 {
-    let (outcome, plain) = outcomes_of(alloc, namespace, arguments, fuel)?;
+    let outcome = outcome_of_terms(alloc, namespace, arguments, fuel)?;
+    let plain = outcome_of_bytes(alloc, namespace, arguments, fuel)?;
     assert_eq!(rt; plain, outcome);
     Ok(outcome)
 }
@@ -106,6 +118,18 @@ const STORED: &[u8] = b"\x14\x0bM016\x01\xa4\x72\x68\x01\x60";
 /// Store (Ones, Local0), Noop
 const NOOP: &[u8] = b"\x14\x0aM015\x00\x70\xff\x60\xa3";
 
+/// Return (FOO_), where nothing has that name.
+const MISSING: &[u8] = b"\x14\x0bM022\x00\xa4FOO_";
+
+/// Store (One, FOO_), where nothing has that name.
+const STORED_MISSING: &[u8] = b"\x14\x0cM023\x00\x70\x01FOO_";
+
+/// Return (M024), the method itself.
+const CALL: &[u8] = b"\x14\x0bM024\x00\xa4M024";
+
+/// Store (One, M025), the method itself.
+const STORED_METHOD: &[u8] = b"\x14\x0cM025\x00\x70\x01M025";
+
 #[test]
 fn bodies(rt: HostRuntime) -> Result<(), Fail> {
     let rows: &[(&[u8], &[u64], u64, Outcome)] = &[
@@ -122,6 +146,13 @@ fn bodies(rt: HostRuntime) -> Result<(), Fail> {
         (STORED, &[], 5, error(AmlCause::Unset, 45)),
         (NOOP, &[], 3, Outcome::OutOfSteps),
         (NOOP, &[], 4, error(AmlCause::Outside, 46)),
+        (MISSING, &[], 1, Outcome::OutOfSteps),
+        (MISSING, &[], 2, error(AmlCause::Missing, 44)),
+        (STORED_MISSING, &[], 2, Outcome::OutOfSteps),
+        (STORED_MISSING, &[], 3, error(AmlCause::Missing, 45)),
+        (CALL, &[], 2, error(AmlCause::Outside, 44)),
+        (STORED_METHOD, &[], 2, Outcome::OutOfSteps),
+        (STORED_METHOD, &[], 3, error(AmlCause::Kind, 45)),
     ];
     for (module, arguments, fuel, outcome) in rows {
         let table = table_of(rt.alloc(), *b"DSDT", 2, module)?;
@@ -140,5 +171,43 @@ fn want_of_memory(rt: HostRuntime) -> Result<(), Fail> {
         told => told,
     };
     assert_eq!(rt; outcome, Ok(Outcome::Done(Some(42))));
+    Ok(())
+}
+
+/// Return (Add (Arg0, Arg1))
+const TWO_ARGUMENTS: &[u8] = b"\x14\x0bM026\x02\xa4\x72\x68\x69\x00";
+
+/// An opcode, the table's revision, two integers, and what Return (OPCODE (Arg0, Arg1)) gives.
+#[test]
+fn two_integers_and_a_target(rt: HostRuntime) -> Result<(), Fail> {
+    let rows: &[(u8, u8, u64, u64, u64)] = &[
+        // Add, Subtract, Multiply
+        (0x72, 2, u64::MAX, 2, 1),
+        (0x74, 2, 7, 5, 2),
+        (0x74, 2, 0, 1, u64::MAX),
+        (0x74, 1, 0, 1, 0xffff_ffff),
+        (0x77, 2, 6, 7, 42),
+        (0x77, 2, u64::MAX, 2, 0xffff_ffff_ffff_fffe),
+        (0x77, 1, 0x8000_0001, 2, 2),
+        // And, NAnd, Or, NOr, XOr
+        (0x7b, 2, 0xff00, 0x0ff0, 0x0f00),
+        (0x7c, 2, 0xff00, 0x0ff0, 0xffff_ffff_ffff_f0ff),
+        (0x7c, 1, 0xff00, 0x0ff0, 0xffff_f0ff),
+        (0x7d, 2, 0xff00, 0x0ff0, 0xfff0),
+        (0x7e, 2, 0xff00, 0x0ff0, 0xffff_ffff_ffff_000f),
+        (0x7e, 1, 0, 0, 0xffff_ffff),
+        (0x7f, 2, 0xff00, 0x0ff0, 0xf0f0),
+        (0x7f, 2, u64::MAX, u64::MAX, 0),
+    ];
+    for (opcode, revision, first, second, wanted) in rows {
+        let method = changed(rt.alloc(), TWO_ARGUMENTS, &[(8, *opcode)])?;
+        let table = table_of(rt.alloc(), *b"DSDT", *revision, &method)?;
+        let found = outcome_of(&rt, rt.alloc(), &table, &[*first, *second], 4)?;
+        assert_eq!(rt;
+            found,
+            Outcome::Done(Some(*wanted)),
+            "{opcode:x} {first:x} {second:x}"
+        );
+    }
     Ok(())
 }

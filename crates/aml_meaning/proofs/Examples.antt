@@ -1,8 +1,9 @@
 -- Bodies and what they come to, computed.
 use Rattle.std.proofs.Common.{◌≡◌, ℕ, ◌-◌, ◌^◌, [], ◌∷◌, Some, refl, None}
-use Rattle.aml_operators.specs.declared.op.Op.TheVariants.{Return, Add, Arg0, One, NullName, Local0, Noop, Store}
+use Rattle.aml_operators.specs.declared.op.Op.TheVariants.{Return, Add, Subtract, Arg0, One, NullName, Local0, Noop, Store, Invocation, NameString}
 use Rattle.aml_operators.specs.Tree.{Trees, Node, none, more}
 use Rattle.aml_kinds.specs.Values.{Int}
+use Rattle.aml_namespace.specs.declared.link.Link.TheVariants.{Missing}
 use Rattle.aml_meaning.specs.declared.error.AmlCause.TheVariants as cause
 use Rattle.aml_meaning.specs.State.{State, Goes, Halts, Spent, error}
 use Rattle.aml_meaning.specs.Parts.{◌>>=◌, give, stop_with, tick, paid, get_local, get_arg, set_local}
@@ -11,7 +12,7 @@ use Rattle.aml_meaning.specs.Meaning.{Setting}
 use Rattle.aml_meaning.specs.Whole.{before, evaluated}
 
 abbrev of_width : ℕ → Setting
-of_width bits = record { table = 0; width = bits }
+of_width bits = record { table = 0; width = bits; link = λ at. Missing }
 
 -- so many steps, and nothing else
 abbrev steps : ℕ → State
@@ -86,3 +87,20 @@ no_meaning_takes_a_step = refl
 no_target_is_an_error : evaluated (of_width 64) (more (Node Store 0 3 (more (Node One 1 2 none) (more (Node Noop 2 3 none) none))) none) [] [] (steps 3) ≡ Halts (error cause.Outside 0 2) (steps 0)
 unfolding framed ◌>>=◌ give stop_with tick paid
 no_target_is_an_error = refl
+
+-- Return (Subtract (Arg0, One))
+abbrev difference : Trees
+difference = more (Node Return 0 5 (more (Node Subtract 1 5 (more (Node Arg0 2 3 none) (more (Node One 3 4 none) (more (Node NullName 4 5 none) none)))) none)) none
+
+below_zero_at_64 : evaluated (of_width 64) difference (Int 0 ∷ []) [] (steps 4) ≡ Goes (Some (Int (2 ^ 64 - 1))) (steps 0)
+unfolding framed ◌>>=◌ give stop_with tick paid get_arg
+below_zero_at_64 = refl
+
+below_zero_at_32 : evaluated (of_width 32) difference (Int 0 ∷ []) [] (steps 4) ≡ Goes (Some (Int (2 ^ 32 - 1))) (steps 0)
+unfolding framed ◌>>=◌ give stop_with tick paid get_arg
+below_zero_at_32 = refl
+
+-- Return (FOO_), where nothing has that name: a step for each of the two terms
+missing_name : evaluated (of_width 64) (more (Node Return 0 5 (more (Node Invocation 1 5 (more (Node NameString 1 5 none) none)) none)) none) [] [] (steps 2) ≡ Halts (error cause.Missing 0 1) (steps 0)
+unfolding framed ◌>>=◌ give stop_with tick paid
+missing_name = refl

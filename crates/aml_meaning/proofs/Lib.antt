@@ -1,3 +1,4 @@
 pub mod Runs
 pub mod Stable
 pub mod Examples
+pub mod UnitReads

@@ -1,10 +1,13 @@
 -- What a method means, from its beginning to its end.
-use Rattle.std.specs.Prelude.{◌≡◌, ℕ, ◌+◌, List, [], Option}
+use Rattle.std.specs.Prelude.{◌≡◌, ℕ, suc, ◌+◌, List, [], length, slice_get, Option, Some}
 use Rattle.aml_operators.specs.Tree.{Trees}
 use Rattle.aml_kinds.specs.Values.{Value}
+use Rattle.aml_regions.specs.declared.access.Access.{Access}
 use Rattle.aml_regions.specs.declared.event.Event.{Event}
+use Rattle.aml_regions.specs.declared.event.Event.TheVariants.{Read}
 use Rattle.aml_meaning.specs.declared.error.AmlError.{AmlError}
-use Rattle.aml_meaning.specs.State.{State, with_steps, entered, Error, Out, Goes, Halts}
+use Rattle.aml_meaning.specs.State.{State, with_steps, entered, Error, Out, Goes, Halts, NoAnswer}
+use Rattle.aml_meaning.specs.Parts.{read_unit, with_event}
 use Rattle.aml_meaning.specs.Calls.{framed}
 use Rattle.aml_meaning.specs.Meaning.{Setting, mean_all}
 
@@ -29,3 +32,15 @@ ErrorIsStable =
     (here : Setting) (body : Trees) (values : List Value) (script : List Event) (s : State) (more : ℕ) (e : AmlError) (last : State) →
     evaluated here body values script s ≡ Halts (Error e) last →
     evaluated here body values script (with_steps s (s.steps + more)) ≡ Halts (Error e) (with_steps last (last.steps + more))
+
+-- a read goes on with the answer that the script has for it, which is then among the events
+abbrev pub ReadIsAnswered : Type 0
+ReadIsAnswered = (access : Access) (value n : ℕ) (script : List Event) (s : State) →
+    slice_get script (length s.log) ≡ Some (Read access value) → s.steps ≡ suc n →
+    (read_unit access).run script s ≡ Goes value (with_event (with_steps s n) (Read access value))
+
+-- another unit's answer is none
+abbrev pub OtherAnswerIsNone : Type 0
+OtherAnswerIsNone = (access other : Access) (value n : ℕ) (script : List Event) (s : State) →
+    slice_get script (length s.log) ≡ Some (Read other value) → (access ≡ other → ⊥) → s.steps ≡ suc n →
+    (read_unit access).run script s ≡ NoAnswer (with_steps s n)

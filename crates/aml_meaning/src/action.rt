@@ -9,6 +9,13 @@ use aml_operators::Op;
 #[derive(Clone, Copy, Debug, PartialEq, Eq)]
 pub enum Arithmetic {
     Add,
+    Subtract,
+    Multiply,
+    And,
+    Nand,
+    Or,
+    Nor,
+    Xor,
 }
 
 /// What kind of meaning an operator has, as a term and as a target.
@@ -20,12 +27,16 @@ pub enum Action {
     Local(u8),
     /// An argument, by its number below 7 (5.5.2.1).
     Argument(u8),
+    /// A name alone, as a target.
+    Name,
     /// Two integers give a third, which is stored into a target.
     Binary(Arithmetic),
     /// A value is stored into a target (19.6, Store).
     Store,
     /// The method ends with a value (19.6, Return).
     Return,
+    /// A name as a term, with its arguments (20.2.5, MethodInvocation).
+    Invoke,
     /// No target: nothing is stored.
     NoTarget,
     /// No meaning: an error after one step.
@@ -60,8 +71,17 @@ pub fn action_of(op: Op) -> Action
         Op::Arg5 => Action::Argument(5),
         Op::Arg6 => Action::Argument(6),
         Op::Add => Action::Binary(Arithmetic::Add),
+        Op::Subtract => Action::Binary(Arithmetic::Subtract),
+        Op::Multiply => Action::Binary(Arithmetic::Multiply),
+        Op::And => Action::Binary(Arithmetic::And),
+        Op::Nand => Action::Binary(Arithmetic::Nand),
+        Op::Or => Action::Binary(Arithmetic::Or),
+        Op::Nor => Action::Binary(Arithmetic::Nor),
+        Op::Xor => Action::Binary(Arithmetic::Xor),
         Op::Store => Action::Store,
         Op::Return => Action::Return,
+        Op::Invocation => Action::Invoke,
+        Op::NameString => Action::Name,
         Op::NullName => Action::NoTarget,
         _ => Action::Unwritten,
     }

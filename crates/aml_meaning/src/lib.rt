@@ -11,4 +11,4 @@ mod law;
 
 pub use action::{Action, Arithmetic, action_of};
 pub use error::{AmlCause, AmlError};
-pub use law::done_is_stable;
+pub use law::{done_is_stable, reads_are_answered};

@@ -1,7 +1,6 @@
 pub mod Definitions
 pub mod Spans
 pub mod Places
-pub mod Numbered
 pub mod Positions
 pub mod PathNumbers
 pub mod Tries
@@ -9,3 +8,5 @@ pub mod Added
 pub mod Ways
 pub mod Scopes
 pub mod Seen
+pub mod Rooted
+pub mod Numbered

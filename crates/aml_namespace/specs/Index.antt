@@ -1,10 +1,14 @@
--- The numbers of objects in an ordered map, by their segments.
-use Rattle.std.specs.Prelude.{◌≡◌, ℕ}
-use Rattle.std.specs.BTreeMap.{BTreeMap, get}
+-- Where the objects of a namespace stand among the paths that the program keeps.
+use Rattle.std.specs.Prelude.{◌≡◌, List, [], ◌∷◌, map}
 use Rattle.aml_lex.specs.declared.names.NameSeg.{NameSeg}
-use Rattle.aml_tree.specs.Owns.{segment_order}
-use Rattle.aml_namespace.specs.Entries.{Entries, index_of}
+use Rattle.aml_namespace.specs.declared.method.Method.{Method}
+use Rattle.aml_namespace.specs.Entries.{Entries}
+use Rattle.aml_namespace.specs.Paths.{Path, root}
 
--- the map has the number of each segment that names an object, and of no other
-abbrev pub HasNumbers : BTreeMap NameSeg ℕ → Entries → Type 0
-HasNumbers numbers entries = (segment : NameSeg) → get segment_order numbers segment ≡ index_of entries segment
+-- the path of an object, one segment below the root
+abbrev pub own_path : NameSeg × Method → Path
+own_path e = e.0.bytes ∷ []
+
+-- the paths are the root's and then those of the objects, in order of definition
+abbrev pub ArePlaced : List Path → Entries → Type 0
+ArePlaced paths entries = paths ≡ root ∷ map own_path entries

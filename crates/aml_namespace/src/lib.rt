@@ -7,6 +7,7 @@
 mod define;
 mod fault;
 mod law;
+mod link;
 mod memory;
 mod method;
 mod namespace;
@@ -16,6 +17,7 @@ mod width;
 
 pub use fault::{LoadCause, LoadFault, LoadRefusal};
 pub use law::faults_stand_within;
+pub use link::Link;
 pub use memory::NoMemory;
 pub use method::{Method, ObjectId};
 pub use namespace::Namespace;

@@ -1,15 +1,18 @@
 // The namespace of loaded tables.
 
-ghost use Rattle.std.specs.Prelude.{◌≡◌, ◌<◌, ◌==◌, length};
+ghost use Rattle.std.specs.Prelude.{◌≡◌, ◌<◌, ◌==◌, length, Some};
+ghost use Rattle.aml_lex.specs.Names.{name_of};
+ghost use Rattle.aml_namespace.specs.Names.{found_at_root};
 ghost use Rattle.aml_namespace.specs.Sound.{BodiesWithin};
 
 use crate::define::define_all;
 use crate::fault::LoadFault;
+use crate::link::Link;
 use crate::method::{Method, ObjectId};
 use crate::objects::Objects;
 use crate::width::Width;
 use acpi_tables::read_table;
-use aml_lex::{NameRef, NameSeg};
+use aml_lex::{NameRef, NameSeg, name_string};
 use aml_tree::{Arity, Term, TreeFault, read_body, read_module};
 use std::alloc::Global;
 
@@ -23,12 +26,11 @@ pub struct Namespace<'a> {
 }
 
 impl<'a> Namespace<'a> {
-    ghost use Rattle.std.specs.Prelude.{Option, Some, slice_get, option_copied, IfSome, IsNone};
+    ghost use Rattle.std.specs.Prelude.{Option, slice_get, option_copied, take, IfSome, IsNone};
     ghost use Rattle.std.specs.Option.{option_map};
-    ghost use Rattle.aml_lex.specs.Names.{name_of};
     ghost use Rattle.aml_tree.specs.Body.{trees_read};
     ghost use Rattle.aml_namespace.specs.Load.{Loads, shown};
-    ghost use Rattle.aml_namespace.specs.Names.{resolve, args_of};
+    ghost use Rattle.aml_namespace.specs.Names.{link_at, number_named, resolve};
     ghost use Rattle.aml_namespace.specs.Objects.{method_at, object_segment, number_of, ReadsBodyOf};
 
     /// Loads a DSDT: its header, then its whole module, then its definitions in the order of the
@@ -95,15 +97,44 @@ impl<'a> Namespace<'a> {
         self.objects.index_of(&segment).map(ObjectId)
     }
 
-    /// The method that a name in a body names, None where it names nothing: a lone segment is searched
-    /// upward to the root, where all methods are, and `^` goes from a method to the root.
+    /// The number of the object that a name in a body names: a lone segment is searched upward to the
+    /// root, where all methods are, and `^` goes from a method to the root.
+    fn number_named(&self, name: &NameRef<'_>) -> Option<usize>
+        ensures { result ≡ number_named (shown self.now).entries (name_of name.now) }
+    {
+        self.objects.index_of(&root_segment(name)?)
+    }
+
+    /// The method that a name in a body names, None where it names nothing.
     pub fn resolve(&self, name: &NameRef<'_>) -> Option<Method>
         ensures { result ≡ resolve (shown self.now).entries (name_of name.now) }
     {
-        if name.parents() > 1 || name.segs() != 1 {
-            return None;
+        self.objects.lookup(&root_segment(name)?)
+    }
+
+    /// What the name at a place of a body means, by these bytes, in which the body stands.
+    pub fn link(&self, bytes: &[u8], at: usize) -> Link
+        ensures { result ≡ link_at (shown self.now).entries bytes.now at }
+    {
+        if at > bytes.len() {
+            return Link::Missing;
         }
-        self.objects.lookup(&name.seg(0))
+        match name_string(bytes, at) {
+            Ok((name, _)) => match self.number_named(&name) {
+                Some(number) => Link::Method(ObjectId(number)),
+                None => Link::Missing,
+            },
+            Err(_) => Link::Missing,
+        }
+    }
+
+    /// The bytes in which a method's body stands, up to its end.
+    pub fn body_bytes(&self, id: ObjectId) -> &[u8]
+        requires { id.0 < length (shown self.now).entries }
+        ensures { let ns = shown self.now in
+            (m : Method) → method_at ns id.0 ≡ Some m → result.now ≡ take m.body.end ns.table }
+    {
+        &self.table[..self.method(id).unwrap().body.end]
     }
 
     /// The statements of a method's body: a name takes as many terms as the method that it names has
@@ -119,6 +150,16 @@ impl<'a> Namespace<'a> {
         let (_, method) = self.objects.get(id.0).unwrap();
         read_body(alloc, self.table, method.body, self)
     }
+}
+
+/// The segment at the root that a name in a body means, where it means one.
+fn root_segment(name: &NameRef<'_>) -> Option<NameSeg>
+    ensures { result ≡ found_at_root (λ segment. Some segment) (name_of name.now) }
+{
+    if name.parents() > 1 || name.segs() != 1 {
+        return None;
+    }
+    Some(name.seg(0))
 }
 
 impl Arity for Namespace<'_> {

@@ -4,22 +4,22 @@ ghost use Rattle.std.specs.Prelude.{◌≡◌, length, slice_get, OnOk, OnErr, N
 ghost use Rattle.std.specs.Map.{lookup};
 ghost use Rattle.aml_tree.specs.Body.{same_segment};
 ghost use Rattle.aml_namespace.specs.Entries.{index_of};
-ghost use Rattle.aml_namespace.specs.Index.{HasNumbers};
+ghost use Rattle.aml_namespace.specs.Index.{ArePlaced};
+ghost use Rattle.aml_namespace.specs.Steps.{paths_seen};
 
 use crate::method::Method;
+use crate::paths::{Paths, ROOT};
 use aml_lex::NameSeg;
 use std::alloc::{AllocError, Global};
-use std::collections::BTreeMap;
 
 /// Methods at the root, each under a segment of its own.
 #[derive(Drop)]
 pub(crate) struct Objects {
     /// In order of definition.
     entries: Vec<(NameSeg, Method)>,
-    /// The number of each segment's object: an ordered map, so that whoever chooses the segments
-    /// cannot make a look-up slow.
-    numbers: BTreeMap<NameSeg, usize>,
-    ghost numbered: { HasNumbers numbers entries.items },
+    /// Their paths: behind the root's, in the same order.
+    paths: Paths,
+    ghost placed: { ArePlaced (paths_seen paths) entries.items },
 }
 
 impl Objects {
@@ -28,7 +28,7 @@ impl Objects {
     {
         Objects {
             entries: Vec::new(alloc),
-            numbers: BTreeMap::new(alloc),
+            paths: Paths::new(alloc),
         }
     }
 
@@ -50,7 +50,10 @@ impl Objects {
     pub(crate) fn index_of(&self, segment: &NameSeg) -> Option<usize>
         ensures { result ≡ index_of self.now.entries.items segment.now }
     {
-        self.numbers.get(segment).copied()
+        match self.paths.child(ROOT, *segment) {
+            Some(path) => Some(path - 1),
+            None => None,
+        }
     }
 
     /// The method with this segment.
@@ -68,9 +71,8 @@ impl Objects {
             OnOk result (self.new.entries.items ≡ pushed) }
         ensures err { OnErr result (self.new.entries.items ≡ self.old.entries.items) }
     {
-        let number = self.entries.len();
         self.entries.push((segment, method))?;
-        match self.numbers.insert(segment, number) {
+        match self.paths.add(ROOT, segment) {
             Ok(_) => Ok(()),
             Err(_) => {
                 self.entries.pop();

@@ -9,6 +9,9 @@ use aml_lex::{NameRef, NameSeg};
 use std::alloc::{AllocError, Global};
 use std::collections::BTreeMap;
 
+/// The number of the root's path.
+pub(crate) const ROOT: usize = 0;
+
 /// A path as one segment below another.
 #[derive(Clone, Copy, Debug, PartialEq, Eq, PartialOrd, Ord)]
 pub(crate) struct Step {

@@ -4,14 +4,12 @@ ghost use Rattle.std.specs.Prelude.{◌≡◌};
 ghost use Rattle.aml_operators.specs.declared.row.Code.TheVariants as code;
 ghost use Rattle.aml_operators.specs.Shape.{AreShaped};
 ghost use Rattle.aml_operators.specs.Tree.{views};
-ghost use Rattle.aml_namespace.specs.Widths.{bits_of};
-ghost use Rattle.aml_plain.specs.Tells.{EvaluatesBody, outcome_of};
+ghost use Rattle.aml_plain.specs.Tells.{EvaluatesBody, outcome_of, setting_of};
 
 use crate::eval::eval_all;
 use crate::frame::Frame;
 use crate::halt::{Halt, Setting};
 use aml_meaning::AmlError;
-use aml_namespace::Width;
 use aml_operators::Term;
 
 /// How an evaluation ends.
@@ -23,21 +21,13 @@ pub enum Outcome {
     OutOfSteps,
 }
 
-/// Evaluates a body that stands in a table, with its arguments and at most so many steps.
+/// Evaluates a body where it stands, with its arguments and at most so many steps.
 ///
 /// An error's place is a term's. Arguments behind the seventh are not looked at.
-pub fn evaluate_body(
-    body: &[Term],
-    table: usize,
-    width: Width,
-    arguments: &[u64],
-    fuel: u64,
-) -> Outcome
+pub fn evaluate_body(here: Setting<'_>, body: &[Term], arguments: &[u64], fuel: u64) -> Outcome
     requires { AreShaped code.Body (views body.now) }
-    ensures { EvaluatesBody (record { table = table; width = bits_of width }) (views body.now)
-        arguments.now fuel result }
+    ensures { EvaluatesBody (setting_of here.entry) (views body.now) arguments.now fuel result }
 {
-    let here = Setting { table, width };
     let mut frame = Frame::new(arguments);
     let mut steps = fuel;
     outcome_of(eval_all(here, body, &mut frame, &mut steps))

@@ -1,10 +1,23 @@
 // The parts of a term, as many as its operator's letters name.
 
-ghost use Rattle.std.specs.Prelude.{◌≡◌, length, IsSome, Some};
+ghost use Rattle.std.specs.Prelude.{◌≡◌, ◌<◌, length, IsSome, Some};
 ghost use Rattle.aml_operators.specs.Literal.{literal_in};
+ghost use Rattle.aml_tree.specs.Body.{first_at};
 ghost use Rattle.aml_operators.specs.Tree.{view, views, more, none};
 
 use aml_operators::{Op, Term, literal_in};
+
+/// The place of the first of one or more.
+#[tactic(auto, using(aml_operators::proofs::Views::view_out))]
+pub fn first_place(parts: &[Term]) -> usize
+    requires { 0 < length parts.now }
+    ensures { first_at (views parts.now) ≡ Some result }
+{
+    match parts {
+        [first, ..] => first.at,
+        [] => unreachable!(),
+    }
+}
 
 pub fn one(parts: &[Term]) -> &Term
     requires { length parts.now ≡ 1 }

@@ -37,8 +37,8 @@ impl Frame {
 }
 
 /// What a local or an argument holds. A1 at the term's place where it is unset.
-pub fn held(here: Setting, at: usize, slots: &[Option<u64>], k: u8) -> Result<u64, Halt>
-    ensures { told Int result ≡ content here.table at (slice_get (map value_of slots.now) k) }
+pub fn held(here: Setting<'_>, at: usize, slots: &[Option<u64>], k: u8) -> Result<u64, Halt>
+    ensures { told Int result ≡ content here.entry.table at (slice_get (map value_of slots.now) k) }
 {
     match slots.get(usize::from(k)) {
         Some(Some(value)) => Ok(*value),

@@ -10,13 +10,19 @@ ghost use Rattle.aml_meaning.specs.State.{error};
 ghost use Rattle.aml_plain.specs.Tells.{halted, went};
 
 use aml_meaning::{AmlCause, AmlError};
-use aml_namespace::Width;
+use aml_namespace::{Namespace, Width};
 
-/// Which table a body stands in, and how wide its integers are.
-#[derive(Clone, Copy, Debug)]
-pub struct Setting {
+/// Where a body stands.
+#[derive(Clone, Copy)]
+pub struct Setting<'a> {
+    /// The number of its table.
     pub table: usize,
+    /// How wide integers are.
     pub width: Width,
+    /// Whose objects its names name.
+    pub namespace: &'a Namespace<'a>,
+    /// The table's bytes up to the body's end, in which its names stand.
+    pub bytes: &'a [u8],
 }
 
 /// Why an evaluation ends before its end.
@@ -28,8 +34,8 @@ pub enum Halt {
 }
 
 /// An error at a place of the body's table.
-pub fn fails(cause: AmlCause, here: Setting, at: usize) -> Halt
-    ensures { halted result ≡ By (error cause here.table at) }
+pub fn fails(cause: AmlCause, here: Setting<'_>, at: usize) -> Halt
+    ensures { halted result ≡ By (error cause here.entry.table at) }
 {
     Halt::Error(AmlError {
         table: here.table,

@@ -23,6 +23,13 @@ pub fn combined(width: Width, arithmetic: Arithmetic, x: u64, y: u64) -> u64
 {
     let joined = match arithmetic {
         Arithmetic::Add => x.wrapping_add(y),
+        Arithmetic::Subtract => x.wrapping_sub(y),
+        Arithmetic::Multiply => x.wrapping_mul(y),
+        Arithmetic::And => x & y,
+        Arithmetic::Nand => !(x & y),
+        Arithmetic::Or => x | y,
+        Arithmetic::Nor => !(x | y),
+        Arithmetic::Xor => x ^ y,
     };
     wrapped(width, joined)
 }

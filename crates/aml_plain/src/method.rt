@@ -10,6 +10,7 @@ ghost use Rattle.aml_namespace.specs.Objects.{method_at, IsBodyOf};
 ghost use Rattle.aml_plain.specs.Methods.{Evaluates};
 
 use crate::body::{Outcome, evaluate_body};
+use crate::halt::Setting;
 use aml_namespace::{Namespace, NoMemory, ObjectId};
 use aml_tree::{Term, TreeFault};
 use std::alloc::Global;
@@ -28,8 +29,13 @@ pub fn evaluate_terms(
     ensures { let ns = shown namespace.now in (m : Method) → method_at ns method.0 ≡ Some m →
         Evaluates ns m (views body.now) arguments.now fuel result }
 {
-    let table = namespace.method(method).unwrap().table;
-    evaluate_body(body, table, namespace.width(), arguments, fuel)
+    let here = Setting {
+        table: namespace.method(method).unwrap().table,
+        width: namespace.width(),
+        namespace,
+        bytes: namespace.body_bytes(method),
+    };
+    evaluate_body(here, body, arguments, fuel)
 }
 
 /// Evaluates a method from the bytes of its table, with its arguments and at most so many steps.
