@@ -1,4 +1,4 @@
-pub mod Addresses
 pub mod Options
 pub mod Structures
 pub mod Tiling
+pub mod XsdtAddresses

@@ -1,5 +1,5 @@
 -- Structures that fill their bytes are those that a walk finds.
-use Rattle.std.proofs.Common.{◌≡◌, ◌+◌, ◌≤◌, ℕ, zero, suc, List, [], ◌∷◌, ◌++◌, length, take, drop, slice_index, arith, refl, ◌∙◌, ap, sym, inl, inr, length-append, length-drop}
+use Rattle.std.proofs.Common.{◌≡◌, ◌+◌, ◌≤◌, ℕ, zero, suc, List, [], ◌∷◌, ◌++◌, length, take, drop, slice_index, arith, refl, ◌∙◌, ap, subst, sym, inl, inr, length-append, length-drop}
 use Rattle.std.specs.List.{sum_by}
 use Rattle.std.proofs.Math.Seq.{take-append_seam, drop-append_seam}
 use Rattle.std.proofs.Math.ListN.{get_or-append}
@@ -8,6 +8,7 @@ use Rattle.std.proofs.lemmas.List.{take-append-drop, length-take-le, get_or-take
 use Rattle.std.proofs.lemmas.List.Sums.{sum_by-cons}
 use Rattle.acpi_tables.specs.Structure.{layout_size, begins_structure, structures, IsStructure, AreStructures}
 use Rattle.acpi_tables.specs.Madt.{structures_end}
+use Rattle.acpi_tables.specs.Laws.{StructuresAreFound}
 use Rattle.acpi_tables.proofs.Structures.{IsFront, front_true, front_passes, no_structures, first_of_structures, none_short, layout_least}
 
 -- what stands at a front is a structure
@@ -84,7 +85,14 @@ covers [] bytes e = sym (ap length e)
 covers (s ∷ ss) bytes (i, (rest, e, more)) =
     sum_by-cons length s ss ∙ omega (arith, covers ss rest more, ap length e, length-append s rest)
 
--- so the structures from 44 on reach the end just where they are all the bytes
+-- so they are all the bytes just where they are found and cover them
+pub are_found : StructuresAreFound
+are_found ss bytes = (
+  λ are. (unique ss bytes are, covers ss bytes are),
+  λ (same, all). subst (λ found. AreStructures found bytes) same (filled (length bytes) bytes (omega arith) (ap (sum_by length) same ∙ all)),
+)
+
+-- and the structures from 44 on reach the end just where they are all the bytes
 pub reaches : (bytes : List ℕ) → 44 ≤ length bytes → (ss : List (List ℕ)) × AreStructures ss (drop 44 bytes) → structures_end bytes ≡ length bytes
 reaches bytes h (ss, are) =
     let same = unique ss (drop 44 bytes) are in

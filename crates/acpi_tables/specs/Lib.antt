@@ -10,3 +10,4 @@ pub mod Entries
 pub mod Madt
 pub mod Isa
 pub mod Causes
+pub mod Laws

@@ -2,6 +2,7 @@
 
 ghost use Rattle.std.specs.Prelude.{◌≡◌, ◌==◌, ◌↔◌, IsOk, IfOk, IfErr, Some, length, slice_get, ◌≤◌};
 ghost use Rattle.acpi_tables.specs.Xsdt.{IsXsdt, HasXsdt, listed, xsdt_checks};
+ghost use Rattle.acpi_tables.specs.Entries.{addresses_left};
 ghost use Rattle.acpi_tables.specs.Fault.{first_fault};
 
 use crate::fault::{TableCause, TableFault};
@@ -17,7 +18,7 @@ pub struct Xsdt<'a> {
     entries: &'a [u8],
 }
 
-#[tactic(auto, using(crate::proofs::Addresses::addresses_of))]
+#[tactic(auto, using(crate::proofs::XsdtAddresses::addresses_of))]
 impl<'a> Xsdt<'a> {
     /// Reads the XSDT that fills the bytes.
     ///
@@ -54,6 +55,13 @@ impl<'a> Xsdt<'a> {
         self.len() == 0
     }
 
+    /// The addresses in order, in one pass.
+    pub fn entries(&self) -> Addresses<'a>
+        ensures { addresses_left result ≡ listed self.now }
+    {
+        Addresses { rest: self.entries }
+    }
+
     /// The i-th address, from 0; None behind the last.
     pub fn entry(&self, i: usize) -> Option<u64>
         ensures { result ≡ slice_get (listed self.now) i }
@@ -63,5 +71,32 @@ impl<'a> Xsdt<'a> {
         } else {
             None
         }
+    }
+}
+
+/// The addresses of an XSDT one after the other, lent from its bytes.
+#[derive(Debug, Drop)]
+pub struct Addresses<'a> {
+    rest: &'a [u8],
+}
+
+#[tactic(auto, using(crate::proofs::XsdtAddresses::addresses_of))]
+impl Iterator for Addresses<'_> {
+    ghost use Rattle.std.specs.Iterator.{YieldsFirst, item_count};
+    ghost use Rattle.acpi_tables.specs.Entries.{addresses_left};
+
+    type Item = u64;
+
+    ghost next_gives = { YieldsFirst addresses_left };
+
+    ghost remaining = { item_count addresses_left };
+
+    fn next(&mut self) -> Option<u64> {
+        if self.rest.len() < 8 {
+            return None;
+        }
+        let address = LittleEndian::read_u64(self.rest);
+        self.rest = &self.rest[8..];
+        Some(address)
     }
 }

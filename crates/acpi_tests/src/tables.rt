@@ -2,7 +2,10 @@
 // byte.
 
 use crate::made::{DSDT, changed, table_of};
-use acpi_tables::{Entry, Fadt, Header, Isa, Madt, Rsdp, TableCause, TableFault, Xsdt, read_table};
+use acpi_tables::{
+    Entry, Fadt, Header, Isa, Madt, Rsdp, TableCause, TableFault, Xsdt, read_table,
+    structures_are_found,
+};
 use std::alloc::{AllocError, Global};
 use std::test::Fail;
 
@@ -190,11 +193,12 @@ fn xsdts_that_are_cut(rt: HostRuntime) -> Result<(), Fail> {
 fn xsdts(rt: HostRuntime) -> Result<(), Fail> {
     let table = table_of(rt.alloc(), *b"XSDT", 1, &ADDRESSES)?;
     let xsdt = Xsdt::read(&table)?;
-    let found = (xsdt.is_empty(), xsdt.entry(0), xsdt.entry(1), xsdt.entry(2));
-    assert_eq!(rt;
-        found,
-        (false, Some(0x10), Some(0x2000_0000_0000_0000), None)
-    );
+    let wanted = [Some(0x10), Some(0x2000_0000_0000_0000), None];
+    let mut addresses = xsdt.entries();
+    let found = [addresses.next(), addresses.next(), addresses.next()];
+    assert!(rt; !xsdt.is_empty());
+    assert_eq!(rt; found, wanted);
+    assert_eq!(rt; [xsdt.entry(0), xsdt.entry(1), xsdt.entry(2)], wanted);
     Ok(())
 }
 
@@ -273,6 +277,7 @@ fn madts(rt: HostRuntime) -> Result<(), Fail> {
     assert!(rt; madt.local_address == 0xfee0_0000 && madt.pcat_compatible());
     assert_eq!(rt; found, wanted);
     assert_eq!(rt; [madt.entry(0), madt.entry(1), madt.entry(2)], wanted);
+    structures_are_found();
     Ok(())
 }
 

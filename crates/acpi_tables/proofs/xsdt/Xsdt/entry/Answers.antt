@@ -1,7 +1,7 @@
 use Rattle.std.proofs.Common.{◌*◌, ap, sym, ◌∙◌, Some, arith}
 use Rattle.std.proofs.lemmas.List.{take_rest}
 use Rattle.byteorder.specs.Endian.{little_number}
-use Rattle.acpi_tables.proofs.Addresses.{address_within, length-addresses}
+use Rattle.acpi_tables.proofs.XsdtAddresses.{address_within, length-addresses}
 use Rattle.acpi_tables.proofs.xsdt.Xsdt.entry.Goals as goal
 
 pub returns-then-i-len : goal.returns-then-i-len
