@@ -1,10 +1,6 @@
 -- Laws of what a listing leaves in its writer.
-use Rattle.std.proofs.lemmas.Grind.{flat_map-append}
-use Rattle.std.proofs.lemmas.List.{take_more}
-use Rattle.std.proofs.lemmas.Option.{slice_get_within, get_or_from_slice_get}
-use Rattle.std.specs.Prelude.{slice_get, IsErr}
-use Rattle.std.specs.List.{flat_map}
-use Rattle.std.proofs.Common.{◌≡◌, ℕ, ◌+◌, List, [], ◌∷◌, ◌++◌, Option, Some, Result, Ok, Err, sym, ap, ◌∙◌, append_assoc, take, drop, take-append-drop, append-nil, length, ◌<◌, get_or, drop-cons, add-one, suc, subst}
+use Rattle.std.specs.Prelude.{IsErr}
+use Rattle.std.proofs.Common.{◌≡◌, ℕ, List, ◌++◌, Option, Result, Ok, Err, sym, ap, ◌∙◌, append_assoc, take, drop, take-append-drop}
 use Rattle.std.specs.Io.KnownBytes.{Appends}
 use Rattle.std.proofs.KnownBytes.{Appends-trans}
 use Rattle.acpi_text.specs.Lists.{Lists}
@@ -41,24 +37,3 @@ stopped V (Err e) a b c done text more whole h p (front, rest, split, q) is = (
   is ∙ ap (λ t. done ++ (t ++ more)) split ∙ ap (λ t. done ++ t) (append_assoc front rest more) ∙ sym (append_assoc done front (rest ++ more)),
   Appends-trans a b c done front p q,
 )
-
--- the text of a list up to an element, of that element, and of the others
-pub flat_map_at : {X : Type 0} (f : X → List ℕ) (xs : List X) (i : ℕ) (x : X) → slice_get xs i ≡ Some x
-    → flat_map f xs ≡ flat_map f (take i xs) ++ (f x ++ flat_map f (drop (i + 1) xs))
-flat_map_at f xs i x h =
-    let at : x ≡ get_or xs i x = sym (get_or_from_slice_get xs i x x h) in
-    let below : i < length xs = slice_get_within xs i x h in
-    let split : drop i xs ≡ x ∷ drop (i + 1) xs = rw add-one (drop-cons xs i x below ∙ ap (λ y. y ∷ drop (suc i) xs) (sym at)) in
-    ap (flat_map f) (sym (take-append-drop i xs)) ∙ flat_map-append f (take i xs) (drop i xs)
-    ∙ ap (λ l. flat_map f (take i xs) ++ flat_map f l) split
-
--- the text of one more element
-pub more_listed : {X : Type 0} (f : X → List ℕ) (xs : List X) (i : ℕ) (x : X) (a b c : Option (List ℕ)) → slice_get xs i ≡ Some x
-    → Appends a b (flat_map f (take i xs)) → Appends b c (f x) → Appends a c (flat_map f (take (i + 1) xs))
-more_listed f xs i x a b c h p q =
-    let at : x ≡ get_or xs i x = sym (get_or_from_slice_get xs i x x h) in
-    let below : i < length xs = slice_get_within xs i x h in
-    let split : take (i + 1) xs ≡ take i xs ++ (x ∷ []) = take_more xs i x below ∙ ap (λ y. take i xs ++ (y ∷ [])) (sym at) in
-    let text : flat_map f (take (i + 1) xs) ≡ flat_map f (take i xs) ++ f x =
-    ap (flat_map f) split ∙ flat_map-append f (take i xs) (x ∷ []) ∙ ap (λ l. flat_map f (take i xs) ++ l) (append-nil (f x)) in
-    subst (Appends a c) (sym text) (Appends-trans a b c (flat_map f (take i xs)) (f x) p q)

@@ -1,5 +1,6 @@
 pub mod Text
 pub mod Lists
+pub mod Items
 pub mod Outcome
 pub mod Structures
 pub mod Tables

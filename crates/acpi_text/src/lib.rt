@@ -2,6 +2,7 @@
 #![tactic(auto)]
 
 mod escaped;
+mod items;
 mod outcome;
 mod refusal;
 mod structures;

@@ -8,13 +8,15 @@ ghost use Rattle.acpi_tables.specs.Xsdt.{listed};
 ghost use Rattle.acpi_tables.specs.Madt.{entries};
 ghost use Rattle.std.specs.Prelude.{◌++◌};
 
+use crate::items::{Listing, list_items};
 use crate::structures::structure_line_of;
 use crate::table::Table;
 use crate::table_lines;
 use crate::writing::{RunFault, put};
-use acpi_tables::{Entry, Fadt, Header, Madt, Rsdp, Xsdt};
+use acpi_tables::{Addresses, Entries, Entry, Fadt, Header, Madt, Rsdp, Xsdt};
 use std::alloc::Global;
 use std::io::Write;
+use std::slice;
 
 /// Prints what tables say, one after the other: each its header's line, or `rsdp` or `facs left out`
 /// in place of it, and its contents on lines that begin with two spaces.
@@ -27,22 +29,30 @@ pub fn list_tables<W: Write>(
 ) -> Result<(), RunFault>
     ensures { Lists result (W.contents out.old) (W.contents out.new) (tables_text tables.now) }
 {
-    for table in tables {
-        list_table(alloc, out, table)?;
-    }
-    Ok(())
+    list_items(alloc, out, tables.iter())
 }
 
-fn list_table<W: Write>(alloc: Global, out: &mut W, table: &Table<'_>) -> Result<(), RunFault>
-    ensures { Lists result (W.contents out.old) (W.contents out.new) (table_text table.now) }
-{
-    match table {
-        Table::Rsdp(rsdp) => list_rsdp(alloc, out, rsdp),
-        Table::Facs => put(out, b"facs left out\n"),
-        Table::Xsdt(xsdt) => list_xsdt(alloc, out, xsdt),
-        Table::Fadt(fadt) => list_fadt(alloc, out, fadt),
-        Table::Madt(madt) => list_madt(alloc, out, madt),
-        Table::Other(header) => list_header(alloc, out, header),
+impl Listing for slice::Iter<'_, Table<'_>> {
+    ghost use Rattle.std.specs.Slice.Iter.{iter_rest};
+    ghost use Rattle.acpi_text.specs.Items.{lent};
+
+    ghost text = { λ table. table_text table.now };
+
+    ghost left = { λ tables. tables_text (iter_rest tables) };
+
+    ghost begins = { lent table_text };
+
+    fn list<W: Write>(alloc: Global, out: &mut W, table: &Table<'_>) -> Result<(), RunFault>
+        ensures { Lists result (W.contents out.old) (W.contents out.new) (table_text table.now) }
+    {
+        match table {
+            Table::Rsdp(rsdp) => list_rsdp(alloc, out, rsdp),
+            Table::Facs => put(out, b"facs left out\n"),
+            Table::Xsdt(xsdt) => list_xsdt(alloc, out, xsdt),
+            Table::Fadt(fadt) => list_fadt(alloc, out, fadt),
+            Table::Madt(madt) => list_madt(alloc, out, madt),
+            Table::Other(header) => list_header(alloc, out, header),
+        }
     }
 }
 
@@ -65,25 +75,25 @@ fn list_xsdt<W: Write>(alloc: Global, out: &mut W, xsdt: &Xsdt<'_>) -> Result<()
         (header_line xsdt.now.header ++ flat_map address_line (listed xsdt.now)) }
 {
     list_header(alloc, out, &xsdt.header)?;
-    list_addresses(alloc, out, xsdt)
+    list_items(alloc, out, xsdt.entries())
 }
 
-fn list_addresses<W: Write>(alloc: Global, out: &mut W, xsdt: &Xsdt<'_>) -> Result<(), RunFault>
-    ensures { Lists result (W.contents out.old) (W.contents out.new)
-        (flat_map address_line (listed xsdt.now)) }
-{
-    for i in 0..xsdt.len() {
-        let address = xsdt.entry(i).unwrap();
-        list_address(alloc, out, address)?;
+impl Listing for Addresses<'_> {
+    ghost use Rattle.acpi_tables.specs.Entries.{addresses_left};
+    ghost use Rattle.acpi_text.specs.Items.{shown};
+
+    ghost text = { address_line };
+
+    ghost left = { λ addresses. flat_map address_line (addresses_left addresses) };
+
+    ghost begins = { shown addresses_left address_line };
+
+    fn list<W: Write>(alloc: Global, out: &mut W, address: u64) -> Result<(), RunFault>
+        ensures { Lists result (W.contents out.old) (W.contents out.new) (address_line address) }
+    {
+        let line = table_lines::address(alloc, address)?;
+        put(out, line.as_bytes())
     }
-    Ok(())
-}
-
-fn list_address<W: Write>(alloc: Global, out: &mut W, address: u64) -> Result<(), RunFault>
-    ensures { Lists result (W.contents out.old) (W.contents out.new) (address_line address) }
-{
-    let line = table_lines::address(alloc, address)?;
-    put(out, line.as_bytes())
 }
 
 fn list_fadt<W: Write>(alloc: Global, out: &mut W, fadt: &Fadt<'_>) -> Result<(), RunFault>
@@ -108,7 +118,7 @@ fn list_madt<W: Write>(alloc: Global, out: &mut W, madt: &Madt<'_>) -> Result<()
 {
     list_header(alloc, out, &madt.header)?;
     list_interrupt_fields(alloc, out, madt)?;
-    list_structures(alloc, out, madt)
+    list_items(alloc, out, madt.entries())
 }
 
 fn list_interrupt_fields<W: Write>(
@@ -122,19 +132,20 @@ fn list_interrupt_fields<W: Write>(
     put(out, fields.as_bytes())
 }
 
-fn list_structures<W: Write>(alloc: Global, out: &mut W, madt: &Madt<'_>) -> Result<(), RunFault>
-    ensures { Lists result (W.contents out.old) (W.contents out.new)
-        (flat_map structure_line (entries madt.now)) }
-{
-    for entry in madt.entries() {
-        list_structure(alloc, out, entry)?;
-    }
-    Ok(())
-}
+impl Listing for Entries<'_> {
+    ghost use Rattle.acpi_tables.specs.Entries.{entries_left};
+    ghost use Rattle.acpi_text.specs.Items.{shown};
 
-fn list_structure<W: Write>(alloc: Global, out: &mut W, entry: Entry) -> Result<(), RunFault>
-    ensures { Lists result (W.contents out.old) (W.contents out.new) (structure_line entry) }
-{
-    let line = structure_line_of(alloc, entry)?;
-    put(out, line.as_bytes())
+    ghost text = { structure_line };
+
+    ghost left = { λ entries. flat_map structure_line (entries_left entries) };
+
+    ghost begins = { shown entries_left structure_line };
+
+    fn list<W: Write>(alloc: Global, out: &mut W, entry: Entry) -> Result<(), RunFault>
+        ensures { Lists result (W.contents out.old) (W.contents out.new) (structure_line entry) }
+    {
+        let line = structure_line_of(alloc, entry)?;
+        put(out, line.as_bytes())
+    }
 }

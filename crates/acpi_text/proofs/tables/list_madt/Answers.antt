@@ -14,5 +14,5 @@ returns-in_err-list_interrupt_fields g c =
 
 pub returns : goal.returns
 returns g c =
-    lists_then c.list_structures.result _ _ _ _ _ c.in_ok-list_header.ensures
-    (lists_then c.list_structures.result _ _ _ _ _ c.in_ok-list_interrupt_fields.ensures c.list_structures.ensures)
+    lists_then c.list_items.result _ _ _ _ _ c.in_ok-list_header.ensures
+    (lists_then c.list_items.result _ _ _ _ _ c.in_ok-list_interrupt_fields.ensures (rw c.entries.ensures at c.list_items.ensures))
