@@ -20,7 +20,7 @@ fn byte_sum(bytes: &[u8]) -> u8 {
 
 /// A table of a signature and a revision, and of at most 219 bytes behind its header; the length and
 /// the checksum fit.
-pub fn table_of(
+pub(crate) fn table_of(
     alloc: Global,
     signature: [u8; 4],
     revision: u8,
@@ -38,7 +38,7 @@ pub fn table_of(
 }
 
 /// A table in which some bytes are others, by their places.
-pub fn changed(
+pub(crate) fn changed(
     alloc: Global,
     table: &[u8],
     changes: &[(usize, u8)],
