@@ -1,4 +1,3 @@
-pub mod Methods
 pub mod FilesListed
 pub mod Evaluations
 pub mod Elements

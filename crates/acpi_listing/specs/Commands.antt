@@ -1,15 +1,15 @@
 -- What the commands do, from words that were read to what is printed.
-use Rattle.std.specs.Prelude.{◌≡◌, ◌≤◌, ◌⊎◌, ◌-◌, ◌^◌, ℕ, List, ◌∷◌, ◌++◌, All, Bool, length, Option, Some, None, Result, Ok, Err, IfOk, map, option_map, vec_items}
+use Rattle.std.specs.Prelude.{◌≡◌, ◌≤◌, ◌⊎◌, ◌-◌, ◌^◌, ℕ, List, [], ◌∷◌, ◌++◌, All, Bool, codes, option_and_then, length, Option, Some, None, Result, Ok, Err, IfOk, map, option_map, vec_items}
 use Rattle.std.specs.Io.KnownBytes.{Appends}
-use Rattle.aml_lex.specs.declared.names.NameSeg.{NameSeg}
 use Rattle.aml_namespace.specs.Widths.{bits_of}
 use Rattle.aml_operators.specs.Tree.{Tree, trees}
 use Rattle.aml_tree.specs.declared.fault.Refusal.{Refusal}
 use Rattle.aml_tree.specs.declared.fault.TreeFault.TheVariants.{Refused}
 use Rattle.aml_namespace.specs.declared.fault.LoadRefusal.{LoadRefusal}
-use Rattle.aml_namespace.specs.declared.method.Method.{Method}
+use Rattle.aml_namespace.specs.declared.object.Method.{Method}
 use Rattle.aml_namespace.specs.Load.{Shown, IsLoaded, FaultyLoad}
-use Rattle.aml_namespace.specs.Objects.{method_at, number_of, IsBodyOf, ReadsBodyOf}
+use Rattle.aml_namespace.specs.Names.{method_at, IsBodyOf, ReadsBodyOf}
+use Rattle.aml_namespace.specs.Printed.{printed_object}
 use Rattle.aml_plain.specs.Methods.{Evaluates}
 use Rattle.aml_plain.specs.declared.body.Outcome.{Outcome}
 use Rattle.aml_plain.specs.declared.body.Outcome.TheVariants.{Done, AmlError, OutOfSteps}
@@ -32,23 +32,21 @@ use Rattle.acpi_text.specs.declared.writing.RunFault.{RunFault}
 use Rattle.acpi_listing.specs.declared.words.Request.{Request}
 use Rattle.acpi_listing.specs.declared.words.Request.TheVariants.{Tables, Eval}
 
--- the method that a word names: `\` and the four characters of a segment
+-- the method whose printed path, or an alias's, a word is
 abbrev pub Names : Shown → List ℕ → ℕ → Method → Type 0
-Names ns word id m =
-    (segment : NameSeg) × (word ≡ 92 ∷ segment.bytes) × (number_of ns segment ≡ Some id) × (method_at ns id ≡ Some m)
+Names ns word id m = (printed_object ns.entries word ≡ Some id) × (method_at ns id ≡ Some m)
 
 -- no method has a word's path
 abbrev pub NamesNone : Shown → List ℕ → Type 0
-NamesNone ns word = (segment : NameSeg) → length segment.bytes ≡ 4 → word ≡ 92 ∷ segment.bytes → number_of ns segment ≡ None
+NamesNone ns word = option_and_then (method_at ns) (printed_object ns.entries word) ≡ None
 
--- the segment of a word
-abbrev pub HasSegment : List ℕ → Option NameSeg → Type 0
-HasSegment word (Some segment) = word ≡ 92 ∷ segment.bytes
-HasSegment word None = (segment : NameSeg) → length segment.bytes ≡ 4 → word ≡ 92 ∷ segment.bytes → ⊥
+-- what `_OS_` tells
+abbrev pub os_name : List ℕ
+os_name = codes "acpicheck"
 
 -- why a table has no namespace
 abbrev pub FailsToLoad : List ℕ → Fault → Type 0
-FailsToLoad bytes f = (refusal : LoadRefusal) × FaultyLoad bytes refusal × (f ≡ fault.Load refusal)
+FailsToLoad bytes f = (refusal : LoadRefusal) × FaultyLoad (bytes ∷ []) os_name refusal × (f ≡ fault.Load refusal)
 
 -- a method takes arguments: as many as it has, each an integer of the namespace
 abbrev pub Takes : Shown → Method → List ℕ → Type 0
@@ -66,18 +64,18 @@ ReadsArguments args = Tries (ListsArguments args) (λ f. (f ≡ fault.BadArgs) �
 
 -- the namespace of a table, or the first fault of its load
 abbrev pub Loads : List ℕ → Result Shown Fault → Type 0
-Loads bytes = Tries (IsLoaded bytes) (FailsToLoad bytes)
+Loads bytes = Tries (IsLoaded (bytes ∷ []) os_name) (FailsToLoad bytes)
 
 -- the method of that path
-abbrev pub Finds : Shown → List ℕ → Result Method Fault → Type 0
-Finds ns word (Ok m) = (id : ℕ) × Names ns word id m
+abbrev pub Finds : Shown → List ℕ → Result (ℕ × Method) Fault → Type 0
+Finds ns word (Ok (id, m)) = Names ns word id m
 Finds ns word (Err f) = NamesNone ns word × (f ≡ fault.NoSuchObject)
 
 -- the terms of a method's body, or why it cannot be read
-abbrev pub ReadsBody : Shown → Method → Result (Result (List Tree) Refusal) Fault → Type 0
-ReadsBody ns m (Ok (Ok ts)) = IsBodyOf ns m ts
-ReadsBody ns m (Ok (Err refusal)) = ReadsBodyOf ns m (Err (Refused refusal))
-ReadsBody ns m (Err f) = f ≡ fault.NoMemory
+abbrev pub ReadsBody : Shown → ℕ → Method → Result (Result (List Tree) Refusal) Fault → Type 0
+ReadsBody ns id m (Ok (Ok ts)) = IsBodyOf ns id m ts
+ReadsBody ns id m (Ok (Err refusal)) = ReadsBodyOf ns id m (Err (Refused refusal))
+ReadsBody ns id m (Err f) = f ≡ fault.NoMemory
 
 -- the arguments fit the method
 abbrev pub Fit : Shown → Method → List ℕ → Result (Unit {0}) Fault → Type 0
@@ -85,24 +83,24 @@ Fit ns m arguments (Ok _) = Takes ns m arguments
 Fit ns m arguments (Err f) = (Takes ns m arguments → ⊥) × (f ≡ fault.ArgsDontFit)
 
 -- the outcome that the meaning has
-abbrev pub IsMeant : Shown → Method → List Tree → List ℕ → ℕ → Result Outcome Fault → Type 0
-IsMeant ns m ts arguments steps (Ok outcome) = Evaluates ns m (trees ts) arguments steps outcome
-IsMeant ns m ts arguments steps (Err _) = ⊥
+abbrev pub IsMeant : Shown → ℕ → Method → List Tree → List ℕ → ℕ → Result Outcome Fault → Type 0
+IsMeant ns id m ts arguments steps (Ok outcome) = Evaluates ns id m (trees ts) arguments steps outcome
+IsMeant ns id m ts arguments steps (Err _) = ⊥
 
 -- `eval` of a body: a refused one has its line; else the arguments must fit, and the outcome has its line
-abbrev pub EvaluatesBody : Shown → Method → List ℕ → List ℕ → ℕ → Result (List Tree) Refusal → Step (Unit {0}) ℕ
-EvaluatesBody ns m word arguments steps (Err refusal) = Tells (refusal_line word m.table refusal) 3
-EvaluatesBody ns m word arguments steps (Ok ts) =
+abbrev pub EvaluatesBody : Shown → ℕ × Method → List ℕ → List ℕ → ℕ → Result (List Tree) Refusal → Step (Unit {0}) ℕ
+EvaluatesBody ns (id, m) word arguments steps (Err refusal) = Tells (refusal_line word m.table refusal) 3
+EvaluatesBody ns (id, m) word arguments steps (Ok ts) =
     Then (Gives (Fit ns m arguments)) (λ _.
-    Then (Gives (IsMeant ns m ts arguments steps)) (λ outcome.
+    Then (Gives (IsMeant ns id m ts arguments steps)) (λ outcome.
     Tells (outcome_line outcome) (outcome_status outcome)))
 
 -- `eval` of a table: the load, the method of that path, its body
 abbrev pub EvaluatesTable : List ℕ → List ℕ → ℕ → List ℕ → Step (Unit {0}) ℕ
 EvaluatesTable word arguments steps bytes =
     Then (Gives (Loads bytes)) (λ ns.
-    Then (Gives (Finds ns word)) (λ m.
-    Then (Gives (ReadsBody ns m)) (EvaluatesBody ns m word arguments steps)))
+    Then (Gives (Finds ns word)) (λ found.
+    Then (Gives (ReadsBody ns found.0 found.1)) (EvaluatesBody ns found word arguments steps)))
 
 -- `eval`: the arguments, the file, its table
 abbrev pub EvaluatesFile : {F : Type 0} → Answers F → List ℕ → List ℕ → Option (List ℕ) → ℕ → Step F ℕ

@@ -1,11 +1,13 @@
 // The command `eval`.
 
-ghost use Rattle.std.specs.Prelude.{◌≡◌, ◌<◌, ◌≤◌, ◌⊎◌, ◌↔◌, ℕ, List, true};
+ghost use Rattle.std.specs.Prelude.{◌≡◌, ◌≤◌, ◌⊎◌, ◌↔◌, ◌∷◌, [], ℕ, List, true};
 ghost use Rattle.std.specs.Prelude.{IfOk, IfErr, length, option_map, vec_items};
 ghost use Rattle.acpi_listing.specs.Arguments.{ListsArguments, ListsBadArguments};
-ghost use Rattle.aml_namespace.specs.Load.{IsLoaded, shown};
-ghost use Rattle.acpi_listing.specs.Commands.{EvaluatesFile, EvaluatesTable, FailsToLoad, Names, NamesNone};
-ghost use Rattle.acpi_listing.specs.Commands.{HasSegment, Takes, outcome_status};
+ghost use Rattle.aml_namespace.specs.Load.{IsLoaded};
+ghost use Rattle.aml_namespace.specs.Names.{method_at};
+ghost use Rattle.aml_namespace.specs.Shows.{shown};
+ghost use Rattle.acpi_listing.specs.Commands.{EvaluatesFile, EvaluatesTable, FailsToLoad, Names, NamesNone, os_name};
+ghost use Rattle.acpi_listing.specs.Commands.{Takes, outcome_status};
 ghost use Rattle.acpi_listing.specs.Steps.{Tells, Tries, Writes};
 ghost use Rattle.acpi_text.specs.Outcome.{outcome_line, refusal_line};
 ghost use Rattle.acpi_listing.specs.declared.fault.Fault.TheVariants as fault;
@@ -15,8 +17,7 @@ use crate::fault::{Fault, Stop};
 use crate::source::{Source, read_within_limit};
 use crate::words::EvalRequest;
 use acpi_text::{list_evaluation, list_refusal};
-use aml_lex::NameSeg;
-use aml_namespace::{Method, Namespace, ObjectId};
+use aml_namespace::{Host, Method, Namespace, ObjectId};
 use aml_plain::{Outcome, evaluate_terms};
 use aml_tree::{Refusal, TreeFault};
 use std::alloc::Global;
@@ -105,42 +106,34 @@ fn tell_refusal<W: Write>(
     Ok(3)
 }
 
+/// The text of `_OS_`.
+const OS_NAME: &[u8] = b"acpicheck";
+
 fn load<'a>(alloc: Global, table: &'a [u8]) -> Result<Namespace<'a>, Fault>
-    ensures { Tries (λ ns. IsLoaded table.now (shown ns)) (FailsToLoad table.now) result }
+    ensures { Tries (λ ns. IsLoaded (table.now ∷ []) os_name (shown ns)) (FailsToLoad table.now) result }
 {
-    match Namespace::load(alloc, table) {
+    let host = Host {
+        os: OS_NAME,
+        osi: &[],
+    };
+    match Namespace::load(alloc, &[table], host) {
         Ok(namespace) => Ok(namespace),
         Err(fault) => Err(Fault::from(fault)),
     }
 }
 
-// The method whose printed path the word is: `\` and the method's segment.
-#[tactic(auto, using(crate::proofs::Methods::method_within))]
+// The method whose printed path, or an alias's, the word is.
 fn find_method(namespace: &Namespace<'_>, word: &str) -> Result<(ObjectId, Method), Fault>
-    ensures within { IfOk result (λ found. found.0.0 < length (shown namespace.now).entries) }
     ensures found { IfOk result (λ found. Names (shown namespace.now) word.now found.0.0 found.1) }
     ensures none { IfErr result
         (λ f. NamesNone (shown namespace.now) word.now × (f ≡ fault.NoSuchObject)) }
 {
-    let Some(segment) = segment_of(word) else {
-        return Err(Fault::NoSuchObject);
-    };
-    let Some(id) = namespace.find(segment) else {
+    let Some(id) = namespace.find(word.as_bytes()) else {
         return Err(Fault::NoSuchObject);
     };
     match namespace.method(id) {
         Some(method) => Ok((id, method)),
-        None => unreachable!(),
-    }
-}
-
-fn segment_of(word: &str) -> Option<NameSeg>
-    ensures { HasSegment word.now result }
-{
-    let characters = word.as_bytes().strip_prefix(b"\\")?;
-    match <[u8; 4]>::try_from(characters) {
-        Ok(bytes) => Some(NameSeg { bytes }),
-        Err(_) => None,
+        None => Err(Fault::NoSuchObject),
     }
 }
 

@@ -1,6 +1,13 @@
 // Tables that tests read.
 
+use aml_namespace::Host;
 use std::alloc::{AllocError, Global};
+
+/// An operating system.
+pub(crate) const HOST: Host<'static> = Host {
+    os: b"Other",
+    osi: &[b"Other"],
+};
 
 /// A DSDT of revision 2 with one method M000 of one argument: Return (Add (Arg0, One)).
 pub const DSDT: [u8; 48] = [

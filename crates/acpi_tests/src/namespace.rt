@@ -1,11 +1,17 @@
 // Tables and names whose answers were worked out by hand from the layouts.
 
+mod definitions;
 mod faults;
 mod names;
+mod tables;
+mod within;
 
-use crate::made::{DSDT, table_of};
-use aml_lex::NameSeg;
-use aml_namespace::{LoadFault, Method, Namespace, ObjectId, Width};
+use crate::made::{DSDT, HOST, table_of};
+use aml_lex::{NameSeg, name_string};
+use aml_namespace::{
+    Content, DataName, Entry, LoadFault, Method, Namespace, NoMemory, Object, ObjectId, Scope,
+    Source, Width,
+};
 use aml_tree::Span;
 use std::alloc::{AllocError, Global};
 use std::test::Fail;
@@ -15,31 +21,59 @@ fn dsdt_of(alloc: Global, module: &[u8]) -> Result<Vec<u8>, AllocError> {
     table_of(alloc, *b"DSDT", 2, module)
 }
 
+/// An SSDT of revision 2 with such a module.
+fn ssdt_of(alloc: Global, module: &[u8]) -> Result<Vec<u8>, AllocError> {
+    table_of(alloc, *b"SSDT", 2, module)
+}
+
+/// The number of the object that a name names in a scope.
+fn found(ns: &Namespace<'_>, scope: Scope, name: &[u8]) -> Option<ObjectId> {
+    match name_string(name, 0) {
+        Ok((name, _)) => ns.lookup(scope, &name),
+        Err(_) => None,
+    }
+}
+
+/// Whether the path with this number has these segments.
+fn has_path(
+    alloc: Global,
+    ns: &Namespace<'_>,
+    id: ObjectId,
+    wanted: &[NameSeg],
+) -> Result<bool, NoMemory> {
+    match ns.path(alloc, id)? {
+        Some(path) => Ok(path.as_slice() == wanted),
+        None => Ok(false),
+    }
+}
+
 #[test]
 fn the_first_table(rt: HostRuntime) -> Result<(), Fail> {
-    let ns = Namespace::load(rt.alloc(), &DSDT)?;
+    let ns = Namespace::load(rt.alloc(), &[&DSDT], HOST)?;
     let method = Method {
         args: 1,
+        serialized: false,
+        sync_level: 0,
         table: 0,
         at: 36,
         body: Span { at: 43, end: 48 },
     };
-    let methods = [ns.method(ObjectId(0)), ns.method(ObjectId(1))];
+    let methods = [ns.method(ObjectId(8)), ns.method(ObjectId(9))];
     assert_eq!(rt;
-        (ns.width(), ns.len(), ns.is_empty(), methods),
-        (Width::Bits64, 1, false, [Some(method), None])
+        (ns.width(), ns.len(), methods),
+        (Width::Bits64, 10, [None, Some(method)])
     );
     Ok(())
 }
 
-/// The width of the integers, and whether no object is there, of a table without definitions.
-fn width_of(alloc: Global, revision: u8) -> Result<(Width, bool), LoadFault> {
+/// The width of the integers, and the number of objects, of a table without definitions.
+fn width_of(alloc: Global, revision: u8) -> Result<(Width, usize), LoadFault> {
     let table = match table_of(alloc, *b"DSDT", revision, &[]) {
         Ok(table) => table,
         Err(AllocError) => return Err(LoadFault::NoMemory),
     };
-    let ns = Namespace::load(alloc, &table)?;
-    Ok((ns.width(), ns.is_empty()))
+    let ns = Namespace::load(alloc, &[&table], HOST)?;
+    Ok((ns.width(), ns.len()))
 }
 
 /// Below revision 2 integers have 32 bits.
@@ -52,53 +86,58 @@ fn revisions(rt: HostRuntime) -> Result<(), Fail> {
         (255, Width::Bits64),
     ];
     for (revision, width) in rows {
-        assert_eq!(rt; width_of(rt.alloc(), *revision)?, (*width, true));
+        assert_eq!(rt; width_of(rt.alloc(), *revision)?, (*width, 9));
     }
     Ok(())
 }
 
-/// What an object is: its segment and its method, as its number and its segment find them.
-type Object = (ObjectId, NameSeg, Method);
+/// The integer 2.
+const REVISION: Object = Object::Data(DataName {
+    content: Content::Integer,
+    source: Source::Revision,
+});
 
-/// Whether the object is there, by its number and by its segment.
-fn has_object(ns: &Namespace<'_>, object: &Object) -> bool {
-    let (id, segment, method) = *object;
-    ns.method(id) == Some(method) && ns.segment(id) == Some(segment) && ns.find(segment) == Some(id)
-}
+/// The text of five bytes that the operating system tells.
+const OS_NAME: Object = Object::Data(DataName {
+    content: Content::String(5),
+    source: Source::OsName,
+});
 
-/// Whether the objects are ABCD, with its body at 43, and _STA, with its body at 50, and no others.
-fn has_both(ns: &Namespace<'_>) -> bool {
-    let abcd = Method {
-        args: 7,
-        table: 0,
-        at: 36,
-        body: Span { at: 43, end: 43 },
-    };
-    let sta = Method {
-        args: 0,
-        table: 0,
-        at: 43,
-        body: Span { at: 50, end: 51 },
-    };
-    has_object(ns, &(ObjectId(0), NameSeg { bytes: *b"ABCD" }, abcd))
-        && has_object(ns, &(ObjectId(1), NameSeg { bytes: *b"_STA" }, sta))
-        && ns.len() == 2
-        && ns.segment(ObjectId(2)).is_none()
-        && ns.find(NameSeg { bytes: *b"ABC_" }).is_none()
-}
+/// The predefined names in their order.
+const PREDEFINED: &[([u8; 4], Object)] = &[
+    (*b"_GPE", Object::Scope),
+    (*b"_PR_", Object::Scope),
+    (*b"_SB_", Object::Scope),
+    (*b"_SI_", Object::Scope),
+    (*b"_TZ_", Object::Scope),
+    (*b"_REV", REVISION),
+    (*b"_OSI", Object::OsInterfaces),
+    (*b"_OS_", OS_NAME),
+    (*b"_GL_", Object::Mutex),
+];
 
-/// Method (ABCD, 7, Serialized, 8) { } and Method (_STA) { Noop }.
 #[test]
-fn objects(rt: HostRuntime) -> Result<(), Fail> {
-    let table = dsdt_of(rt.alloc(), b"\x14\x06ABCD\x8f\x14\x07_STA\x00\xa3")?;
-    let ns = Namespace::load(rt.alloc(), &table)?;
-    assert!(rt; has_both(&ns));
+fn predefined_names(rt: HostRuntime) -> Result<(), Fail> {
+    let ns = Namespace::load(rt.alloc(), &[&DSDT], HOST)?;
+    for (number, (bytes, object)) in PREDEFINED.iter().enumerate() {
+        let id = ObjectId(number);
+        let is_there = has_path(rt.alloc(), &ns, id, &[NameSeg { bytes: *bytes }])?;
+        assert_eq!(rt;
+            (
+                is_there,
+                found(&ns, Scope::Root, bytes),
+                ns.object(id),
+                ns.entry(id)
+            ),
+            (true, Some(id), Some(*object), Some(Entry::Own(*object)))
+        );
+    }
     Ok(())
 }
 
-/// How many objects the first table has.
+/// How many objects the first table has, the predefined ones counted.
 fn count_of(alloc: Global) -> Result<usize, LoadFault> {
-    Ok(Namespace::load(alloc, &DSDT)?.len())
+    Ok(Namespace::load(alloc, &[&DSDT], HOST)?.len())
 }
 
 /// Also for a run in which an allocation fails: the load is then refused for want of memory, and the
@@ -109,6 +148,6 @@ fn want_of_memory(rt: HostRuntime) -> Result<(), Fail> {
         Err(LoadFault::NoMemory) => count_of(rt.alloc()),
         told => told,
     };
-    assert_eq!(rt; count, Ok(1));
+    assert_eq!(rt; count, Ok(10));
     Ok(())
 }

@@ -1,12 +1,14 @@
 // Methods from the bytes of their tables, whose outcomes were worked out by hand.
 
-ghost use Rattle.std.specs.Prelude.{◌<◌, length};
-ghost use Rattle.aml_namespace.specs.Load.{shown};
+ghost use Rattle.std.specs.Prelude.{IsSome};
+ghost use Rattle.aml_namespace.specs.Names.{method_at};
+ghost use Rattle.aml_namespace.specs.Shows.{shown};
 
-use crate::made::{DSDT, changed, table_of};
+use crate::made::{DSDT, HOST, changed, table_of};
 use aml_meaning::{AmlCause, AmlError};
-use aml_namespace::{LoadFault, Namespace, NoMemory, ObjectId};
+use aml_namespace::{LoadCause, LoadFault, LoadRefusal, Namespace, NoMemory, ObjectId};
 use aml_plain::{Outcome, evaluate_plain, evaluate_terms};
+use aml_tree::TreeFault;
 use std::alloc::Global;
 use std::process::Abort;
 use std::test::Fail;
@@ -19,6 +21,18 @@ fn error(cause: AmlCause, at: usize) -> Outcome {
     })
 }
 
+/// The fault of a body of the first table, as that of the table.
+fn refused(fault: TreeFault) -> LoadFault {
+    match fault {
+        TreeFault::NoMemory => LoadFault::NoMemory,
+        TreeFault::Refused(refusal) => LoadFault::Refused(LoadRefusal {
+            cause: LoadCause::Tree(refusal.cause),
+            table: 0,
+            at: refusal.at,
+        }),
+    }
+}
+
 /// The first method's outcome, from its terms.
 fn outcome_of_terms(
     alloc: Global,
@@ -26,11 +40,11 @@ fn outcome_of_terms(
     arguments: &[u64],
     fuel: u64,
 ) -> Result<Outcome, LoadFault>
-    requires { 0 < length (shown namespace.now).entries }
+    requires { IsSome (method_at (shown namespace.now) 9) }
 {
-    match namespace.tree(alloc, ObjectId(0)) {
-        Ok(body) => Ok(evaluate_terms(namespace, ObjectId(0), &body, arguments, fuel)),
-        Err(fault) => Err(LoadFault::from(fault)),
+    match namespace.tree(alloc, ObjectId(9)) {
+        Ok(body) => Ok(evaluate_terms(namespace, ObjectId(9), &body, arguments, fuel)),
+        Err(fault) => Err(refused(fault)),
     }
 }
 
@@ -41,14 +55,14 @@ fn outcome_of_bytes(
     arguments: &[u64],
     fuel: u64,
 ) -> Result<Outcome, LoadFault>
-    requires { 0 < length (shown namespace.now).entries }
+    requires { IsSome (method_at (shown namespace.now) 9) }
 {
-    match namespace.tree(alloc, ObjectId(0)) {
-        Ok(_) => match evaluate_plain(alloc, namespace, ObjectId(0), arguments, fuel) {
+    match namespace.tree(alloc, ObjectId(9)) {
+        Ok(_) => match evaluate_plain(alloc, namespace, ObjectId(9), arguments, fuel) {
             Ok(outcome) => Ok(outcome),
             Err(NoMemory) => Err(LoadFault::NoMemory),
         },
-        Err(fault) => Err(LoadFault::from(fault)),
+        Err(fault) => Err(refused(fault)),
     }
 }
 
@@ -60,7 +74,7 @@ fn evaluated(
     arguments: &[u64],
     fuel: u64,
 ) -> Result<Outcome, LoadFault>
-    requires { 0 < length (shown namespace.now).entries }
+    requires { IsSome (method_at (shown namespace.now) 9) }
 {
     let outcome = outcome_of_terms(alloc, namespace, arguments, fuel)?;
     let plain = outcome_of_bytes(alloc, namespace, arguments, fuel)?;
@@ -76,8 +90,8 @@ fn outcome_of(
     arguments: &[u64],
     fuel: u64,
 ) -> Result<Outcome, LoadFault> {
-    let namespace = Namespace::load(alloc, table)?;
-    assert!(rt; !namespace.is_empty());
+    let namespace = Namespace::load(alloc, &[table], HOST)?;
+    assert!(rt; namespace.method(ObjectId(9)).is_some());
     evaluated(rt, alloc, &namespace, arguments, fuel)
 }
 
@@ -130,6 +144,24 @@ const CALL: &[u8] = b"\x14\x0bM024\x00\xa4M024";
 /// Store (One, M025), the method itself.
 const STORED_METHOD: &[u8] = b"\x14\x0cM025\x00\x70\x01M025";
 
+/// Return (_SB), a scope.
+const SCOPE: &[u8] = b"\x14\x0bM027\x00\xa4_SB_";
+
+/// Return (_REV), a name of data.
+const DATA: &[u8] = b"\x14\x0bM028\x00\xa4_REV";
+
+/// Return (_OSI (One)).
+const OS_INTERFACES: &[u8] = b"\x14\x0cM029\x00\xa4_OSI\x01";
+
+/// Store (One, _SB), a scope.
+const STORED_SCOPE: &[u8] = b"\x14\x0cM030\x00\x70\x01_SB_";
+
+/// Store (One, _REV), a name of data.
+const STORED_DATA: &[u8] = b"\x14\x0cM031\x00\x70\x01_REV";
+
+/// Store (One, _OSI).
+const STORED_INTERFACES: &[u8] = b"\x14\x0cM032\x00\x70\x01_OSI";
+
 #[test]
 fn bodies(rt: HostRuntime) -> Result<(), Fail> {
     let rows: &[(&[u8], &[u64], u64, Outcome)] = &[
@@ -153,6 +185,12 @@ fn bodies(rt: HostRuntime) -> Result<(), Fail> {
         (CALL, &[], 2, error(AmlCause::Outside, 44)),
         (STORED_METHOD, &[], 2, Outcome::OutOfSteps),
         (STORED_METHOD, &[], 3, error(AmlCause::Kind, 45)),
+        (SCOPE, &[], 2, error(AmlCause::Kind, 44)),
+        (DATA, &[], 2, error(AmlCause::Outside, 44)),
+        (OS_INTERFACES, &[], 2, error(AmlCause::Outside, 44)),
+        (STORED_SCOPE, &[], 3, error(AmlCause::Kind, 45)),
+        (STORED_DATA, &[], 3, error(AmlCause::Outside, 45)),
+        (STORED_INTERFACES, &[], 3, error(AmlCause::Kind, 45)),
     ];
     for (module, arguments, fuel, outcome) in rows {
         let table = table_of(rt.alloc(), *b"DSDT", 2, module)?;

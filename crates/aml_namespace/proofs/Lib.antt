@@ -1,6 +1,3 @@
-pub mod Definitions
-pub mod Spans
-pub mod Places
 pub mod Positions
 pub mod PathNumbers
 pub mod Tries
@@ -8,5 +5,18 @@ pub mod Added
 pub mod Ways
 pub mod Scopes
 pub mod Seen
-pub mod Rooted
-pub mod Numbered
+pub mod Upward
+pub mod Kept
+pub mod Spelled
+pub mod Entering
+pub mod Shapes
+pub mod Weights
+pub mod Defined
+pub mod FirstNames
+pub mod Modules
+pub mod Tables
+pub mod Additions
+pub mod Sound
+pub mod PrintedPaths
+pub mod Placed
+pub mod Distinct

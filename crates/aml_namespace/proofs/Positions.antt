@@ -1,5 +1,5 @@
 -- Places in a list with one more element.
-use Rattle.std.proofs.Common.{◌≡◌, ℕ, zero, suc, ◌+◌, ◌⊎◌, inl, inr, List, [], ◌∷◌, ◌++◌, length, drop, slice_get, Some, None, Bool, true, false, refl, ap, ◌∙◌, arith}
+use Rattle.std.proofs.Common.{◌≡◌, ℕ, zero, suc, ◌+◌, ◌<◌, ◌⊎◌, inl, inr, List, [], ◌∷◌, ◌++◌, length, take, drop, slice_get, Some, None, Bool, true, false, refl, ap, ◌∙◌, arith}
 use Rattle.std.specs.Prelude.{position, not, option_map}
 use Rattle.std.proofs.lemmas.Bool.Decides.{nat_tests}
 use Rattle.std.proofs.lemmas.List.{drop_more, length_push}
@@ -45,3 +45,10 @@ module _ {X : Type 0} where
   -- what is left of a list from a place on
   pub drop_from : (xs : List X) (i : ℕ) (x : X) → slice_get xs i ≡ Some x → drop i xs ≡ x ∷ drop (i + 1) xs
   drop_from xs i x is = drop_more xs i x (slice_get_within xs i x is) ∙ ap (λ (y : X). y ∷ drop (i + 1) xs) (get_or_from_slice_get xs i x x is)
+
+  -- what stands among the first of a list stands in the list
+  pub slice_get_taken : (xs : List X) (n i : ℕ) (x : X) → i < n → slice_get xs i ≡ Some x → slice_get (take n xs) i ≡ Some x
+  slice_get_taken [] n i x lt is = absurd cc
+  slice_get_taken (y ∷ xs) zero i x lt is = absurd (omega arith)
+  slice_get_taken (y ∷ xs) (suc n) zero x lt is = is
+  slice_get_taken (y ∷ xs) (suc n) (suc i) x lt is = slice_get_taken xs n i x (omega arith) is

@@ -1,65 +1,104 @@
--- What a module's definitions make, in the order of the bytes (ACPI 6.5, 5.3 and 19.6, Method).
-use Rattle.std.specs.Prelude.{ℕ, ◌%◌, ◌==◌, List, [], ◌∷◌, ◌++◌, Option, Some, None, Result, Ok, Err, if◌then◌else◌, Bool, is_some, option_and_then}
+-- What a module's terms make, in the order of the bytes (ACPI 6.5, 5.3 and 19.6).
+use Rattle.std.specs.Prelude.{ℕ, length, Option, Some, None, Result, Ok}
+use Rattle.aml_operators.specs.declared.op.Op.{Op}
 use Rattle.aml_operators.specs.declared.op.Op.TheVariants as op
-use Rattle.aml_operators.specs.Tree.{Tree, Node, none, more, stop_of}
+use Rattle.aml_operators.specs.Tree.{Tree, Trees, Node, none, more}
+use Rattle.aml_operators.specs.Literal.{literal_of}
 use Rattle.aml_lex.specs.NameStrings.{NameString}
-use Rattle.aml_lex.specs.Names.{only_segment}
 use Rattle.aml_lex.specs.Standing.{name_there}
-use Rattle.aml_lex.specs.declared.names.NameSeg.{NameSeg}
-use Rattle.aml_tree.specs.declared.fault.TreeCause.TheVariants.{ModuleCode}
-use Rattle.aml_namespace.specs.declared.fault.LoadCause.TheVariants.{Tree as InTree, Duplicate, ScopeMissing}
 use Rattle.aml_namespace.specs.declared.fault.LoadRefusal.{LoadRefusal}
-use Rattle.aml_namespace.specs.declared.method.Method.{Method}
-use Rattle.aml_namespace.specs.Entries.{Entries, index_of}
-use Rattle.aml_namespace.specs.Fault.{load_refusal, ◌>>=◌}
+use Rattle.aml_namespace.specs.declared.object.Entry.TheVariants.{Own}
+use Rattle.aml_namespace.specs.declared.object.Field.{Field}
+use Rattle.aml_namespace.specs.declared.object.Object.{Object}
+use Rattle.aml_namespace.specs.declared.object.Object.TheVariants as object
+use Rattle.aml_namespace.specs.declared.object.Through.{Through}
+use Rattle.aml_namespace.specs.declared.object.Through.TheVariants as through
+use Rattle.aml_namespace.specs.declared.fields.Cursor.{Cursor}
+use Rattle.aml_namespace.specs.Entries.{Entries}
+use Rattle.aml_namespace.specs.Enter.{Here, aliased, entered, opened}
+use Rattle.aml_namespace.specs.Fault.{◌>>=◌}
+use Rattle.aml_namespace.specs.FieldLists.{behind, field_of, list_start}
+use Rattle.aml_namespace.specs.Made.{at_of, name_place, number_in, object_of}
 
--- the segment of a name that is one segment, at the root or relative to it
-abbrev pub root_segment : NameString → Option (List ℕ)
-root_segment name = if name.parents == 0 then only_segment name.segs else None
+-- what a name makes, where one stands; each name of a module does
+abbrev pub where_named : Option NameString → Entries → (NameString → Result Entries LoadRefusal) → Result Entries LoadRefusal
+where_named None entries makes = Ok entries
+where_named (Some name) entries makes = makes name
 
--- the segment of the name at a place, where it is such a name
-abbrev pub root_segment_at : List ℕ → ℕ → Option (List ℕ)
-root_segment_at bytes at = option_and_then root_segment (name_there bytes at)
+-- the name at a place makes one object
+abbrev pub object_entered : Here → Entries → Option (ℕ × Object) → Result Entries LoadRefusal
+object_entered here entries None = Ok entries
+object_entered here entries (Some (at, made)) = where_named (name_there here.bytes at) entries (λ name. entered here entries at name (Own made))
 
-abbrev pub at_of : Tree → ℕ
-at_of (Node o at stop parts) = at
+abbrev pub field_entered : Here → Entries → Option (ℕ × Field) → Result Entries LoadRefusal
+field_entered here entries None = Ok entries
+field_entered here entries (Some (at, made)) = object_entered here entries (Some (at, object.Field made))
 
--- a segment, the place of its name, and the method that it names
-abbrev pub Definition : Type 0
-Definition = NameSeg × ℕ × Method
+-- the fields of a field list
+abbrev pub fields_from : Here → Through → Cursor → Entries → Trees → Result Entries LoadRefusal
+fields_from here way cursor entries none = Ok entries
+fields_from here way cursor entries (more item items) = do
+  more_entries ← field_entered here entries (field_of way cursor item)
+  fields_from here way (behind cursor item) more_entries items
 
--- a method with these flags, whose opcode and whose body stand at these places; bits 2:0 of the flags are the number of arguments
-abbrev pub method_with : ℕ → ℕ → ℕ → ℕ → Method
-method_with flags at from to = record { args = flags % 8; table = 0; at = at; body = record { at = from; end = to } }
+-- another path of an object; its source's name comes first
+abbrev pub alias_entered : Here → Entries → ℕ → ℕ → Result Entries LoadRefusal
+alias_entered here entries source_at at =
+    where_named (name_there here.bytes source_at) entries (λ source. where_named (name_there here.bytes at) entries (λ name. aliased here entries source_at source at name))
 
--- a definition under the name at a place; a name of any other form has no parent that is there
-abbrev pub definition_under : Option (List ℕ) → ℕ → Method → Result Definition LoadRefusal
-definition_under None name_at method = Err (load_refusal ScopeMissing name_at)
-definition_under (Some bytes) name_at method = Ok (record { bytes = bytes }, name_at, method)
+-- the fields of a Field, an IndexField and a BankField
+abbrev pub region_fields : Here → Entries → Trees → Result Entries LoadRefusal
+region_fields here entries (more region (more flags items)) =
+    fields_from here (through.Region (name_place here region)) (list_start (number_in flags)) entries items
+region_fields here entries parts = Ok entries
 
--- a Method's parts are its name, its flags and its body; a term that defines nothing that is known yet may not stand in a module
-abbrev pub definition_of : List ℕ → Tree → Result Definition LoadRefusal
-definition_of bytes (Node op.Method at stop (more name (more (Node (op.Number flags) flags_at flags_end inner) (more body none)))) =
-    definition_under (root_segment_at bytes (at_of name)) (at_of name) (method_with flags at (at_of body) (stop_of body))
-definition_of bytes (Node o at stop parts) = Err (load_refusal (InTree ModuleCode) at)
+abbrev pub index_fields : Here → Entries → Trees → Result Entries LoadRefusal
+index_fields here entries (more index (more source (more flags items))) =
+    fields_from here (through.Index (name_place here index) (name_place here source)) (list_start (number_in flags)) entries items
+index_fields here entries parts = Ok entries
 
--- whether a segment names an object that is there
-abbrev pub is_defined : NameSeg → Entries → Bool
-is_defined segment entries = is_some (index_of entries segment)
+abbrev pub bank_fields : Here → Entries → Trees → Result Entries LoadRefusal
+bank_fields here entries (more region (more bank (more value (more flags items)))) =
+    fields_from here (through.Bank (name_place here region) (name_place here bank) (literal_of value)) (list_start (number_in flags)) entries items
+bank_fields here entries parts = Ok entries
 
--- one more definition, whose path must be new
-abbrev pub add : Entries → Definition → Result Entries LoadRefusal
-add entries d = if is_defined d.0 entries then Err (load_refusal Duplicate d.1) else Ok (entries ++ (d.0, d.2) ∷ [])
+abbrev pub alias : Here → Entries → Trees → Result Entries LoadRefusal
+alias here entries (more source (more name none)) = alias_entered here entries (at_of source) (at_of name)
+alias here entries parts = Ok entries
 
--- the object that a term defines, behind those that are there
-abbrev pub define_one : List ℕ → Entries → Tree → Result Entries LoadRefusal
-define_one bytes entries t = do
-  d ← definition_of bytes t
-  add entries d
+-- what a term makes that has no terms within; an External, and what defines nothing, make nothing
+abbrev pub flat : Here → Entries → Op → ℕ → Trees → Result Entries LoadRefusal
+flat here entries op.Alias at parts = alias here entries parts
+flat here entries op.Field at parts = region_fields here entries parts
+flat here entries op.IndexField at parts = index_fields here entries parts
+flat here entries op.BankField at parts = bank_fields here entries parts
+flat here entries o at parts = object_entered here entries (object_of here o at parts)
 
--- the objects that a module's terms define, behind those that are there
-abbrev pub defined_from : List ℕ → Entries → List Tree → Result Entries LoadRefusal
-defined_from bytes entries [] = Ok entries
-defined_from bytes entries (t ∷ ts) = do
-  more_entries ← define_one bytes entries t
-  defined_from bytes more_entries ts
+-- what stands within a new object that holds names
+abbrev pub holding : Here → Entries → Object → Tree → (Here → Entries → Result Entries LoadRefusal) → Result Entries LoadRefusal
+holding here entries made name within = where_named (name_there here.bytes (at_of name)) entries (λ n. do
+  more_entries ← entered here entries (at_of name) n (Own made)
+  within (record here { scope = length more_entries }) more_entries)
+
+-- what stands within a scope that is opened again
+abbrev pub reopening : Here → Entries → Tree → (Here → Result Entries LoadRefusal) → Result Entries LoadRefusal
+reopening here entries name within = where_named (name_there here.bytes (at_of name)) entries (λ n. do
+  scope ← opened here entries (at_of name) n
+  within (record here { scope = scope }))
+
+abbrev mutual
+  -- what a term makes, behind what is there
+  pub defined : Here → Entries → Tree → Result Entries LoadRefusal
+  defined here entries (Node op.Scope at stop (more name body)) = reopening here entries name (λ inner. all_defined inner entries body)
+  defined here entries (Node op.Device at stop (more name body)) = holding here entries object.Device name (λ inner es. all_defined inner es body)
+  defined here entries (Node op.ThermalZone at stop (more name body)) = holding here entries object.ThermalZone name (λ inner es. all_defined inner es body)
+  defined here entries (Node op.PowerResource at stop (more name (more level (more order body)))) = holding here entries object.PowerResource name (λ inner es. all_defined inner es body)
+  defined here entries (Node op.Processor at stop (more name (more id (more block (more size body))))) = holding here entries object.Processor name (λ inner es. all_defined inner es body)
+  defined here entries (Node o at stop parts) = flat here entries o at parts
+
+  -- what terms make, one behind the other
+  pub all_defined : Here → Entries → Trees → Result Entries LoadRefusal
+  all_defined here entries none = Ok entries
+  all_defined here entries (more t ts) = do
+    more_entries ← defined here entries t
+    all_defined here more_entries ts

@@ -10,19 +10,19 @@ use Rattle.aml_namespace.specs.declared.fault.LoadRefusal.{LoadRefusal}
 use Rattle.aml_namespace.specs.declared.fault.LoadFault.{LoadFault}
 use Rattle.aml_namespace.specs.declared.fault.LoadFault.TheVariants.{NoMemory, Refused}
 
--- a refusal in the first table
-abbrev pub load_refusal : LoadCause → ℕ → LoadRefusal
-load_refusal cause at = record { cause = cause; table = 0; at = at }
+-- a refusal in the table with a number
+abbrev pub load_refusal : LoadCause → ℕ → ℕ → LoadRefusal
+load_refusal cause table at = record { cause = cause; table = table; at = at }
 
-abbrev pub table_refusal : TableFault → LoadRefusal
-table_refusal fault = load_refusal (Table fault.cause) fault.at
+abbrev pub table_refusal : ℕ → TableFault → LoadRefusal
+table_refusal table fault = load_refusal (Table fault.cause) table fault.at
 
-abbrev pub tree_refusal : Refusal → LoadRefusal
-tree_refusal fault = load_refusal (Tree fault.cause) fault.at
+abbrev pub tree_refusal : ℕ → Refusal → LoadRefusal
+tree_refusal table fault = load_refusal (Tree fault.cause) table fault.at
 
-abbrev pub tree_fault : TreeFault → LoadFault
-tree_fault read.NoMemory = NoMemory
-tree_fault (read.Refused fault) = Refused (tree_refusal fault)
+abbrev pub tree_fault : ℕ → TreeFault → LoadFault
+tree_fault table read.NoMemory = NoMemory
+tree_fault table (read.Refused fault) = Refused (tree_refusal table fault)
 
 infixl 10 ◌>>=◌
 abbrev pub ◌>>=◌ : {X Y : Type 0} → Result X LoadRefusal → (X → Result Y LoadRefusal) → Result Y LoadRefusal

@@ -1,13 +1,25 @@
--- A law of loading.
-use Rattle.std.specs.Prelude.{◌<◌, ◌≤◌, ℕ, List, [], ◌∷◌, length, slice_get, IfSome}
+-- Laws of loading.
+use Rattle.std.specs.Prelude.{◌≡◌, ◌<◌, ◌≤◌, ℕ, List, ◌++◌, length, slice_get, IfSome}
 use Rattle.aml_namespace.specs.declared.fault.LoadRefusal.{LoadRefusal}
-use Rattle.aml_namespace.specs.Load.{FaultyLoad}
+use Rattle.aml_namespace.specs.Entries.{Entries, paths_in}
+use Rattle.aml_namespace.specs.Paths.{AreDistinct}
+use Rattle.aml_namespace.specs.Predefined.{predefined_entries}
+use Rattle.aml_namespace.specs.Load.{AllMake, FaultyLoad}
 
 -- a fault names one of these tables, and a place within its bytes or at their end
 pub record StandsWithin (tables : List (List ℕ)) (f : LoadRefusal) : Type 0 where
   pub table : f.table < length tables
   pub place : IfSome (slice_get tables f.table) (λ bytes. f.at ≤ length bytes)
 
--- the faults of a load stand within the table that was handed in
+-- the faults of a load stand within the tables that were handed in
 abbrev pub FaultsWithin : Type 0
-FaultsWithin = (bytes : List ℕ) (f : LoadRefusal) → FaultyLoad bytes f → StandsWithin (bytes ∷ []) f
+FaultsWithin = (tables : List (List ℕ)) (os : List ℕ) (f : LoadRefusal) → FaultyLoad tables os f → StandsWithin tables f
+
+-- what the first tables make stays as it is, in its order, when more tables follow: those only add to it
+abbrev pub DefinitionsStay : Type 0
+DefinitionsStay = (tables more : List (List ℕ)) (before after : Entries) → AllMake 0 (tables ++ more) before after
+    → (first added : Entries) × AllMake 0 tables before first × (after ≡ first ++ added)
+
+-- of the pairs that tables make, no two have one path: a path has at most one object
+abbrev pub PathsDistinct : Type 0
+PathsDistinct = (tables : List (List ℕ)) (os : List ℕ) (entries : Entries) → AllMake 0 tables (predefined_entries (length os)) entries → AreDistinct (paths_in entries)

@@ -1,50 +1,73 @@
--- What a loaded DSDT makes, or the first fault (ACPI 6.5, 5.2.11 and 5.3).
-use Rattle.std.specs.Prelude.{◌≡◌, ◌⊎◌, ℕ, List, [], ◌∷◌, Some, Result, Ok, Err}
+-- What loaded tables make, or the first fault (ACPI 6.5, 5.2.11 and 5.3).
+use Rattle.std.specs.Prelude.{◌≡◌, ◌⊎◌, ℕ, zero, suc, List, [], ◌∷◌, codes, length, Some, Ok, Err}
 use Rattle.acpi_tables.specs.Bytes.{number_at}
 use Rattle.acpi_tables.specs.Fault.{first_fault}
 use Rattle.acpi_tables.specs.Table.{IsTableOf, table_checks}
 use Rattle.acpi_tables.specs.declared.fault.TableFault.{TableFault}
-use Rattle.aml_operators.specs.Tree.{Tree}
+use Rattle.aml_operators.specs.Tree.{Tree, trees}
 use Rattle.aml_tree.specs.declared.fault.Refusal.{Refusal}
 use Rattle.aml_tree.specs.Body.{IsModule, FaultyModule}
-use Rattle.aml_namespace.specs.declared.fault.LoadFault.{LoadFault}
-use Rattle.aml_namespace.specs.declared.fault.LoadFault.TheVariants.{NoMemory, Refused}
 use Rattle.aml_namespace.specs.declared.fault.LoadRefusal.{LoadRefusal}
-use Rattle.aml_namespace.specs.declared.namespace.Namespace.{Namespace}
-use Rattle.aml_namespace.specs.declared.width.Width.{Width}
-use Rattle.aml_namespace.specs.Widths.{width_by}
-use Rattle.aml_namespace.specs.Fault.{table_refusal, tree_refusal}
+use Rattle.aml_namespace.specs.Define.{all_defined}
+use Rattle.aml_namespace.specs.Enter.{Here}
 use Rattle.aml_namespace.specs.Entries.{Entries}
-use Rattle.aml_namespace.specs.Define.{defined_from}
-use Rattle.aml_namespace.specs.Defines.{entries_seen}
+use Rattle.aml_namespace.specs.Fault.{table_refusal, tree_refusal}
+use Rattle.aml_namespace.specs.Predefined.{predefined_entries}
+use Rattle.aml_namespace.specs.Widths.{width_by}
+use Rattle.aml_namespace.specs.declared.width.Width.{Width}
 
--- `DSDT`
-abbrev pub dsdt_signature : List ℕ
-dsdt_signature = 68 ∷ 83 ∷ 68 ∷ 84 ∷ []
+-- the first table is a DSDT, and the others are SSDTs
+abbrev pub signature_of : ℕ → List ℕ
+signature_of zero = codes "DSDT"
+signature_of (suc n) = codes "SSDT"
 
--- what a namespace shows: its table's bytes, the width of integers, and its objects in order of definition
+-- a table's definitions begin at the root
+abbrev pub at_root : ℕ → List ℕ → Here
+at_root n bytes = record { table = n; bytes = bytes; scope = 0 }
+
+-- what a table of this number makes, behind what is there
+pub record Makes (n : ℕ) (bytes : List ℕ) (before after : Entries) : Type 0 where
+  pub table : IsTableOf (signature_of n) bytes
+  pub terms : List Tree
+  pub module_of : IsModule bytes terms
+  pub makes : all_defined (at_root n bytes) before (trees terms) ≡ Ok after
+
+-- its first fault: of the table, of its module, or of a definition
+abbrev pub Fails : ℕ → List ℕ → Entries → LoadRefusal → Type 0
+Fails n bytes before f =
+    ((fault : TableFault) × (first_fault (table_checks (signature_of n) bytes) ≡ Some fault) × (f ≡ table_refusal n fault))
+    ⊎ ((IsTableOf (signature_of n) bytes × ((g : Refusal) × FaultyModule bytes g × (f ≡ tree_refusal n g)))
+    ⊎ (IsTableOf (signature_of n) bytes × ((ts : List Tree) × IsModule bytes ts × (all_defined (at_root n bytes) before (trees ts) ≡ Err f))))
+
+-- what tables make that are numbered from n on, one behind the other
+abbrev pub AllMake : ℕ → List (List ℕ) → Entries → Entries → Type 0
+AllMake n [] before after = before ≡ after
+AllMake n (bytes ∷ more) before after = (next : Entries) × Makes n bytes before next × AllMake (suc n) more next after
+
+-- the first fault of such tables: of the first, or of those behind it
+abbrev pub AllFail : ℕ → List (List ℕ) → Entries → LoadRefusal → Type 0
+AllFail n [] before f = ⊥
+AllFail n (bytes ∷ more) before f = Fails n bytes before f ⊎ ((next : Entries) × Makes n bytes before next × AllFail (suc n) more next f)
+
+-- what a namespace shows: its tables' bytes, the text of `_OS_`, the width of integers, and its entries in order of definition
 pub record Shown : Type 0 where
-  pub table : List ℕ
+  pub tables : List (List ℕ)
+  pub os : List ℕ
   pub width : Width
   pub entries : Entries
 
-abbrev pub shown : Namespace → Shown
-shown ns = record { table = ns.table.now; width = ns.width; entries = entries_seen ns.objects }
+-- the revision of the first table tells the width
+abbrev pub first_width : List (List ℕ) → Width
+first_width [] = width_by 0
+first_width (bytes ∷ more) = width_by (number_at 8 1 bytes)
 
--- a namespace holds just what the definitions of the table's module make
-abbrev pub IsLoaded : List ℕ → Shown → Type 0
-IsLoaded bytes ns = IsTableOf dsdt_signature bytes × (ns.table ≡ bytes) × (ns.width ≡ width_by (number_at 8 1 bytes))
-    × ((ts : List Tree) × IsModule bytes ts × (defined_from bytes [] ts ≡ Ok ns.entries))
+-- a namespace holds just what these tables make behind the predefined names
+pub record IsLoaded (tables : List (List ℕ)) (os : List ℕ) (ns : Shown) : Type 0 where
+  pub tables_are : ns.tables ≡ tables
+  pub os_is : ns.os ≡ os
+  pub width_is : ns.width ≡ first_width tables
+  pub makes : AllMake 0 tables (predefined_entries (length os)) ns.entries
 
--- the first fault: of the table, of its module, or of a definition
-abbrev pub FaultyLoad : List ℕ → LoadRefusal → Type 0
-FaultyLoad bytes f =
-    ((fault : TableFault) × (first_fault (table_checks dsdt_signature bytes) ≡ Some fault) × (f ≡ table_refusal fault))
-    ⊎ ((IsTableOf dsdt_signature bytes × ((g : Refusal) × FaultyModule bytes g × (f ≡ tree_refusal g)))
-    ⊎ (IsTableOf dsdt_signature bytes × ((ts : List Tree) × IsModule bytes ts × (defined_from bytes [] ts ≡ Err f))))
-
--- the answer of a load
-abbrev pub Loads : List ℕ → Result Namespace LoadFault → Type 0
-Loads bytes (Ok ns) = IsLoaded bytes (shown ns)
-Loads bytes (Err NoMemory) = Unit {0}
-Loads bytes (Err (Refused f)) = FaultyLoad bytes f
+-- the first fault of these tables
+abbrev pub FaultyLoad : List (List ℕ) → List ℕ → LoadRefusal → Type 0
+FaultyLoad tables os f = AllFail 0 tables (predefined_entries (length os)) f

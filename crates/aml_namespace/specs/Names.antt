@@ -1,41 +1,91 @@
--- What a name in a method's body names: the methods are at the root (ACPI 6.5, 5.3).
-use Rattle.std.specs.Prelude.{ℕ, List, Option, Some, None, nat_le, option_and_then, if◌then◌else◌}
-use Rattle.std.specs.Map.{lookup}
+-- What a namespace's names name (ACPI 6.5, 5.3).
+use Rattle.std.specs.Prelude.{ℕ, suc, List, take, Option, Some, None, option_and_then, Result, slice_get}
 use Rattle.aml_lex.specs.NameStrings.{NameString}
-use Rattle.aml_lex.specs.Names.{only_segment}
 use Rattle.aml_lex.specs.Standing.{name_there}
-use Rattle.aml_lex.specs.declared.names.NameSeg.{NameSeg}
-use Rattle.aml_tree.specs.Body.{same_segment}
+use Rattle.aml_operators.specs.Tree.{Tree}
+use Rattle.aml_tree.specs.Body.{IsBody, ReadsBody}
+use Rattle.aml_tree.specs.declared.fault.TreeFault.{TreeFault}
 use Rattle.aml_namespace.specs.declared.link.Link.{Link}
 use Rattle.aml_namespace.specs.declared.link.Link.TheVariants as link
-use Rattle.aml_namespace.specs.declared.method.Method.{Method}
-use Rattle.aml_namespace.specs.Entries.{Entries, index_of}
+use Rattle.aml_namespace.specs.declared.object.Method.{Method}
+use Rattle.aml_namespace.specs.declared.object.Object.{Object}
+use Rattle.aml_namespace.specs.declared.object.Object.TheVariants as object
+use Rattle.aml_namespace.specs.declared.object.Scope.{Scope}
+use Rattle.aml_namespace.specs.declared.object.Scope.TheVariants.{Root, At}
+use Rattle.aml_namespace.specs.Bodies.{bytes_of}
+use Rattle.aml_namespace.specs.Entries.{Entries, number_of, object_at, object_number, paths_in}
+use Rattle.aml_namespace.specs.Load.{Shown}
+use Rattle.aml_namespace.specs.Paths.{Path}
+use Rattle.aml_namespace.specs.Resolve.{resolve}
 
--- what is found for the one segment that a name in a body has: a lone segment is searched upward, `^` goes from a method to the
--- root, and above the root nothing is named
-abbrev pub found_at_root : {X : Type 0} → (NameSeg → Option X) → NameString → Option X
-found_at_root find name = if nat_le name.parents 1 then option_and_then (λ bytes. find (record { bytes = bytes })) (only_segment name.segs) else None
+-- the number of the object that a name names in a scope
+abbrev pub named_in : Entries → Path → NameString → Option ℕ
+named_in entries scope name = option_and_then (object_number entries) (resolve (number_of entries) scope name)
 
--- the number of the object that a name names
-abbrev pub number_named : Entries → NameString → Option ℕ
-number_named entries name = found_at_root (index_of entries) name
+-- the path of a scope, where it is one
+abbrev pub scope_path : Entries → Scope → Option Path
+scope_path entries Root = slice_get (paths_in entries) 0
+scope_path entries (At id) = slice_get (paths_in entries) (suc id.0)
 
--- the method that it names
-abbrev pub resolve : Entries → NameString → Option Method
-resolve entries name = found_at_root (λ segment. lookup (same_segment segment) entries) name
+-- what a name names in a scope; in what is none, nothing
+abbrev pub looked_up : Entries → Scope → NameString → Option ℕ
+looked_up entries scope name = option_and_then (λ path. named_in entries path name) (scope_path entries scope)
 
-abbrev pub args_of : Option Method → ℕ
-args_of None = 0
-args_of (Some method) = method.args
+-- the object under a path
+abbrev pub found : Entries → Path → Option ℕ
+found entries path = option_and_then (object_number entries) (number_of entries path)
 
--- how many arguments a name takes in a body
-abbrev pub counts : Entries → NameString → ℕ → ℕ
-counts entries name at = args_of (resolve entries name)
+abbrev pub method_in : Object → Option Method
+method_in (object.Method m) = Some m
+method_in o = None
 
-abbrev pub link_to : Option ℕ → Link
-link_to None = link.Missing
-link_to (Some i) = link.Method (record { 0 = i })
+-- the method with a number
+abbrev pub method_at : Shown → ℕ → Option Method
+method_at ns i = option_and_then method_in (object_at ns.entries i)
 
--- what the name at a place of these bytes means: who knows this needs no name
-abbrev pub link_at : Entries → List ℕ → ℕ → Link
-link_at entries bytes at = link_to (option_and_then (number_named entries) (name_there bytes at))
+-- how many arguments what is named takes: a method its own number, `_OSI` one
+abbrev pub args_of : Option Object → ℕ
+args_of (Some (object.Method m)) = m.args
+args_of (Some object.OsInterfaces) = 1
+args_of o = 0
+
+-- what a name names within the object with a number, as a method's names do within the method
+abbrev pub named_within : Entries → ℕ → NameString → Option ℕ
+named_within entries id name = looked_up entries (At (record { 0 = id })) name
+
+-- how many arguments a name takes in a method's body
+abbrev pub counts : Entries → ℕ → NameString → ℕ → ℕ
+counts entries id name at = args_of (option_and_then (object_at entries) (named_within entries id name))
+
+-- what the name of an object means in a body
+abbrev pub link_to : ℕ → Object → Link
+link_to i (object.Method m) = link.Method (record { 0 = i })
+link_to i object.OsInterfaces = link.OsInterfaces
+link_to i (object.Data d) = link.Data (record { 0 = i })
+link_to i (object.Field f) = link.Field (record { 0 = i })
+link_to i (object.BufferField f) = link.BufferField (record { 0 = i })
+link_to i o = link.Object (record { 0 = i })
+
+abbrev pub link_of : ℕ → Option Object → Link
+link_of i None = link.Missing
+link_of i (Some o) = link_to i o
+
+abbrev pub linked : Entries → Option ℕ → Link
+linked entries None = link.Missing
+linked entries (Some i) = link_of i (object_at entries i)
+
+-- what the name at a place of these bytes means in the body of a method with a number
+abbrev pub link_at : Entries → ℕ → List ℕ → ℕ → Link
+link_at entries id bytes at = linked entries (option_and_then (named_within entries id) (name_there bytes at))
+
+-- the bytes in which a method's body stands, up to its end
+abbrev pub body_bytes : Shown → Method → List ℕ
+body_bytes ns m = take m.body.end (bytes_of ns.tables m.table)
+
+-- the statements of a method's body, as the grammar ties them to its table's bytes
+abbrev pub IsBodyOf : Shown → ℕ → Method → List Tree → Type 0
+IsBodyOf ns id m ts = IsBody (counts ns.entries id) (body_bytes ns m) m.body.at ts
+
+-- the answer of reading a method's body
+abbrev pub ReadsBodyOf : Shown → ℕ → Method → Result (List Tree) TreeFault → Type 0
+ReadsBodyOf ns id m answer = ReadsBody (counts ns.entries id) (body_bytes ns m) m.body.at answer

@@ -1,129 +1,306 @@
-// The objects that definitions make.
+// What a module's terms make, in the order of the bytes (ACPI 6.5, 5.3 and 19.6).
 
-ghost use Rattle.std.specs.Prelude.{◌≡◌, [], map, IsSome};
+ghost use Rattle.std.specs.Prelude.{◌≡◌, ◌≤◌, ◌+◌, length, OnOk};
 ghost use Rattle.aml_operators.specs.declared.row.Code.TheVariants as code;
-ghost use Rattle.aml_operators.specs.Shape.{IsShaped};
-ghost use Rattle.aml_operators.specs.Tree.{view};
-ghost use Rattle.aml_lex.specs.Names.{name_of, seg_bytes};
-ghost use Rattle.aml_lex.specs.Standing.{name_there};
-ghost use Rattle.aml_tree.specs.Body.{IsModule};
-ghost use Rattle.aml_tree.specs.Spelled.{IsSpelled};
-ghost use Rattle.aml_namespace.specs.Define.{root_segment, root_segment_at, definition_under};
-ghost use Rattle.aml_namespace.specs.Define.{definition_of, add, define_one, defined_from};
-ghost use Rattle.aml_namespace.specs.Defines.{Defines, AddsObject, definition_seen, entries_seen};
+ghost use Rattle.aml_operators.specs.Shape.{AreShaped, IsShaped};
+ghost use Rattle.aml_operators.specs.Tree.{view, views};
+ghost use Rattle.aml_namespace.specs.Define.{alias_entered, all_defined, bank_fields, defined, field_entered, fields_from, flat, holding, index_fields, object_entered, region_fields, reopening};
+ghost use Rattle.aml_namespace.specs.FieldLists.{list_start};
+ghost use Rattle.aml_namespace.specs.Kept.{Makes, entries_seen, here_of};
+ghost use Rattle.aml_namespace.specs.Parts.{HasParts};
 
-use crate::fault::{LoadCause, LoadFault, refuse};
-use crate::method::Method;
+use crate::enter::{enter, enter_alias, open};
+use crate::fault::LoadFault;
+use crate::fields::Cursor;
+use crate::here::{Here, name_at};
+use crate::made::{name_place, number_in, object_of};
+use crate::object::{Entry, Field, Object, Through};
 use crate::objects::Objects;
-use aml_lex::{NameRef, NameSeg, standing_name};
-use aml_tree::{Op, Span, Term, TreeCause};
-use std::alloc::Global;
+use crate::parts::{first_and_rest, two};
+use aml_operators::{Op, Term, literal_of};
 
-/// What a Method term defines.
-#[derive(Clone, Copy, Debug)]
-struct Definition {
-    segment: NameSeg,
-    /// The place of the name.
-    name_at: usize,
-    method: Method,
-}
-
-/// The segment of a name that stands at the root.
-fn root_name(name: &NameRef<'_>) -> Option<NameSeg>
-    ensures { seg_bytes result ≡ root_segment (name_of name.now) }
+/// Adds the object that a name at a place makes, if there is one.
+fn enter_object(
+    here: Here<'_>,
+    objects: &mut Objects,
+    made: Option<(usize, Object)>,
+) -> Result<(), LoadFault>
+    requires { here.scope ≤ length (entries_seen objects.old) }
+    ensures made { let entries = entries_seen objects.old in
+        Makes result (entries_seen objects.new) (object_entered (here_of here.entry) entries made) }
+    ensures grows { OnOk result (length (entries_seen objects.old) ≤ length (entries_seen objects.new)) }
 {
-    if name.parents() != 0 || name.segs() != 1 {
-        return None;
-    }
-    Some(name.seg(0))
-}
-
-/// The segment of the name that stands at a place, where it is at the root.
-fn root_name_at(bytes: &[u8], at: usize) -> Option<NameSeg>
-    requires { IsSome (name_there bytes.now at) }
-    ensures { seg_bytes result ≡ root_segment_at bytes.now at }
-{
-    root_name(&standing_name(bytes, at))
-}
-
-/// What a term of a module defines.
-#[tactic(auto, using(aml_operators::proofs::Views::view_out, aml_operators::proofs::PartsOf::part_count))]
-fn definition_of(bytes: &[u8], term: &Term) -> Result<Definition, LoadFault>
-    requires shaped { IsShaped code.Module (view term.now) }
-    requires spelled { IsSpelled bytes.now (view term.now) }
-    ensures { Defines definition_seen result (definition_of bytes.now (view term.now)) }
-{
-    let Op::Method = term.op else {
-        return Err(refuse(LoadCause::Tree(TreeCause::ModuleCode), term.at));
+    let Some((at, object)) = made else {
+        return Ok(());
     };
-    let [name, flags, body] = &term.parts[..] else {
-        unreachable!()
-    };
-    let Op::Number(flags) = flags.op else {
-        unreachable!()
-    };
-    let method = Method {
-        args: (flags % 8) as u8,
-        table: 0,
-        at: term.at,
-        body: Span {
-            at: body.at,
-            end: body.end,
-        },
-    };
-    definition_under(root_name_at(bytes, name.at), name.at, method)
-}
-
-/// A definition under a name, which must stand at the root.
-fn definition_under(
-    segment: Option<NameSeg>,
-    name_at: usize,
-    method: Method,
-) -> Result<Definition, LoadFault>
-    ensures { Defines definition_seen result (definition_under (seg_bytes segment) name_at method) }
-{
-    match segment {
-        Some(segment) => Ok(Definition {
-            segment,
-            name_at,
-            method,
-        }),
-        None => Err(refuse(LoadCause::ScopeMissing, name_at)),
+    match name_at(here.bytes, at) {
+        Some(name) => enter(here, objects, at, &name, Entry::Own(object)),
+        None => Ok(()),
     }
 }
 
-/// Adds an object, whose path must be new.
-fn add(objects: &mut Objects, definition: Definition) -> Result<(), LoadFault>
-    ensures { let answer = add (entries_seen objects.old) (definition_seen definition) in
-        AddsObject result (entries_seen objects.new) answer }
+/// Adds the field that an item of a field list makes, if it makes one.
+fn enter_field(
+    here: Here<'_>,
+    objects: &mut Objects,
+    made: Option<(usize, Field)>,
+) -> Result<(), LoadFault>
+    requires { here.scope ≤ length (entries_seen objects.old) }
+    ensures made { let entries = entries_seen objects.old in
+        Makes result (entries_seen objects.new) (field_entered (here_of here.entry) entries made) }
+    ensures grows { OnOk result (length (entries_seen objects.old) ≤ length (entries_seen objects.new)) }
 {
-    if objects.index_of(&definition.segment).is_some() {
-        return Err(refuse(LoadCause::Duplicate, definition.name_at));
+    match made {
+        Some((at, field)) => enter_object(here, objects, Some((at, Object::Field(field)))),
+        None => Ok(()),
     }
-    objects.push(definition.segment, definition.method)?;
+}
+
+/// Adds the fields of a field list.
+#[tactic(auto, using(crate::proofs::Shapes::shaped_item))]
+fn enter_fields(
+    here: Here<'_>,
+    objects: &mut Objects,
+    through: Through,
+    flags: u64,
+    items: &[Term],
+) -> Result<(), LoadFault>
+    requires there { here.scope ≤ length (entries_seen objects.old) }
+    requires shaped { AreShaped code.Module (views items.now) }
+    ensures made { let entries = entries_seen objects.old in
+        Makes result (entries_seen objects.new)
+        (fields_from (here_of here.entry) through (list_start flags) entries (views items.now)) }
+    ensures grows { OnOk result (length (entries_seen objects.old) ≤ length (entries_seen objects.new)) }
+{
+    let mut cursor = Cursor::at_start(flags);
+    for item in items {
+        enter_field(here, objects, cursor.field_of(through, item))?;
+        cursor = cursor.behind(item);
+    }
     Ok(())
 }
 
-/// Adds the object that a term defines.
-fn define_one(bytes: &[u8], objects: &mut Objects, term: &Term) -> Result<(), LoadFault>
-    requires shaped { IsShaped code.Module (view term.now) }
-    requires spelled { IsSpelled bytes.now (view term.now) }
-    ensures { let answer = define_one bytes.now (entries_seen objects.old) (view term.now) in
-        AddsObject result (entries_seen objects.new) answer }
+/// Adds another path of an object: the names of the object and of the path stand at these places.
+fn define_alias(
+    here: Here<'_>,
+    objects: &mut Objects,
+    source_at: usize,
+    at: usize,
+) -> Result<(), LoadFault>
+    requires { here.scope ≤ length (entries_seen objects.old) }
+    ensures made { let entries = entries_seen objects.old in
+        Makes result (entries_seen objects.new) (alias_entered (here_of here.entry) entries source_at at) }
+    ensures grows { OnOk result (length (entries_seen objects.old) ≤ length (entries_seen objects.new)) }
 {
-    let definition = definition_of(bytes, term)?;
-    add(objects, definition)
+    match (name_at(here.bytes, source_at), name_at(here.bytes, at)) {
+        (Some(source), Some(name)) => enter_alias(here, objects, source_at, &source, at, &name),
+        _ => Ok(()),
+    }
 }
 
-/// The objects that a module's terms define.
-#[tactic(auto, using(crate::proofs::Definitions::term_shaped, crate::proofs::Definitions::term_spelled))]
-pub(crate) fn define_all(alloc: Global, bytes: &[u8], terms: &[Term]) -> Result<Objects, LoadFault>
-    requires { IsModule bytes.now (map view terms.now) }
-    ensures { Defines entries_seen result (defined_from bytes.now [] (map view terms.now)) }
+/// Adds the fields of a Field.
+fn define_fields(here: Here<'_>, objects: &mut Objects, parts: &[Term]) -> Result<(), LoadFault>
+    requires there { here.scope ≤ length (entries_seen objects.old) }
+    requires many { 2 ≤ length parts.now }
+    requires shaped { AreShaped code.Module (views parts.now) }
+    ensures made { let entries = entries_seen objects.old in
+        Makes result (entries_seen objects.new) (region_fields (here_of here.entry) entries (views parts.now)) }
+    ensures grows { OnOk result (length (entries_seen objects.old) ≤ length (entries_seen objects.new)) }
 {
-    let mut objects = Objects::new(alloc);
-    for term in terms {
-        define_one(bytes, &mut objects, term)?;
+    let (region, rest) = first_and_rest(parts);
+    let (flags, items) = first_and_rest(rest);
+    let through = Through::Region(name_place(here, region));
+    enter_fields(here, objects, through, number_in(flags), items)
+}
+
+/// Adds the fields of an IndexField.
+fn define_index_fields(
+    here: Here<'_>,
+    objects: &mut Objects,
+    parts: &[Term],
+) -> Result<(), LoadFault>
+    requires there { here.scope ≤ length (entries_seen objects.old) }
+    requires many { 3 ≤ length parts.now }
+    requires shaped { AreShaped code.Module (views parts.now) }
+    ensures made { let entries = entries_seen objects.old in
+        Makes result (entries_seen objects.new) (index_fields (here_of here.entry) entries (views parts.now)) }
+    ensures grows { OnOk result (length (entries_seen objects.old) ≤ length (entries_seen objects.new)) }
+{
+    let (index, rest) = first_and_rest(parts);
+    let (source, rest) = first_and_rest(rest);
+    let (flags, items) = first_and_rest(rest);
+    let through = Through::Index {
+        index: name_place(here, index),
+        data: name_place(here, source),
+    };
+    enter_fields(here, objects, through, number_in(flags), items)
+}
+
+/// Adds the fields of a BankField.
+fn define_bank_fields(
+    here: Here<'_>,
+    objects: &mut Objects,
+    parts: &[Term],
+) -> Result<(), LoadFault>
+    requires there { here.scope ≤ length (entries_seen objects.old) }
+    requires many { 4 ≤ length parts.now }
+    requires shaped { AreShaped code.Module (views parts.now) }
+    ensures made { let entries = entries_seen objects.old in
+        Makes result (entries_seen objects.new) (bank_fields (here_of here.entry) entries (views parts.now)) }
+    ensures grows { OnOk result (length (entries_seen objects.old) ≤ length (entries_seen objects.new)) }
+{
+    let (region, rest) = first_and_rest(parts);
+    let (bank, rest) = first_and_rest(rest);
+    let (value, rest) = first_and_rest(rest);
+    let (flags, items) = first_and_rest(rest);
+    let through = Through::Bank {
+        region: name_place(here, region),
+        bank: name_place(here, bank),
+        value: literal_of(value),
+    };
+    enter_fields(here, objects, through, number_in(flags), items)
+}
+
+/// What a term makes that has no terms within.
+#[tactic(auto, using(crate::proofs::Shapes::least_parts, aml_operators::proofs::PartsOf::part_count, aml_operators::proofs::Views::view_out))]
+fn define_flat(
+    here: Here<'_>,
+    objects: &mut Objects,
+    op: Op,
+    at: usize,
+    parts: &[Term],
+) -> Result<(), LoadFault>
+    requires there { here.scope ≤ length (entries_seen objects.old) }
+    requires has { HasParts op (views parts.now) }
+    requires shaped { AreShaped code.Module (views parts.now) }
+    ensures made { let entries = entries_seen objects.old in
+        Makes result (entries_seen objects.new) (flat (here_of here.entry) entries op at (views parts.now)) }
+    ensures grows { OnOk result (length (entries_seen objects.old) ≤ length (entries_seen objects.new)) }
+{
+    match op {
+        Op::Alias => {
+            let (source, alias) = two(parts);
+            define_alias(here, objects, source.at, alias.at)
+        }
+        Op::Field => define_fields(here, objects, parts),
+        Op::IndexField => define_index_fields(here, objects, parts),
+        Op::BankField => define_bank_fields(here, objects, parts),
+        _ => enter_object(here, objects, object_of(here, op, at, parts)),
     }
-    Ok(objects)
+}
+
+/// What stands within a new object that holds names.
+#[cycle(define)]
+fn define_within(
+    here: Here<'_>,
+    objects: &mut Objects,
+    made: Object,
+    name: &Term,
+    body: &[Term],
+) -> Result<(), LoadFault>
+    requires there { here.scope ≤ length (entries_seen objects.old) }
+    requires shaped { AreShaped code.Module (views body.now) }
+    ensures made { let entries = entries_seen objects.old in
+        Makes result (entries_seen objects.new)
+        (holding (here_of here.entry) entries made (view name.now) (λ inner es. all_defined inner es (views body.now))) }
+    ensures grows { OnOk result (length (entries_seen objects.old) ≤ length (entries_seen objects.new)) }
+{
+    let Some(path) = name_at(here.bytes, name.at) else {
+        return Ok(());
+    };
+    enter(here, objects, name.at, &path, Entry::Own(made))?;
+    let inner = Here {
+        table: here.table,
+        bytes: here.bytes,
+        scope: objects.len(),
+    };
+    define_all(inner, objects, body)
+}
+
+/// What stands within a scope that is opened again.
+#[cycle(define)]
+fn define_reopened(
+    here: Here<'_>,
+    objects: &mut Objects,
+    name: &Term,
+    body: &[Term],
+) -> Result<(), LoadFault>
+    requires there { here.scope ≤ length (entries_seen objects.old) }
+    requires shaped { AreShaped code.Module (views body.now) }
+    ensures made { let entries = entries_seen objects.old in
+        Makes result (entries_seen objects.new)
+        (reopening (here_of here.entry) entries (view name.now) (λ inner. all_defined inner entries (views body.now))) }
+    ensures grows { OnOk result (length (entries_seen objects.old) ≤ length (entries_seen objects.new)) }
+{
+    let Some(path) = name_at(here.bytes, name.at) else {
+        return Ok(());
+    };
+    let scope = open(here, objects, name.at, &path)?;
+    let inner = Here {
+        table: here.table,
+        bytes: here.bytes,
+        scope,
+    };
+    define_all(inner, objects, body)
+}
+
+/// What a term makes.
+#[cycle(define)]
+#[tactic(auto, using(crate::proofs::Shapes::least_parts, aml_operators::proofs::Views::view_out))]
+fn define(here: Here<'_>, objects: &mut Objects, term: &Term) -> Result<(), LoadFault>
+    requires there { here.scope ≤ length (entries_seen objects.old) }
+    requires shaped { IsShaped code.Module (view term.now) }
+    ensures made { let entries = entries_seen objects.old in
+        Makes result (entries_seen objects.new) (defined (here_of here.entry) entries (view term.now)) }
+    ensures grows { OnOk result (length (entries_seen objects.old) ≤ length (entries_seen objects.new)) }
+{
+    let parts = &term.parts[..];
+    match term.op {
+        Op::Scope => {
+            let (name, body) = first_and_rest(parts);
+            define_reopened(here, objects, name, body)
+        }
+        Op::Device => {
+            let (name, body) = first_and_rest(parts);
+            define_within(here, objects, Object::Device, name, body)
+        }
+        Op::ThermalZone => {
+            let (name, body) = first_and_rest(parts);
+            define_within(here, objects, Object::ThermalZone, name, body)
+        }
+        Op::PowerResource => {
+            let (name, rest) = first_and_rest(parts);
+            let (_, rest) = first_and_rest(rest);
+            let (_, body) = first_and_rest(rest);
+            define_within(here, objects, Object::PowerResource, name, body)
+        }
+        Op::Processor => {
+            let (name, rest) = first_and_rest(parts);
+            let (_, rest) = first_and_rest(rest);
+            let (_, rest) = first_and_rest(rest);
+            let (_, body) = first_and_rest(rest);
+            define_within(here, objects, Object::Processor, name, body)
+        }
+        op => define_flat(here, objects, op, term.at, parts),
+    }
+}
+
+/// What terms make, one behind the other.
+#[cycle(define)]
+#[tactic(auto, using(crate::proofs::Shapes::shaped_item, crate::proofs::Weights::lighter_item))]
+pub(crate) fn define_all(
+    here: Here<'_>,
+    objects: &mut Objects,
+    terms: &[Term],
+) -> Result<(), LoadFault>
+    requires there { here.scope ≤ length (entries_seen objects.old) }
+    requires shaped { AreShaped code.Module (views terms.now) }
+    ensures made { let entries = entries_seen objects.old in
+        Makes result (entries_seen objects.new) (all_defined (here_of here.entry) entries (views terms.now)) }
+    ensures grows { OnOk result (length (entries_seen objects.old) ≤ length (entries_seen objects.new)) }
+{
+    for term in terms {
+        define(here, objects, term)?;
+    }
+    Ok(())
 }

@@ -2,7 +2,7 @@
 
 ghost use Rattle.aml_namespace.specs.Causes.{load_cause_text};
 ghost use Rattle.std.specs.Prelude.{◌≡◌, ⊤};
-ghost use Rattle.aml_namespace.specs.declared.fault.LoadFault.TheVariants.{NoMemory, Refused};
+ghost use Rattle.aml_namespace.specs.declared.fault.LoadFault.TheVariants.{NoMemory};
 ghost use Rattle.aml_namespace.specs.Fault.{load_refusal, table_refusal, tree_fault};
 
 use acpi_tables::{TableCause, TableFault};
@@ -17,12 +17,17 @@ pub enum LoadCause {
     /// The table, E101 to E104; its place is that of the field at fault, or the table's end.
     Table(TableCause),
     /// The bytes of its module, E201 to E209; its place is that of the byte at fault, or the table's
-    /// end. E209, ModuleCode, is also told of a definition that is no method, at its opcode.
+    /// end.
     Tree(TreeCause),
     /// A second definition of a path; its place is that of the defined name.
     Duplicate,
-    /// A defined name whose parent is no scope that is there; its place is that of the name.
+    /// A defined name whose parent is no scope that is there, or a Scope whose name opens none; its place
+    /// is that of the name.
     ScopeMissing,
+    /// A path more than 65,535, predefined ones counted; its place is that of the defined name.
+    TooMany,
+    /// An alias of nothing that is defined already; its place is that of the source's name.
+    AliasMissing,
 }
 
 impl LoadCause {
@@ -35,6 +40,8 @@ impl LoadCause {
             LoadCause::Tree(tree) => tree.text(),
             LoadCause::Duplicate => "E301 Duplicate",
             LoadCause::ScopeMissing => "E302 ScopeMissing",
+            LoadCause::TooMany => "E303 TooMany",
+            LoadCause::AliasMissing => "E304 AliasMissing",
         }
     }
 }
@@ -69,15 +76,28 @@ pub enum LoadFault {
     Refused(LoadRefusal),
 }
 
-/// A refusal in the first table.
-pub(crate) fn refuse(cause: LoadCause, at: usize) -> LoadFault
-    ensures { result ≡ LoadFault.Refused (load_refusal cause at) }
+/// A refusal in the table with a number.
+pub(crate) fn refuse(cause: LoadCause, table: usize, at: usize) -> LoadFault
+    ensures { result ≡ LoadFault.Refused (load_refusal cause table at) }
 {
-    LoadFault::Refused(LoadRefusal {
-        cause,
-        table: 0,
-        at,
-    })
+    LoadFault::Refused(LoadRefusal { cause, table, at })
+}
+
+/// A table's own fault, in the table with a number.
+pub(crate) fn table_fault(table: usize, fault: TableFault) -> LoadFault
+    ensures { result ≡ LoadFault.Refused (table_refusal table fault) }
+{
+    refuse(LoadCause::Table(fault.cause), table, fault.at)
+}
+
+/// A module's fault, in the table with a number.
+pub(crate) fn tree_fault(table: usize, fault: TreeFault) -> LoadFault
+    ensures { result ≡ tree_fault table fault }
+{
+    match fault {
+        TreeFault::NoMemory => LoadFault::NoMemory,
+        TreeFault::Refused(refusal) => refuse(LoadCause::Tree(refusal.cause), table, refusal.at),
+    }
 }
 
 impl From<AllocError> for LoadFault {
@@ -93,24 +113,5 @@ impl<T: Drop> From<AllocFailed<T>> for LoadFault {
 
     fn from(_error: AllocFailed<T>) -> LoadFault {
         LoadFault::NoMemory
-    }
-}
-
-impl From<TableFault> for LoadFault {
-    ghost from_gives = { λ table fault. fault ≡ Refused (table_refusal table) };
-
-    fn from(fault: TableFault) -> LoadFault {
-        refuse(LoadCause::Table(fault.cause), fault.at)
-    }
-}
-
-impl From<TreeFault> for LoadFault {
-    ghost from_gives = { λ tree fault. fault ≡ tree_fault tree };
-
-    fn from(fault: TreeFault) -> LoadFault {
-        match fault {
-            TreeFault::NoMemory => LoadFault::NoMemory,
-            TreeFault::Refused(refusal) => refuse(LoadCause::Tree(refusal.cause), refusal.at),
-        }
     }
 }

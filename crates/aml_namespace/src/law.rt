@@ -1,9 +1,25 @@
-// A law of loading. The function does nothing: its contract is the law.
+// Laws of loading. The functions do nothing: their contracts are the laws.
 
-ghost use Rattle.aml_namespace.specs.Laws.{FaultsWithin};
+ghost use Rattle.aml_namespace.specs.Laws.{DefinitionsStay, FaultsWithin, PathsDistinct};
+ghost use Rattle.aml_namespace.specs.Printed.{PrintedIsRead};
 
-/// Each fault of a load names the table that was handed in, by number 0, and a place of at most its
-/// number of bytes.
+/// Each fault of a load names one of the tables that were handed in, by its number, and a place of at
+/// most that table's number of bytes.
 pub fn faults_stand_within()
     ensures { FaultsWithin }
+{}
+
+/// No definition disappears or is replaced when more tables follow.
+pub fn definitions_stay()
+    ensures { DefinitionsStay }
+{}
+
+/// A path has at most one object.
+pub fn paths_are_distinct()
+    ensures { PathsDistinct }
+{}
+
+/// What is printed of a path prints that path.
+pub fn printed_paths_are_read()
+    ensures { PrintedIsRead }
 {}

@@ -1,24 +1,33 @@
-//! The namespace that a table's definitions make (ACPI 6.5, 5.3).
-//!
-//! So far one DSDT is loaded, whose definitions are methods at the root; any other definition is
-//! refused where it stands.
+//! The namespace that tables' definitions make (ACPI 6.5, 5.3).
 #![tactic(auto)]
 
 mod define;
+mod enter;
 mod fault;
+mod fields;
+mod here;
 mod law;
 mod link;
+mod load;
+mod made;
 mod memory;
-mod method;
 mod namespace;
+mod object;
 mod objects;
+mod parts;
 mod paths;
+mod predefined;
+mod printed;
+mod resolve;
 mod width;
 
 pub use fault::{LoadCause, LoadFault, LoadRefusal};
-pub use law::faults_stand_within;
+pub use law::{definitions_stay, faults_stand_within, paths_are_distinct, printed_paths_are_read};
 pub use link::Link;
 pub use memory::NoMemory;
-pub use method::{Method, ObjectId};
-pub use namespace::Namespace;
+pub use namespace::{Host, Namespace};
+pub use object::{
+    AccessType, BufferField, BufferFieldSize, Content, DataName, Entry, Field, FieldRule, Method,
+    NamePlace, Object, ObjectId, Region, Scope, Source, Through, UpdateRule,
+};
 pub use width::Width;

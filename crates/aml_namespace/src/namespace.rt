@@ -1,56 +1,77 @@
-// The namespace of loaded tables.
+// The namespace of loaded tables (ACPI 6.5, 5.3).
 
-ghost use Rattle.std.specs.Prelude.{◌≡◌, ◌<◌, ◌==◌, length, Some};
+ghost use Rattle.std.specs.Prelude.{◌≡◌, ◌<◌, ◌==◌, length, map, Some, IsSome};
 ghost use Rattle.aml_lex.specs.Names.{name_of};
-ghost use Rattle.aml_namespace.specs.Names.{found_at_root};
-ghost use Rattle.aml_namespace.specs.Sound.{BodiesWithin};
+ghost use Rattle.aml_namespace.specs.Bodies.{BodiesWithin, bytes_of};
+ghost use Rattle.aml_namespace.specs.Kept.{entries_seen, path_kept};
+ghost use Rattle.aml_namespace.specs.Names.{args_of, link_of, method_in};
 
-use crate::define::define_all;
 use crate::fault::LoadFault;
+use crate::here::name_at;
 use crate::link::Link;
-use crate::method::{Method, ObjectId};
+use crate::load::load_tables;
+use crate::memory::NoMemory;
+use crate::object::{Entry, Method, Object, ObjectId, Scope};
 use crate::objects::Objects;
+use crate::paths::ROOT;
+use crate::predefined::predefined;
 use crate::width::Width;
-use acpi_tables::read_table;
-use aml_lex::{NameRef, NameSeg, name_string};
-use aml_tree::{Arity, Term, TreeFault, read_body, read_module};
+use aml_lex::{NameRef, NameSeg};
+use aml_tree::{Arity, Term, TreeFault, read_body};
 use std::alloc::Global;
 
-/// The objects that a DSDT defines, lent from its bytes.
+/// What the operating system tells of itself.
+#[derive(Clone, Copy, Debug)]
+pub struct Host<'a> {
+    /// The text of `_OS_`.
+    pub os: &'a [u8],
+    /// The texts of which `_OSI` tells that they are known.
+    pub osi: &'a [&'a [u8]],
+}
+
+/// The objects that a DSDT and its SSDTs define, lent from their bytes.
 #[derive(Drop)]
 pub struct Namespace<'a> {
-    table: &'a [u8],
+    /// In the order of loading.
+    tables: Vec<&'a [u8]>,
+    host: Host<'a>,
     width: Width,
     objects: Objects,
-    ghost bodies: { BodiesWithin (length table.now) objects.entries.items },
+    ghost bodies: { BodiesWithin (map (λ t. t.now) tables.items) (entries_seen objects) },
 }
 
 impl<'a> Namespace<'a> {
-    ghost use Rattle.std.specs.Prelude.{Option, slice_get, option_copied, take, IfSome, IsNone};
+    ghost use Rattle.std.specs.Prelude.{◌≤◌, Option, IfOk, suc, option_and_then, slice_get};
     ghost use Rattle.std.specs.Option.{option_map};
     ghost use Rattle.aml_tree.specs.Body.{trees_read};
-    ghost use Rattle.aml_namespace.specs.Load.{Loads, shown};
-    ghost use Rattle.aml_namespace.specs.Names.{link_at, number_named, resolve};
-    ghost use Rattle.aml_namespace.specs.Objects.{method_at, object_segment, number_of, ReadsBodyOf};
+    ghost use Rattle.aml_namespace.specs.Names.{ReadsBodyOf, body_bytes, link_at, looked_up, method_at, named_in, named_within};
+    ghost use Rattle.aml_namespace.specs.Entries.{entry_numbered, object_at, path_numbered, paths_in};
+    ghost use Rattle.aml_namespace.specs.Printed.{printed_object};
+    ghost use Rattle.aml_namespace.specs.Shows.{Loads, bytes_in, shown};
 
-    /// Loads a DSDT: its header, then its whole module, then its definitions in the order of the
-    /// bytes.
+    /// Loads a DSDT and any number of SSDTs behind it. Of each table: its header, then its whole module,
+    /// then its definitions in the order of the bytes.
     ///
-    /// Faults: E101 to E104 of the table, at the place that `read_table` tells; E201 to E209 of its
-    /// module, at the place that `read_module` tells; E209 at the opcode of a definition that is no
-    /// method; E302 at a name that is not one segment at the root; E301 at a name that is defined
-    /// already. Each has the table's number, 0, and a place of at most the table's number of bytes.
-    /// Want of memory, E524, has neither. After a fault there is no namespace.
-    #[tactic(auto, using(crate::proofs::Spans::module_bodies))]
-    pub fn load(alloc: Global, dsdt: &'a [u8]) -> Result<Self, LoadFault>
-        ensures { Loads dsdt.now result }
+    /// Faults, each with the table's number and a place of at most the table's number of bytes: E101 to
+    /// E104 of the table, at the place that `read_table` tells; E201 to E209 of its module, at the place
+    /// that `read_module` tells; E301 at a name that is defined already; E302 at a name whose parent holds
+    /// no names or is missing, and at the name of a Scope that opens none; E303 at a name behind 65,535
+    /// paths; E304 at the name of an alias's source that names nothing. Want of memory, E524, has
+    /// neither. After a fault there is no namespace.
+    #[tactic(auto, using(crate::proofs::Sound::bodies_within))]
+    pub fn load(alloc: Global, tables: &[&'a [u8]], host: Host<'a>) -> Result<Self, LoadFault>
+        requires { 0 < length tables.now }
+        ensures { Loads (bytes_in tables.now) host.entry.os.now result }
     {
-        let header = read_table(dsdt, b"DSDT")?;
-        let definitions = read_module(alloc, dsdt)?;
-        let objects = define_all(alloc, dsdt, &definitions)?;
+        let mut objects = predefined(alloc, host.os.len() as u64)?;
+        let revision = match load_tables(alloc, tables, &mut objects) {
+            Ok(revision) => revision,
+            Err(fault) => return Err(fault),
+        };
         Ok(Namespace {
-            table: dsdt,
-            width: Width::by_revision(header.revision),
+            tables: Vec::from_slice(alloc, tables)?,
+            host,
+            width: Width::by_revision(revision),
             objects,
         })
     }
@@ -62,79 +83,115 @@ impl<'a> Namespace<'a> {
         self.width
     }
 
-    /// The number of objects: their numbers, `ObjectId`, are those below it.
+    /// The number of paths but the root's, and of the numbers that `path` and `entry` know.
     pub fn len(&self) -> usize
         ensures { result ≡ length (shown self.now).entries }
     {
         self.objects.len()
     }
 
-    /// Whether no object is defined.
-    pub fn is_empty(&self) -> bool
-        ensures { result ≡ (length (shown self.now).entries == 0) }
+    /// The object with this number; None at the number of an alias's path and past the last.
+    pub fn object(&self, id: ObjectId) -> Option<Object>
+        ensures { result ≡ object_at (shown self.now).entries id.0 }
     {
-        self.len() == 0
+        self.objects.object(id.0)
     }
 
-    /// The method with this number, None past the last.
+    /// What stands under the path with this number, an alias's among them; None past the last.
+    pub fn entry(&self, id: ObjectId) -> Option<Entry>
+        ensures { result ≡ entry_numbered (shown self.now).entries id.0 }
+    {
+        self.objects.numbered(id.0)
+    }
+
+    /// The method with this number; None where no method has it.
     pub fn method(&self, id: ObjectId) -> Option<Method>
         ensures { result ≡ method_at (shown self.now) id.0 }
     {
-        self.objects.get(id.0).map(|(_, method)| method)
+        method_in(self.object(id)?)
     }
 
-    /// The segment of the method with this number, None past the last.
-    pub fn segment(&self, id: ObjectId) -> Option<NameSeg>
-        ensures { result ≡ object_segment (shown self.now) id.0 }
+    /// The segments of the path with this number from the root on; None past the last.
+    pub fn path(&self, alloc: Global, id: ObjectId) -> Result<Option<Vec<NameSeg>>, NoMemory>
+        ensures { IfOk result
+            (λ path. option_map path_kept path ≡ path_numbered (shown self.now).entries id.0) }
     {
-        self.objects.get(id.0).map(|(segment, _)| segment)
+        self.objects.path(alloc, id.0)
     }
 
-    /// The number of the method with this segment at the root, None where no method has it.
-    pub fn find(&self, segment: NameSeg) -> Option<ObjectId>
-        ensures { option_map (λ id. id.0) result ≡ number_of (shown self.now) segment }
+    /// The number of the object whose path, or an alias's, a text prints: `\` and segments joined by `.`.
+    #[tactic(auto, using(crate::proofs::PrintedPaths::found_printed))]
+    pub fn find(&self, text: &[u8]) -> Option<ObjectId>
+        ensures { option_map (λ id. id.0) result ≡ printed_object (shown self.now).entries text.now }
     {
-        self.objects.index_of(&segment).map(ObjectId)
+        let number = self.objects.object_number(self.objects.printed(text)?)?;
+        Some(ObjectId(number))
     }
 
-    /// The number of the object that a name in a body names: a lone segment is searched upward to the
-    /// root, where all methods are, and `^` goes from a method to the root.
-    fn number_named(&self, name: &NameRef<'_>) -> Option<usize>
-        ensures { result ≡ number_named (shown self.now).entries (name_of name.now) }
+    /// The number of the object that a name names in a scope: a lone segment is searched upward, and
+    /// every other name is exactly one path.
+    pub fn lookup(&self, scope: Scope, name: &NameRef<'_>) -> Option<ObjectId>
+        ensures { option_map (λ id. id.0) result
+            ≡ looked_up (shown self.now).entries scope (name_of name.now) }
     {
-        self.objects.index_of(&root_segment(name)?)
+        let number = match scope {
+            Scope::Root => self.named_in(ROOT, name)?,
+            Scope::At(id) => self.named_within(id.0, name)?,
+        };
+        Some(ObjectId(number))
     }
 
-    /// The method that a name in a body names, None where it names nothing.
-    pub fn resolve(&self, name: &NameRef<'_>) -> Option<Method>
-        ensures { result ≡ resolve (shown self.now).entries (name_of name.now) }
+    /// The number of the object that a name names within the object with this number.
+    #[tactic(auto, using(crate::proofs::Kept::past_paths))]
+    fn named_within(&self, id: usize, name: &NameRef<'_>) -> Option<usize>
+        ensures { result ≡ named_within (shown self.now).entries id (name_of name.now) }
     {
-        self.objects.lookup(&root_segment(name)?)
+        if id >= self.objects.len() {
+            return None;
+        }
+        self.named_in(id + 1, name)
     }
 
-    /// What the name at a place of a body means, by these bytes, in which the body stands.
-    pub fn link(&self, bytes: &[u8], at: usize) -> Link
-        ensures { result ≡ link_at (shown self.now).entries bytes.now at }
+    /// The number of the object that a name names in the scope whose path has this number.
+    #[tactic(auto, using(crate::proofs::Kept::scope_there))]
+    fn named_in(&self, scope: usize, name: &NameRef<'_>) -> Option<usize>
+        requires { scope ≤ length (shown self.now).entries }
+        ensures { let entries = (shown self.now).entries in result ≡ option_and_then
+            (λ path. named_in entries path (name_of name.now)) (slice_get (paths_in entries) scope) }
     {
-        if at > bytes.len() {
+        self.objects
+            .object_number(self.objects.resolve(scope, name)?)
+    }
+
+    /// What the name at a place of these bytes means in the body of the method with this number.
+    pub fn link(&self, id: ObjectId, bytes: &[u8], at: usize) -> Link
+        ensures { result ≡ link_at (shown self.now).entries id.0 bytes.now at }
+    {
+        let Some(name) = name_at(bytes, at) else {
             return Link::Missing;
+        };
+        match self.named_within(id.0, &name) {
+            Some(number) => link_of(number, self.objects.object(number)),
+            None => Link::Missing,
         }
-        match name_string(bytes, at) {
-            Ok((name, _)) => match self.number_named(&name) {
-                Some(number) => Link::Method(ObjectId(number)),
-                None => Link::Missing,
-            },
-            Err(_) => Link::Missing,
-        }
+    }
+
+    /// The bytes of the table with this number.
+    fn table(&self, number: usize) -> &[u8]
+        requires { number < length (shown self.now).tables }
+        ensures { result.now ≡ bytes_of (shown self.now).tables number }
+    {
+        self.tables[number]
     }
 
     /// The bytes in which a method's body stands, up to its end.
     pub fn body_bytes(&self, id: ObjectId) -> &[u8]
-        requires { id.0 < length (shown self.now).entries }
+        requires { IsSome (method_at (shown self.now) id.0) }
         ensures { let ns = shown self.now in
-            (m : Method) → method_at ns id.0 ≡ Some m → result.now ≡ take m.body.end ns.table }
+            (m : Method) → method_at ns id.0 ≡ Some m → result.now ≡ body_bytes ns m }
     {
-        &self.table[..self.method(id).unwrap().body.end]
+        let method = self.method(id).unwrap();
+        &self.table(method.table)[..method.body.end]
     }
 
     /// The statements of a method's body: a name takes as many terms as the method that it names has
@@ -143,34 +200,74 @@ impl<'a> Namespace<'a> {
     /// Faults: E201 to E208, each with a place in the method's table, from the body's first byte to
     /// its end; want of memory, E524.
     pub fn tree(&self, alloc: Global, id: ObjectId) -> Result<Vec<Term>, TreeFault>
-        requires { id.0 < length (shown self.now).entries }
+        requires { IsSome (method_at (shown self.now) id.0) }
         ensures { let ns = shown self.now in
-            (m : Method) → method_at ns id.0 ≡ Some m → ReadsBodyOf ns m (trees_read result) }
+            (m : Method) → method_at ns id.0 ≡ Some m → ReadsBodyOf ns id.0 m (trees_read result) }
     {
-        let (_, method) = self.objects.get(id.0).unwrap();
-        read_body(alloc, self.table, method.body, self)
+        let method = self.method(id).unwrap();
+        let inside = Inside {
+            namespace: self,
+            method: id.0,
+        };
+        read_body(alloc, self.table(method.table), method.body, &inside)
     }
 }
 
-/// The segment at the root that a name in a body means, where it means one.
-fn root_segment(name: &NameRef<'_>) -> Option<NameSeg>
-    ensures { result ≡ found_at_root (λ segment. Some segment) (name_of name.now) }
-{
-    if name.parents() > 1 || name.segs() != 1 {
-        return None;
-    }
-    Some(name.seg(0))
+/// The body of a method, in which names take arguments.
+#[derive(Clone, Copy)]
+struct Inside<'a> {
+    namespace: &'a Namespace<'a>,
+    /// The method's number.
+    method: usize,
 }
 
-impl Arity for Namespace<'_> {
+impl Arity for Inside<'_> {
     ghost use Rattle.aml_namespace.specs.Names.{counts};
+    ghost use Rattle.aml_namespace.specs.Shows.{shown};
 
-    ghost counts = { λ ns. counts ns.objects.entries.items };
+    ghost counts = { λ inside. counts (shown inside.namespace.now).entries inside.method };
 
     fn arity(&self, name: &NameRef<'_>, _at: usize) -> u8 {
-        match self.resolve(name) {
-            Some(method) => method.args,
+        match self.namespace.named_within(self.method, name) {
+            Some(number) => args_of(self.namespace.objects.object(number)),
             None => 0,
         }
+    }
+}
+
+/// How many arguments what is named takes.
+fn args_of(object: Option<Object>) -> u8
+    ensures { result ≡ args_of object }
+{
+    match object {
+        Some(Object::Method(method)) => method.args,
+        Some(Object::OsInterfaces) => 1,
+        _ => 0,
+    }
+}
+
+/// What the name of the object with this number means in a body.
+fn link_of(number: usize, object: Option<Object>) -> Link
+    ensures { result ≡ link_of number object }
+{
+    let id = ObjectId(number);
+    match object {
+        Some(Object::Method(_)) => Link::Method(id),
+        Some(Object::OsInterfaces) => Link::OsInterfaces,
+        Some(Object::Data(_)) => Link::Data(id),
+        Some(Object::Field(_)) => Link::Field(id),
+        Some(Object::BufferField(_)) => Link::BufferField(id),
+        Some(_) => Link::Object(id),
+        None => Link::Missing,
+    }
+}
+
+/// The method that an object is.
+fn method_in(object: Object) -> Option<Method>
+    ensures { result ≡ method_in object }
+{
+    match object {
+        Object::Method(method) => Some(method),
+        _ => None,
     }
 }

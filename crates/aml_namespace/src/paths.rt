@@ -1,8 +1,9 @@
 // Absolute paths, each under a number (ACPI 6.5, 5.3).
 
-ghost use Rattle.std.specs.Prelude.{◌≡◌, ◌<◌, ◌++◌, ◌∷◌, [], length, slice_get, Some, None, OnOk, OnErr, IfOk};
+ghost use Rattle.std.specs.Prelude.{◌≡◌, ◌<◌, ◌≤◌, ◌++◌, ◌∷◌, [], length, take, slice_get, Some, None, OnOk, OnErr, IfOk};
 ghost use Rattle.aml_lex.specs.Names.{name_of};
-ghost use Rattle.aml_namespace.specs.Paths.{root, path_at, number_above, number_below};
+ghost use Rattle.aml_namespace.specs.Paths.{root, path_at, path_number, number_above, number_below};
+ghost use Rattle.aml_namespace.specs.Resolve.{upward_search};
 ghost use Rattle.aml_namespace.specs.Trie.{AreNumbered, path_of};
 
 use aml_lex::{NameRef, NameSeg};
@@ -64,13 +65,15 @@ impl Paths {
         self.numbers.get(&step).copied()
     }
 
-    /// The number of the path of a name's segments below the path with this number.
-    pub(crate) fn below(&self, at: usize, name: &NameRef<'_>) -> Option<usize>
-        requires { at < length (paths_seen self.now) }
-        ensures { result ≡ number_below (paths_seen self.now) at (name_of name.now).segs }
+    /// The number of the path of a name's first segments, so many of them, below the path with this
+    /// number.
+    pub(crate) fn below(&self, at: usize, name: &NameRef<'_>, count: usize) -> Option<usize>
+        requires there { at < length (paths_seen self.now) }
+        requires within { count ≤ length (name_of name.now).segs }
+        ensures { result ≡ number_below (paths_seen self.now) at (take count (name_of name.now).segs) }
     {
         let mut number = at;
-        for i in 0..name.segs() {
+        for i in 0..count {
             number = self.child(number, name.seg(i))?;
         }
         Some(number)
@@ -103,6 +106,25 @@ impl Paths {
             left -= 1;
         }
         Some(number)
+    }
+
+    /// The number of the path of this segment below the longest prefix of the path with this number,
+    /// the path itself among them, below which it stands.
+    pub(crate) fn nearest(&self, at: usize, segment: NameSeg) -> Option<usize>
+        requires { at < length (paths_seen self.now) }
+        ensures { let paths = paths_seen self.now in
+            result ≡ upward_search (path_number paths) (path_at paths at) segment.bytes }
+    {
+        let mut number = at;
+        'up: loop {
+            if let Some(found) = self.child(number, segment) {
+                return Some(found);
+            }
+            if number == ROOT {
+                return None;
+            }
+            number = self.last_step(number).parent;
+        }
     }
 
     /// The path with this number, its segments from the root on.

@@ -10,7 +10,7 @@ ghost use Rattle.aml_meaning.specs.State.{error};
 ghost use Rattle.aml_plain.specs.Tells.{halted, went};
 
 use aml_meaning::{AmlCause, AmlError};
-use aml_namespace::{Namespace, Width};
+use aml_namespace::{Namespace, ObjectId, Width};
 
 /// Where a body stands.
 #[derive(Clone, Copy)]
@@ -21,6 +21,8 @@ pub struct Setting<'a> {
     pub width: Width,
     /// Whose objects its names name.
     pub namespace: &'a Namespace<'a>,
+    /// The method whose body it is, within which its names stand.
+    pub method: ObjectId,
     /// The table's bytes up to the body's end, in which its names stand.
     pub bytes: &'a [u8],
 }

@@ -1,12 +1,12 @@
 // A method's evaluation, from the bytes of its table.
 
-ghost use Rattle.std.specs.Prelude.{◌≡◌, ◌<◌, List, Some, IfOk, length};
+ghost use Rattle.std.specs.Prelude.{◌≡◌, List, Some, IfOk, IsSome};
 ghost use Rattle.aml_operators.specs.declared.row.Code.TheVariants as code;
 ghost use Rattle.aml_operators.specs.Shape.{AreShaped};
 ghost use Rattle.aml_operators.specs.Tree.{Tree, trees, views};
-ghost use Rattle.aml_namespace.specs.declared.method.Method.{Method};
-ghost use Rattle.aml_namespace.specs.Load.{shown};
-ghost use Rattle.aml_namespace.specs.Objects.{method_at, IsBodyOf};
+ghost use Rattle.aml_namespace.specs.declared.object.Method.{Method};
+ghost use Rattle.aml_namespace.specs.Shows.{shown};
+ghost use Rattle.aml_namespace.specs.Names.{method_at, IsBodyOf};
 ghost use Rattle.aml_plain.specs.Methods.{Evaluates};
 
 use crate::body::{Outcome, evaluate_body};
@@ -24,15 +24,16 @@ pub fn evaluate_terms(
     arguments: &[u64],
     fuel: u64,
 ) -> Outcome
-    requires known { method.0 < length (shown namespace.now).entries }
+    requires known { IsSome (method_at (shown namespace.now) method.0) }
     requires shaped { AreShaped code.Body (views body.now) }
     ensures { let ns = shown namespace.now in (m : Method) → method_at ns method.0 ≡ Some m →
-        Evaluates ns m (views body.now) arguments.now fuel result }
+        Evaluates ns method.0 m (views body.now) arguments.now fuel result }
 {
     let here = Setting {
         table: namespace.method(method).unwrap().table,
         width: namespace.width(),
         namespace,
+        method,
         bytes: namespace.body_bytes(method),
     };
     evaluate_body(here, body, arguments, fuel)
@@ -49,12 +50,12 @@ pub fn evaluate_plain(
     arguments: &[u64],
     fuel: u64,
 ) -> Result<Outcome, NoMemory>
-    requires known { method.0 < length (shown namespace.now).entries }
+    requires known { IsSome (method_at (shown namespace.now) method.0) }
     requires parses { let ns = shown namespace.now in
-        (m : Method) → method_at ns method.0 ≡ Some m → (ts : List Tree) × IsBodyOf ns m ts }
+        (m : Method) → method_at ns method.0 ≡ Some m → (ts : List Tree) × IsBodyOf ns method.0 m ts }
     ensures { let ns = shown namespace.now in IfOk result (λ outcome.
-        (m : Method) → method_at ns method.0 ≡ Some m → (ts : List Tree) → IsBodyOf ns m ts →
-        Evaluates ns m (trees ts) arguments.now fuel outcome) }
+        (m : Method) → method_at ns method.0 ≡ Some m → (ts : List Tree) → IsBodyOf ns method.0 m ts →
+        Evaluates ns method.0 m (trees ts) arguments.now fuel outcome) }
 {
     match namespace.tree(alloc, method) {
         Ok(body) => Ok(evaluate_terms(namespace, method, &body, arguments, fuel)),

@@ -201,8 +201,36 @@ pub const EVAL: &[(&str, u8, &str, &str, u8)] = &[
     (
         "--plain 9 --method \\M000",
         2,
-        "140b2e5f53425f4142434400",
+        "140b2e5f5342584142434400",
         "fault E302 ScopeMissing 0 38\n",
+        1,
+    ),
+    (
+        "--plain 9 --method \\_SB_.ABCD",
+        2,
+        "140b2e5f53425f4142434400",
+        "result none\n",
+        0,
+    ),
+    (
+        "--plain 9 --method \\M000",
+        2,
+        "064d303030414c5330",
+        "fault E304 AliasMissing 0 37\n",
+        1,
+    ),
+    (
+        "--plain 1000 --method \\ALS0 --args 41",
+        2,
+        "140b4d30303001a472680100064d303030414c5330",
+        "result 0x2a\n",
+        0,
+    ),
+    (
+        "--plain 9 --method \\_OSI --args 1",
+        2,
+        "140b4d30303001a472680100",
+        "fault E525 NoSuchObject\n",
         1,
     ),
     (

@@ -1,42 +1,76 @@
-// What names in bodies name, and how many arguments they take.
+// What names name, and how many arguments they take.
 
-use super::dsdt_of;
-use aml_lex::name_string;
-use aml_namespace::{Namespace, ObjectId};
+use super::{dsdt_of, found, ssdt_of};
+use crate::made::HOST;
+use aml_namespace::{Namespace, ObjectId, Scope};
 use aml_tree::{Op, Term, TreeFault};
 use std::alloc::{AllocError, Global};
 use std::test::Fail;
 
-/// M001 with one argument, named from the root, and M002, whose body is
-/// `M001 (Arg0)`, `^M001 (Arg1)`, `\M001 (Arg2)`, and XXXX and `^^M001`, which name nothing.
-const CALLS: &[u8] = b"\x14\x07\\M001\x01\x14\x22M002\x00M001\x68^M001\x69\\M001\x6aXXXX^^M001\x6b";
+/// Name (FOO, One), Scope (\_SB) { Device (PCI0) { Name (BAR, One) } } and Alias (\_SB.PCI0, ALS0).
+const NAMES: &[u8] =
+    b"\x08FOO_\x01\x10\x13\\_SB_\x5b\x82\x0bPCI0\x08BAR_\x01\x06\\\x2e_SB_PCI0ALS0";
 
-/// How many arguments the method takes that a name names.
-fn arguments_of(ns: &Namespace<'_>, name: &[u8]) -> Option<u8> {
-    match name_string(name, 0) {
-        Ok((name, _)) => ns.resolve(&name).map(|method| method.args),
-        Err(_) => None,
-    }
-}
+const SB: Scope = Scope::At(ObjectId(2));
+
+const FOO: Scope = Scope::At(ObjectId(9));
+
+const PCI0: Scope = Scope::At(ObjectId(10));
+
+const BAR: Scope = Scope::At(ObjectId(11));
+
+/// A scope, a name, and the number of the object that it names there.
+const LOOK_UPS: &[(Scope, &[u8], Option<usize>)] = &[
+    // A lone segment is searched upward, however it is spelled.
+    (Scope::Root, b"FOO_", Some(9)),
+    (FOO, b"FOO_", Some(9)),
+    (PCI0, b"FOO_", Some(9)),
+    (PCI0, b"\x2f\x01FOO_", Some(9)),
+    (PCI0, b"_OSI", Some(6)),
+    (PCI0, b"PCI0", Some(10)),
+    (BAR, b"BAR_", Some(11)),
+    (SB, b"BAR_", None),
+    (Scope::Root, b"BAR_", None),
+    (PCI0, b"BAZ_", None),
+    // Every other name is one path.
+    (PCI0, b"\\FOO_", Some(9)),
+    (PCI0, b"\\\x2e_SB_FOO_", None),
+    (SB, b"\x2ePCI0FOO_", None),
+    (SB, b"\x2ePCI0BAR_", Some(11)),
+    (PCI0, b"\x2ePCI0BAR_", None),
+    (Scope::Root, b"\x2f\x03_SB_PCI0BAR_", Some(11)),
+    (PCI0, b"^FOO_", None),
+    (PCI0, b"^^FOO_", Some(9)),
+    (PCI0, b"^^^FOO_", None),
+    (PCI0, b"^PCI0", Some(10)),
+    // An alias has the number of the object, and no names of its own.
+    (PCI0, b"ALS0", Some(10)),
+    (Scope::Root, b"\x2eALS0BAR_", None),
+    // The root is no object, and no path has this number.
+    (PCI0, b"\\\x00", None),
+    (Scope::At(ObjectId(13)), b"FOO_", None),
+];
 
 #[test]
-fn names(rt: HostRuntime) -> Result<(), Fail> {
-    let table = dsdt_of(rt.alloc(), CALLS)?;
-    let ns = Namespace::load(rt.alloc(), &table)?;
-    let rows: &[(&[u8], Option<u8>)] = &[
-        (b"M001", Some(1)),
-        (b"M002", Some(0)),
-        (b"^M001", Some(1)),
-        (b"\\M001", Some(1)),
-        (b"M003", None),
-        (b"^^M001", None),
-        (b".M001M002", None),
-    ];
-    for (bytes, args) in rows {
-        assert_eq!(rt; arguments_of(&ns, bytes), *args);
+fn look_ups(rt: HostRuntime) -> Result<(), Fail> {
+    let table = dsdt_of(rt.alloc(), NAMES)?;
+    let ns = Namespace::load(rt.alloc(), &[&table], HOST)?;
+    for (scope, name, wanted) in LOOK_UPS {
+        let number = found(&ns, *scope, name).map(|id| id.0);
+        assert_eq!(rt; number, *wanted, "{scope:?} {name:?}");
     }
     Ok(())
 }
+
+/// Method (\M001, 1) {}, Device (DEV0) { Method (MTH2, 2) { ^XXX1 (Arg0), XXX1 (Arg0), ^M001,
+/// M001 (Arg0) }, Method (XXX1, 1) {} } and Method (M002) { M001 (Arg0), ^M001 (Arg1), \M001 (Arg2),
+/// \DEV0.MTH2 (Arg0, Arg1), DEV0.MTH2, MTH2, XXXX, ^^M001, Arg3 }.
+const CALLS: &[u8] = b"\x14\x07\\M001\x01\
+    \x5b\x82\x28DEV0\x14\x1bMTH2\x02^XXX1\x68XXX1\x68^M001M001\x68\x14\x06XXX1\x01\
+    \x14\x3bM002\x00M001\x68^M001\x69\\M001\x6a\\\x2eDEV0MTH2\x68\x69\x2eDEV0MTH2MTH2XXXX^^M001\x6b";
+
+/// Method (M003) { \DEV0.MTH2 (Arg0, Arg1), _OSI ("x") }.
+const CALLS_OF_SECOND: &[u8] = b"\x14\x19M003\x00\\\x2eDEV0MTH2\x68\x69_OSI\x0dx\x00";
 
 /// A term: what it is, its place, the place behind it, and how many parts it has.
 type Head = (Op, usize, usize, usize);
@@ -55,28 +89,52 @@ fn statements_of(
     ns: &Namespace<'_>,
     method: ObjectId,
 ) -> Result<Vec<Head>, TreeFault> {
-    if method.0 >= ns.len() {
+    if ns.method(method).is_none() {
         return Ok(Vec::new(alloc));
     }
     let body = ns.tree(alloc, method)?;
     Ok(heads(alloc, &body)?)
 }
 
+/// A method's number, and its statements.
+const BODIES: &[(usize, &[Head])] = &[
+    (9, &[]),
+    (
+        11,
+        &[
+            (Op::Invocation, 58, 64, 2),
+            (Op::Invocation, 64, 69, 2),
+            (Op::Invocation, 69, 74, 1),
+            (Op::Invocation, 74, 79, 2),
+        ],
+    ),
+    (
+        13,
+        &[
+            (Op::Invocation, 93, 98, 2),
+            (Op::Invocation, 98, 104, 2),
+            (Op::Invocation, 104, 110, 2),
+            (Op::Invocation, 110, 122, 3),
+            (Op::Invocation, 122, 131, 1),
+            (Op::Invocation, 131, 135, 1),
+            (Op::Invocation, 135, 139, 1),
+            (Op::Invocation, 139, 145, 1),
+            (Op::Arg3, 145, 146, 0),
+        ],
+    ),
+    (
+        14,
+        &[(Op::Invocation, 43, 55, 3), (Op::Invocation, 55, 62, 2)],
+    ),
+];
+
 #[test]
 fn bodies(rt: HostRuntime) -> Result<(), Fail> {
-    let table = dsdt_of(rt.alloc(), CALLS)?;
-    let ns = Namespace::load(rt.alloc(), &table)?;
-    let statements: &[Head] = &[
-        (Op::Invocation, 51, 56, 2),
-        (Op::Invocation, 56, 62, 2),
-        (Op::Invocation, 62, 68, 2),
-        (Op::Invocation, 68, 72, 1),
-        (Op::Invocation, 72, 78, 1),
-        (Op::Arg3, 78, 79, 0),
-    ];
-    let rows: &[(ObjectId, &[Head])] = &[(ObjectId(0), &[]), (ObjectId(1), statements)];
-    for (method, wanted) in rows {
-        let found = statements_of(rt.alloc(), &ns, *method)?;
+    let first = dsdt_of(rt.alloc(), CALLS)?;
+    let second = ssdt_of(rt.alloc(), CALLS_OF_SECOND)?;
+    let ns = Namespace::load(rt.alloc(), &[&first, &second], HOST)?;
+    for (method, wanted) in BODIES {
+        let found = statements_of(rt.alloc(), &ns, ObjectId(*method))?;
         assert_eq!(rt; found.as_slice(), *wanted);
     }
     Ok(())

@@ -2,7 +2,7 @@ use Rattle.std.proofs.Common.{◌≡◌, ℕ, Result, Ok, Err, map, refl, true}
 use Rattle.acpi_listing.specs.declared.fault.Fault.TheVariants as fault
 use Rattle.acpi_listing.specs.declared.fault.Stop.{Stop}
 use Rattle.acpi_listing.specs.declared.fault.Stop.TheVariants.{Fault as Faulty}
-use Rattle.aml_namespace.specs.Load.{shown}
+use Rattle.aml_namespace.specs.Shows.{shown}
 use Rattle.aml_operators.specs.Tree.{view}
 use Rattle.aml_tree.proofs.Shaped.{body_shaped}
 use Rattle.acpi_text.specs.Outcome.{outcome_line}
@@ -16,7 +16,7 @@ pub returns-in_err-namespace-clause-printed : goal.returns-in_err-namespace-clau
 returns-in_err-namespace-clause-printed g c =
     let word = c.args.request.now.method.now in
     given_fault (Loads c.args.table.now)
-    (λ ns. Then (Gives (Finds ns word)) (λ m. Then (Gives (ReadsBody ns m)) (EvaluatesBody ns m word c.args.arguments.now c.args.request.now.steps)))
+    (λ ns. Then (Gives (Finds ns word)) (λ found. Then (Gives (ReadsBody ns found.0 found.1)) (EvaluatesBody ns found word c.args.arguments.now c.args.request.now.steps)))
     tt _ _ c.from_residual.result c.from_residual.ensures.1 c.in_err-namespace.ensures
 
 pub returns-in_err-id-clause-printed : goal.returns-in_err-id-clause-printed
@@ -27,7 +27,7 @@ returns-in_err-id-clause-printed g c =
     let ns = shown c.in_ok-namespace.namespace in
     let r = c.from_residual-in_err-id.result in
     after_load word arguments steps c.args.table.now ns _ _ r c.in_ok-namespace.ensures
-    (given_fault (Finds ns word) (λ m. Then (Gives (ReadsBody ns m)) (EvaluatesBody ns m word arguments steps))
+    (given_fault (Finds ns word) (λ found. Then (Gives (ReadsBody ns found.0 found.1)) (EvaluatesBody ns found word arguments steps))
     tt _ _ r c.from_residual-in_err-id.ensures.1 c.in_err-id.ensures.none)
 
 pub returns-in-Err-NoMemory-clause-printed : goal.returns-in-Err-NoMemory-clause-printed
@@ -36,13 +36,13 @@ returns-in-Err-NoMemory-clause-printed g c =
     let ns = shown c.in_ok-namespace.namespace in
     let m = c.in_ok-id.method in
     after_find word c.args.arguments.now c.args.request.now.steps c.args.table.now ns _ m _ _ (Err (Faulty fault.NoMemory)) c.in_ok-namespace.ensures c.in_ok-id.ensures.found
-    (given_fault (ReadsBody ns m) (EvaluatesBody ns m word c.args.arguments.now c.args.request.now.steps) tt _ fault.NoMemory (Err (Faulty fault.NoMemory)) refl refl)
+    (given_fault (ReadsBody ns c.in_ok-id.id.0 m) (EvaluatesBody ns (c.in_ok-id.id.0, m) word c.args.arguments.now c.args.request.now.steps) tt _ fault.NoMemory (Err (Faulty fault.NoMemory)) refl refl)
 
 pub returns-in-Err-Refused-clause-printed : goal.returns-in-Err-Refused-clause-printed
 returns-in-Err-Refused-clause-printed g c =
     let ns = shown c.in_ok-namespace.namespace in
     let m = c.in_ok-id.method in
-    let refused = rw c.in-Err-Refused.field-0-is at (c.in-Err-Refused.ensures m c.in_ok-id.ensures.found.3) in
+    let refused = rw c.in-Err-Refused.field-0-is at (c.in-Err-Refused.ensures m c.in_ok-id.ensures.found.1) in
     after_body c.args.request.now.method.now c.args.arguments.now c.args.request.now.steps c.args.table.now ns _ m (Err c.in-Err-Refused.refusal) _ _ _
     c.in_ok-namespace.ensures c.in_ok-id.ensures.found refused (rw c.in-Err-Refused.field-0-is at c.tell_refusal.ensures.printed)
 
@@ -54,27 +54,27 @@ returns-then-not-fits-clause-printed g c =
     let ns = shown c.in_ok-namespace.namespace in
     let m = c.in_ok-id.method in
     let ts = map view c.in-Ok.body.items in
-    let body = c.in-Ok.ensures m c.in_ok-id.ensures.found.3 in
+    let body = c.in-Ok.ensures m c.in_ok-id.ensures.found.1 in
     let refuses : Takes ns m arguments → ⊥ =
     λ takes. let fits : c.fits.result ≡ true = c.fits.ensures.1 takes in absurd (cc (fits, c.if-not-fits.true)) in
     let r : Result ℕ Stop = Err (Faulty fault.ArgsDontFit) in
     after_body word arguments steps c.args.table.now ns _ m (Ok ts) _ _ r c.in_ok-namespace.ensures c.in_ok-id.ensures.found body
-    (given_fault (Fit ns m arguments) (λ _. Then (Gives (IsMeant ns m ts arguments steps)) (λ o. Tells (outcome_line o) (outcome_status o)))
+    (given_fault (Fit ns m arguments) (λ _. Then (Gives (IsMeant ns c.in_ok-id.id.0 m ts arguments steps)) (λ o. Tells (outcome_line o) (outcome_status o)))
     (tt {0}) _ fault.ArgsDontFit r refl (refuses, refl))
 
 -- the body that was read has its shape
 pub evaluate_terms-outcome-requires-clause-shaped : goal.evaluate_terms-outcome-requires-clause-shaped
 evaluate_terms-outcome-requires-clause-shaped g c =
-    let body = c.in-Ok.ensures c.in_ok-id.method c.in_ok-id.ensures.found.3 in
+    let body = c.in-Ok.ensures c.in_ok-id.method c.in_ok-id.ensures.found.1 in
     rw c.deref.ensures.value (body_shaped _ _ _ _ body).1
 
 pub returns-clause-printed : goal.returns-clause-printed
 returns-clause-printed g c =
     let ns = shown c.in_ok-namespace.namespace in
     let m = c.in_ok-id.method in
-    let body = c.in-Ok.ensures m c.in_ok-id.ensures.found.3 in
+    let body = c.in-Ok.ensures m c.in_ok-id.ensures.found.1 in
     let outcome = c.evaluate_terms-outcome.result in
-    let meant = rw c.deref.ensures.value at (c.evaluate_terms-outcome.ensures m c.in_ok-id.ensures.found.3) in
+    let meant = rw c.deref.ensures.value at (c.evaluate_terms-outcome.ensures m c.in_ok-id.ensures.found.1) in
     after_outcome c.args.request.now.method.now c.args.arguments.now c.args.request.now.steps c.args.table.now ns _ m (map view c.in-Ok.body.items) outcome _ _ _
     c.in_ok-namespace.ensures c.in_ok-id.ensures.found body (c.fits.ensures.0 c.if-not-fits.false) meant
     c.tell_outcome.ensures.printed

@@ -1,4 +1,4 @@
-use Rattle.aml_namespace.proofs.Places.{faults_within}
+use Rattle.aml_namespace.proofs.Placed.{faults_within}
 use Rattle.aml_namespace.proofs.law.faults_stand_within.Goals as goal
 
 pub returns : goal.returns

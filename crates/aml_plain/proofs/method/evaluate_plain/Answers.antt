@@ -1,5 +1,5 @@
 use Rattle.aml_tree.proofs.Shaped.{body_shaped}
-use Rattle.aml_namespace.specs.Load.{shown}
+use Rattle.aml_namespace.specs.Shows.{shown}
 use Rattle.aml_plain.proofs.Methods.{there, evaluated_body}
 use Rattle.aml_plain.proofs.method.evaluate_plain.Goals as goal
 
@@ -11,7 +11,7 @@ unreachable-requires c =
     refused.1 body.0 body.1
 
 pub returns-in-Ok : goal.returns-in-Ok
-returns-in-Ok c = evaluated_body _ _ _ _ _ _ c.in-Ok.ensures (λ m is. rw c.deref.ensures.value at (c.evaluate_terms.ensures m is))
+returns-in-Ok c = evaluated_body (shown c.args.namespace.now) c.args.method.0 _ _ _ _ c.in-Ok.ensures (λ m is. rw c.deref.ensures.value at (c.evaluate_terms.ensures m is))
 
 pub evaluate_terms-requires-clause-shaped : goal.evaluate_terms-requires-clause-shaped
 evaluate_terms-requires-clause-shaped c =

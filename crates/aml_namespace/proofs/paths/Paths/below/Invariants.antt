@@ -1,4 +1,4 @@
-use Rattle.std.proofs.Common.{◌≡◌, ◌<◌, length, drop}
+use Rattle.std.proofs.Common.{◌≡◌, ◌<◌, length, drop, take}
 use Rattle.aml_lex.specs.Names.{name_of}
 use Rattle.aml_namespace.specs.Paths.{number_below}
 use Rattle.aml_namespace.specs.Steps.{paths_seen}
@@ -8,5 +8,5 @@ use Rattle.aml_namespace.proofs.paths.Paths.below.Given as goal
 abbrev pub invariant-loop-i : goal.invariant-loop-i
 invariant-loop-i l = record {
   there : l.number < length (paths_seen l.self);
-  left : number_below (paths_seen l.self) l.fn.at (name_of l.name).segs ≡ number_below (paths_seen l.self) l.number (drop l.i (name_of l.name).segs);
+  left : number_below (paths_seen l.self) l.fn.at (take l.count (name_of l.name).segs) ≡ number_below (paths_seen l.self) l.number (drop l.i (take l.count (name_of l.name).segs));
 }

@@ -1,0 +1,5 @@
+use Rattle.aml_namespace.proofs.Distinct.{paths_distinct}
+use Rattle.aml_namespace.proofs.law.paths_are_distinct.Goals as goal
+
+pub returns : goal.returns
+returns c = paths_distinct

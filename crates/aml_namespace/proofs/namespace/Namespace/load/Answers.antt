@@ -1,0 +1,16 @@
+use Rattle.std.proofs.Common.{List, ℕ, length, sym, ap, subst}
+use Rattle.aml_namespace.specs.Bodies.{BodiesWithin}
+use Rattle.aml_namespace.specs.Entries.{Entries}
+use Rattle.aml_namespace.specs.Kept.{entries_seen}
+use Rattle.aml_namespace.specs.Load.{AllMake}
+use Rattle.aml_namespace.specs.Shows.{bytes_in}
+use Rattle.aml_namespace.proofs.Sound.{bodies_within}
+use Rattle.aml_namespace.proofs.namespace.Namespace.load.Goals as goal
+
+-- the bodies lie within the tables that are kept
+pub invariant_of-result : goal.invariant_of-result
+invariant_of-result c =
+    let tables = bytes_in c.args.tables.now in
+    let entries = entries_seen c.load_tables.new.objects in
+    let made = subst (λ (before : Entries). AllMake 0 tables before entries) c.in_ok-objects.ensures c.in-Ok.ensures.0 in
+    record { bodies = subst (λ (ts : List (List ℕ)). BodiesWithin ts entries) (ap bytes_in (sym c.in_ok-from_slice.ensures.items)) (bodies_within tables (length c.args.host.os.now) entries made) }

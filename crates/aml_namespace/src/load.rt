@@ -1,0 +1,75 @@
+// Loading tables, one behind the other (ACPI 6.5, 5.2.11 and 5.3).
+
+ghost use Rattle.std.specs.Prelude.{◌≡◌, ◌<◌, length, map};
+ghost use Rattle.aml_namespace.specs.Kept.{entries_seen};
+ghost use Rattle.aml_namespace.specs.Load.{signature_of};
+ghost use Rattle.aml_namespace.specs.Loads.{LoadsAll, LoadsTable};
+
+use crate::define::define_all;
+use crate::fault::{LoadFault, table_fault, tree_fault};
+use crate::here::Here;
+use crate::objects::Objects;
+use crate::paths::ROOT;
+use acpi_tables::read_table;
+use aml_tree::read_module;
+use std::alloc::Global;
+
+/// The signature of the table with a number.
+fn signature_of(table: usize) -> &'static [u8; 4]
+    ensures { result.now ≡ signature_of table }
+{
+    match table {
+        0 => b"DSDT",
+        _ => b"SSDT",
+    }
+}
+
+/// Loads the table with a number behind those before it, and answers its revision.
+#[tactic(auto, using(crate::proofs::Modules::module_terms))]
+fn load_table(
+    alloc: Global,
+    table: usize,
+    bytes: &[u8],
+    objects: &mut Objects,
+) -> Result<u8, LoadFault>
+    ensures { LoadsTable table bytes.now (entries_seen objects.old) (entries_seen objects.new) result }
+{
+    let header = match read_table(bytes, signature_of(table)) {
+        Ok(header) => header,
+        Err(fault) => return Err(table_fault(table, fault)),
+    };
+    let terms = match read_module(alloc, bytes) {
+        Ok(terms) => terms,
+        Err(fault) => return Err(tree_fault(table, fault)),
+    };
+    let here = Here {
+        table,
+        bytes,
+        scope: ROOT,
+    };
+    define_all(here, objects, &terms)?;
+    Ok(header.revision)
+}
+
+/// Loads tables, one behind the other, and answers the revision of the first.
+pub(crate) fn load_tables(
+    alloc: Global,
+    tables: &[&[u8]],
+    objects: &mut Objects,
+) -> Result<u8, LoadFault>
+    requires { 0 < length tables.now }
+    ensures { let bytes = map (λ t. t.now) tables.now in
+        LoadsAll bytes (entries_seen objects.old) (entries_seen objects.new) result }
+{
+    let mut revision = 0;
+    for (number, bytes) in tables.iter().enumerate() {
+        let told = match load_table(alloc, number, bytes, objects) {
+            Ok(told) => told,
+            Err(fault) => return Err(fault),
+        };
+        if number == 0 {
+            revision = told;
+        }
+    }
+    Ok(revision)
+}

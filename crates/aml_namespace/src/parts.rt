@@ -1,0 +1,60 @@
+// The parts of a term, as many as its operator's letters name.
+
+ghost use Rattle.std.specs.Prelude.{◌≡◌, ◌+◌, ◌<◌, length};
+ghost use Rattle.aml_operators.specs.Tree.{more, none, view, views};
+
+use aml_operators::Term;
+
+pub(crate) fn one(parts: &[Term]) -> &Term
+    requires { length parts.now ≡ 1 }
+    ensures { views parts.now ≡ more (view result.now) none }
+{
+    match parts {
+        [a] => a,
+        _ => unreachable!(),
+    }
+}
+
+pub(crate) fn two(parts: &[Term]) -> (&Term, &Term)
+    requires { length parts.now ≡ 2 }
+    ensures { views parts.now ≡ more (view result.0.now) (more (view result.1.now) none) }
+{
+    match parts {
+        [a, b] => (a, b),
+        _ => unreachable!(),
+    }
+}
+
+pub(crate) fn three(parts: &[Term]) -> (&Term, &Term, &Term)
+    requires { length parts.now ≡ 3 }
+    ensures { views parts.now ≡
+        more (view result.0.now) (more (view result.1.now) (more (view result.2.now) none)) }
+{
+    match parts {
+        [a, b, c] => (a, b, c),
+        _ => unreachable!(),
+    }
+}
+
+pub(crate) fn four(parts: &[Term]) -> (&Term, &Term, &Term, &Term)
+    requires { length parts.now ≡ 4 }
+    ensures { views parts.now ≡ more (view result.0.now) (more (view result.1.now)
+        (more (view result.2.now) (more (view result.3.now) none))) }
+{
+    match parts {
+        [a, b, c, d] => (a, b, c, d),
+        _ => unreachable!(),
+    }
+}
+
+/// The first part, and those behind it.
+pub(crate) fn first_and_rest(parts: &[Term]) -> (&Term, &[Term])
+    requires { 0 < length parts.now }
+    ensures views { views parts.now ≡ more (view result.0.now) (views result.1.now) }
+    ensures length { length parts.now ≡ length result.1.now + 1 }
+{
+    match parts {
+        [first, rest @ ..] => (first, rest),
+        [] => unreachable!(),
+    }
+}
