@@ -17,7 +17,7 @@ mod program;
 mod source;
 mod words;
 
-pub use acpi_text::{RunFault, Table, list_evaluation, list_refusal, list_tables, put};
+pub use acpi_text::{RunFault, Table, list_evaluation, list_names, list_refusal, list_tables, put};
 pub use any_table::{FileKind, read_any_table};
 pub use command_line::{command_words, run_program};
 pub use disk::{Disk, Unread, read_whole};

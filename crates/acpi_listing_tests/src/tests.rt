@@ -2,6 +2,7 @@
 // line, and writers that fail.
 
 mod calls;
+mod names;
 mod rows;
 mod whole;
 

@@ -4,3 +4,4 @@ pub mod Items
 pub mod Outcome
 pub mod Structures
 pub mod Tables
+pub mod Names

@@ -1,8 +1,9 @@
-//! The texts of values, outcomes, causes of faults and tables, as they are printed.
+//! The texts of values, outcomes, causes of faults, tables and names, as they are printed.
 #![tactic(auto)]
 
 mod escaped;
 mod items;
+mod names;
 mod outcome;
 mod refusal;
 mod structures;
@@ -11,6 +12,7 @@ mod table_lines;
 mod tables;
 mod writing;
 
+pub use names::list_names;
 pub use outcome::list_evaluation;
 pub use refusal::list_refusal;
 pub use table::Table;

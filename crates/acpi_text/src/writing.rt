@@ -27,6 +27,14 @@ impl From<AllocError> for RunFault {
     }
 }
 
+impl From<aml_namespace::NoMemory> for RunFault {
+    ghost from_gives = { λ _ fault. fault ≡ NoMemory };
+
+    fn from(_error: aml_namespace::NoMemory) -> RunFault {
+        RunFault::NoMemory
+    }
+}
+
 /// Writes the whole text, by as many writes as the writer wants.
 pub fn put<W: Write>(out: &mut W, text: &[u8]) -> Result<(), RunFault>
     ensures { Lists result (W.contents out.old) (W.contents out.new) text.now }
