@@ -11,6 +11,12 @@
 | chosen | a method MAIN that makes COUNT names of its own by Name |
 | methods_chosen | COUNT methods that return One, and behind them such a method MAIN |
 | uses_chosen | the same methods, and a method MAIN that calls each of them once |
+| names | COUNT names of Zero at the root, and a method MAIN |
+| device_names | the same names in one Device |
+| aliases | COUNT aliases of MAIN |
+| fields | a region, and COUNT field lists of one field each |
+| deep_names | COUNT names in a scope that is 10,000 segments deep |
+| searched | COUNT aliases of MAIN, which is at the root, in a scope that is 1,000 segments deep |
 
 The names of the last three are those that whoever writes a table would choose against a reader that keeps names in a
 hash map of the kit: its default hasher has a fixed seed, and these names all begin their search in the same part of
@@ -89,6 +95,47 @@ def methods(names):
     return b"".join(method(name, b"\xa4\x01") for name in names)
 
 
+def name_of(segments):
+    """A relative path of 2 to 255 segments."""
+    if len(segments) == 1:
+        return segments[0]
+    return b"\x2f" + bytes([len(segments)]) + b"".join(segments)
+
+
+def in_scope(depth, inside):
+    """Definitions in a chain of so many devices, which is opened by names of at most 255 segments."""
+    while depth > 0:
+        step = min(depth, 255)
+        inside = package(b"\x10", name_of([b"DEEP"] * step) + inside)
+        depth -= step
+    return inside
+
+
+def deep(depth, inside):
+    """A chain of so many devices, one in the other, and definitions in the last of them."""
+    made, at = b"", 0
+    while at < depth:
+        step = min(depth - at, 60 - at // 255)
+        devices = b""
+        for _ in range(step):
+            devices = package(b"\x5b\x82", b"DEEP" + devices)
+        made += in_scope(at, devices)
+        at += step
+    return made + in_scope(depth, inside)
+
+
+def other_names(count):
+    """So many names that begin with N, so that none of them is MAIN."""
+    return [b"N" + name[1:] for name in names_in_order(count)]
+
+
+def zeros(count):
+    return b"".join(b"\x08" + name + b"\x00" for name in other_names(count))
+
+
+MAIN = method(b"MAIN", b"\xa4\x01")
+
+
 def dsdt(body):
     length = 36 + len(body)
     head = b"DSDT" + length.to_bytes(4, "little") + b"\x02\x00" + b"ACPICKBENCH001" + (1).to_bytes(4, "little") + b"BNCH" + (1).to_bytes(4, "little")
@@ -115,6 +162,19 @@ def body_of(kind, count):
     if kind == "uses_chosen":
         names = chosen_names(count)
         return methods(names) + method(b"MAIN", b"".join(names))
+    if kind == "names":
+        return MAIN + zeros(count)
+    if kind == "device_names":
+        return MAIN + package(b"\x5b\x82", b"DEV0" + zeros(count))
+    if kind == "aliases":
+        return MAIN + b"".join(b"\x06MAIN" + name for name in other_names(count))
+    if kind == "fields":
+        region = b"\x5b\x80REG0\x01\x0a\x60\x0a\x04"
+        return MAIN + region + b"".join(package(b"\x5b\x81", b"REG0\x01" + name + b"\x08") for name in other_names(count))
+    if kind == "deep_names":
+        return MAIN + deep(10_000, zeros(count))
+    if kind == "searched":
+        return MAIN + deep(1_000, b"".join(b"\x06MAIN" + name for name in other_names(count)))
     raise ValueError(kind)
 
 
