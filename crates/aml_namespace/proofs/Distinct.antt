@@ -25,7 +25,6 @@ use Rattle.aml_namespace.specs.Enter.{Here, aliased, alias_of, entered, greatest
 use Rattle.aml_namespace.specs.Define.{alias, all_defined, bank_fields, defined, field_entered, fields_from, flat, holding, index_fields, object_entered, region_fields, reopening, where_named}
 use Rattle.aml_namespace.specs.Fault.{◌>>=◌}
 use Rattle.aml_namespace.specs.FieldLists.{behind, field_of}
-use Rattle.aml_namespace.specs.Laws.{PathsDistinct}
 use Rattle.aml_namespace.specs.Load.{AllMake, at_root}
 use Rattle.aml_namespace.specs.Made.{Named, at_of, object_of}
 use Rattle.aml_namespace.specs.Predefined.{predefined_entries}
@@ -180,5 +179,5 @@ predefined_apart os_length (suc (suc (suc (suc (suc (suc (suc (suc zero)))))))) 
 predefined_apart os_length (suc (suc (suc (suc (suc (suc (suc (suc (suc zero))))))))) path is = ap (path_number (paths_in (predefined_entries os_length))) (sym (same_Some _ path is))
 predefined_apart os_length (suc (suc (suc (suc (suc (suc (suc (suc (suc (suc i)))))))))) path is = absurd cc
 
-pub paths_distinct : PathsDistinct
-paths_distinct tables os entries made = tables_apart 0 tables (predefined_entries (length os)) entries made (predefined_apart (length os))
+pub made_distinct : (tables : List (List ℕ)) (os : List ℕ) (entries : Entries) → AllMake 0 tables (predefined_entries (length os)) entries → AreDistinct (paths_in entries)
+made_distinct tables os entries made = tables_apart 0 tables (predefined_entries (length os)) entries made (predefined_apart (length os))

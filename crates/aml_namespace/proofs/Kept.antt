@@ -54,6 +54,12 @@ module _ {K X : Type 0} where
   zip_push (j ∷ ks) [] k x e = absurd cc
   zip_push (j ∷ ks) (y ∷ xs) k x e = ap (λ (l : List (K × X)). (j, y) ∷ l) (zip_push ks xs k x (omega arith))
 
+  pub zip_map : (f : X → X) (ks : List K) (xs : List X) → length ks ≡ length xs → zip ks (map f xs) ≡ map (λ (e : K × X). (e.0, f e.1)) (zip ks xs)
+  zip_map f [] [] e = refl
+  zip_map f [] (x ∷ xs) e = absurd cc
+  zip_map f (k ∷ ks) [] e = absurd cc
+  zip_map f (k ∷ ks) (x ∷ xs) e = ap (λ (l : List (K × X)). (k, f x) ∷ l) (zip_map f ks xs (omega arith))
+
 behind_root : (paths : List Path) → slice_get paths 0 ≡ Some root → root ∷ drop 1 paths ≡ paths
 behind_root [] is = absurd cc
 behind_root (path ∷ paths) is = let same : path ≡ root = same_Some path root is in ap (λ (p : Path). p ∷ paths) (sym same)
@@ -67,7 +73,7 @@ same_mapped None = refl
 same_mapped (Some x) = refl
 
 module _ (objects : Objects) where
-  as_many : length (drop 1 (paths_seen objects.paths)) ≡ length objects.entries.items
+  pub as_many : length (drop 1 (paths_seen objects.paths)) ≡ length objects.entries.items
   as_many =
       let all = ap length (behind_root (paths_seen objects.paths) (seen_root objects.paths)) in
       omega (arith, all, objects.placed)

@@ -20,3 +20,4 @@ pub mod Sound
 pub mod PrintedPaths
 pub mod Placed
 pub mod Distinct
+pub mod Settling

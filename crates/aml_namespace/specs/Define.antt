@@ -18,7 +18,7 @@ use Rattle.aml_namespace.specs.Entries.{Entries}
 use Rattle.aml_namespace.specs.Enter.{Here, aliased, entered, opened}
 use Rattle.aml_namespace.specs.Fault.{◌>>=◌}
 use Rattle.aml_namespace.specs.FieldLists.{behind, field_of, list_start}
-use Rattle.aml_namespace.specs.Made.{at_of, name_place, number_in, object_of}
+use Rattle.aml_namespace.specs.Made.{at_of, number_in, object_of, reference}
 
 -- what a name makes, where one stands; each name of a module does
 abbrev pub where_named : Option NameString → Entries → (NameString → Result Entries LoadRefusal) → Result Entries LoadRefusal
@@ -49,17 +49,17 @@ alias_entered here entries source_at at =
 -- the fields of a Field, an IndexField and a BankField
 abbrev pub region_fields : Here → Entries → Trees → Result Entries LoadRefusal
 region_fields here entries (more region (more flags items)) =
-    fields_from here (through.Region (name_place here region)) (list_start (number_in flags)) entries items
+    fields_from here (through.Region (reference here region)) (list_start (number_in flags)) entries items
 region_fields here entries parts = Ok entries
 
 abbrev pub index_fields : Here → Entries → Trees → Result Entries LoadRefusal
 index_fields here entries (more index (more source (more flags items))) =
-    fields_from here (through.Index (name_place here index) (name_place here source)) (list_start (number_in flags)) entries items
+    fields_from here (through.Index (reference here index) (reference here source)) (list_start (number_in flags)) entries items
 index_fields here entries parts = Ok entries
 
 abbrev pub bank_fields : Here → Entries → Trees → Result Entries LoadRefusal
 bank_fields here entries (more region (more bank (more value (more flags items)))) =
-    fields_from here (through.Bank (name_place here region) (name_place here bank) (literal_of value)) (list_start (number_in flags)) entries items
+    fields_from here (through.Bank (reference here region) (reference here bank) (literal_of value)) (list_start (number_in flags)) entries items
 bank_fields here entries parts = Ok entries
 
 abbrev pub alias : Here → Entries → Trees → Result Entries LoadRefusal

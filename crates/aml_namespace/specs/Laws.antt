@@ -3,8 +3,7 @@ use Rattle.std.specs.Prelude.{◌≡◌, ◌<◌, ◌≤◌, ℕ, List, ◌++◌
 use Rattle.aml_namespace.specs.declared.fault.LoadRefusal.{LoadRefusal}
 use Rattle.aml_namespace.specs.Entries.{Entries, paths_in}
 use Rattle.aml_namespace.specs.Paths.{AreDistinct}
-use Rattle.aml_namespace.specs.Predefined.{predefined_entries}
-use Rattle.aml_namespace.specs.Load.{AllMake, FaultyLoad}
+use Rattle.aml_namespace.specs.Load.{AllMake, FaultyLoad, IsLoaded, Shown}
 
 -- a fault names one of these tables, and a place within its bytes or at their end
 pub record StandsWithin (tables : List (List ℕ)) (f : LoadRefusal) : Type 0 where
@@ -20,6 +19,6 @@ abbrev pub DefinitionsStay : Type 0
 DefinitionsStay = (tables more : List (List ℕ)) (before after : Entries) → AllMake 0 (tables ++ more) before after
     → (first added : Entries) × AllMake 0 tables before first × (after ≡ first ++ added)
 
--- of the pairs that tables make, no two have one path: a path has at most one object
+-- of the pairs that a loaded namespace holds, no two have one path: a path has at most one object
 abbrev pub PathsDistinct : Type 0
-PathsDistinct = (tables : List (List ℕ)) (os : List ℕ) (entries : Entries) → AllMake 0 tables (predefined_entries (length os)) entries → AreDistinct (paths_in entries)
+PathsDistinct = (tables : List (List ℕ)) (os : List ℕ) (ns : Shown) → IsLoaded tables os ns → AreDistinct (paths_in ns.entries)

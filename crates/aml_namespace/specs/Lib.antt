@@ -13,9 +13,11 @@ pub mod Define
 pub mod Kept
 pub mod Parts
 pub mod Predefined
+pub mod Bodies
+pub mod LookUp
+pub mod Settled
 pub mod Load
 pub mod Loads
-pub mod Bodies
 pub mod Names
 pub mod Shows
 pub mod Printed

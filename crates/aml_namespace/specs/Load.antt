@@ -13,6 +13,7 @@ use Rattle.aml_namespace.specs.Enter.{Here}
 use Rattle.aml_namespace.specs.Entries.{Entries}
 use Rattle.aml_namespace.specs.Fault.{table_refusal, tree_refusal}
 use Rattle.aml_namespace.specs.Predefined.{predefined_entries}
+use Rattle.aml_namespace.specs.Settled.{settled}
 use Rattle.aml_namespace.specs.Widths.{width_by}
 use Rattle.aml_namespace.specs.declared.width.Width.{Width}
 
@@ -61,12 +62,14 @@ abbrev pub first_width : List (List ℕ) → Width
 first_width [] = width_by 0
 first_width (bytes ∷ more) = width_by (number_at 8 1 bytes)
 
--- a namespace holds just what these tables make behind the predefined names
+-- a namespace holds just what these tables make behind the predefined names, with what the objects name
 pub record IsLoaded (tables : List (List ℕ)) (os : List ℕ) (ns : Shown) : Type 0 where
   pub tables_are : ns.tables ≡ tables
   pub os_is : ns.os ≡ os
   pub width_is : ns.width ≡ first_width tables
-  pub makes : AllMake 0 tables (predefined_entries (length os)) ns.entries
+  pub made : Entries
+  pub makes : AllMake 0 tables (predefined_entries (length os)) made
+  pub entries_are : ns.entries ≡ settled tables made
 
 -- the first fault of these tables
 abbrev pub FaultyLoad : List (List ℕ) → List ℕ → LoadRefusal → Type 0

@@ -7,6 +7,7 @@ use Rattle.aml_operators.specs.Literal.{literal_of}
 use Rattle.aml_namespace.specs.declared.object.Object.{Object}
 use Rattle.aml_namespace.specs.declared.object.Object.TheVariants as object
 use Rattle.aml_namespace.specs.declared.object.NamePlace.{NamePlace}
+use Rattle.aml_namespace.specs.declared.object.Reference.{Reference}
 use Rattle.aml_namespace.specs.declared.object.Scope.{Scope}
 use Rattle.aml_namespace.specs.declared.object.Scope.TheVariants.{Root, At}
 use Rattle.aml_namespace.specs.declared.object.Content.{Content}
@@ -36,6 +37,10 @@ scope_numbered (suc i) = At (record { 0 = i })
 -- a name that stands here
 abbrev pub name_place : Here → Tree → NamePlace
 name_place here name = record { table = here.table; at = at_of name; scope = scope_numbered here.scope }
+
+-- what is named here, and found once all tables are loaded
+abbrev pub reference : Here → Tree → Reference
+reference here name = record { name = name_place here name; object = None }
 
 -- how many bytes a part has
 abbrev pub size_in : Tree → ℕ
@@ -69,7 +74,7 @@ abbrev pub content_of : Tree → Content
 content_of (Node o at stop parts) = content_in o parts
 
 abbrev pub data_of : Here → Tree → Object
-data_of here t = object.Data (record { content = content_of t; source = source.Term here.table (record { at = at_of t; end = stop_of t }) })
+data_of here t = object.Data (record { content = content_of t; source = source.Term here.table (record { at = at_of t; end = stop_of t }) (scope_numbered here.scope) })
 
 -- bits 2:0 of a method's flags are the number of arguments, bit 3 tells whether it is serialized, bits 7:4 are the sync level
 abbrev pub method_of : Here → ℕ → ℕ → Tree → Object
@@ -83,7 +88,7 @@ method_of here at flags body = object.Method (record {
 })
 
 abbrev pub buffer_field : Here → BufferFieldSize → Tree → Tree → Object
-buffer_field here size buffer index = object.BufferField (record { source = name_place here buffer; index = literal index; size = size })
+buffer_field here size buffer index = object.BufferField (record { source = reference here buffer; index = literal index; size = size })
 
 -- an object, with the place of its name
 abbrev pub Named : Type 0

@@ -1,5 +1,5 @@
 -- What a namespace's names name (ACPI 6.5, 5.3).
-use Rattle.std.specs.Prelude.{ℕ, suc, List, take, Option, Some, None, option_and_then, Result, slice_get}
+use Rattle.std.specs.Prelude.{ℕ, List, take, Option, Some, None, option_and_then, Result}
 use Rattle.aml_lex.specs.NameStrings.{NameString}
 use Rattle.aml_lex.specs.Standing.{name_there}
 use Rattle.aml_operators.specs.Tree.{Tree}
@@ -10,26 +10,12 @@ use Rattle.aml_namespace.specs.declared.link.Link.TheVariants as link
 use Rattle.aml_namespace.specs.declared.object.Method.{Method}
 use Rattle.aml_namespace.specs.declared.object.Object.{Object}
 use Rattle.aml_namespace.specs.declared.object.Object.TheVariants as object
-use Rattle.aml_namespace.specs.declared.object.Scope.{Scope}
-use Rattle.aml_namespace.specs.declared.object.Scope.TheVariants.{Root, At}
+use Rattle.aml_namespace.specs.declared.object.Scope.TheVariants.{At}
 use Rattle.aml_namespace.specs.Bodies.{bytes_of}
-use Rattle.aml_namespace.specs.Entries.{Entries, number_of, object_at, object_number, paths_in}
+use Rattle.aml_namespace.specs.Entries.{Entries, number_of, object_at, object_number}
 use Rattle.aml_namespace.specs.Load.{Shown}
+use Rattle.aml_namespace.specs.LookUp.{looked_up}
 use Rattle.aml_namespace.specs.Paths.{Path}
-use Rattle.aml_namespace.specs.Resolve.{resolve}
-
--- the number of the object that a name names in a scope
-abbrev pub named_in : Entries → Path → NameString → Option ℕ
-named_in entries scope name = option_and_then (object_number entries) (resolve (number_of entries) scope name)
-
--- the path of a scope, where it is one
-abbrev pub scope_path : Entries → Scope → Option Path
-scope_path entries Root = slice_get (paths_in entries) 0
-scope_path entries (At id) = slice_get (paths_in entries) (suc id.0)
-
--- what a name names in a scope; in what is none, nothing
-abbrev pub looked_up : Entries → Scope → NameString → Option ℕ
-looked_up entries scope name = option_and_then (λ path. named_in entries path name) (scope_path entries scope)
 
 -- the object under a path
 abbrev pub found : Entries → Path → Option ℕ

@@ -13,7 +13,7 @@ use crate::enter::{enter, enter_alias, open};
 use crate::fault::LoadFault;
 use crate::fields::Cursor;
 use crate::here::{Here, name_at};
-use crate::made::{name_place, number_in, object_of};
+use crate::made::{number_in, object_of, reference};
 use crate::object::{Entry, Field, Object, Through};
 use crate::objects::Objects;
 use crate::parts::{first_and_rest, two};
@@ -109,7 +109,7 @@ fn define_fields(here: Here<'_>, objects: &mut Objects, parts: &[Term]) -> Resul
 {
     let (region, rest) = first_and_rest(parts);
     let (flags, items) = first_and_rest(rest);
-    let through = Through::Region(name_place(here, region));
+    let through = Through::Region(reference(here, region));
     enter_fields(here, objects, through, number_in(flags), items)
 }
 
@@ -130,8 +130,8 @@ fn define_index_fields(
     let (source, rest) = first_and_rest(rest);
     let (flags, items) = first_and_rest(rest);
     let through = Through::Index {
-        index: name_place(here, index),
-        data: name_place(here, source),
+        index: reference(here, index),
+        data: reference(here, source),
     };
     enter_fields(here, objects, through, number_in(flags), items)
 }
@@ -154,8 +154,8 @@ fn define_bank_fields(
     let (value, rest) = first_and_rest(rest);
     let (flags, items) = first_and_rest(rest);
     let through = Through::Bank {
-        region: name_place(here, region),
-        bank: name_place(here, bank),
+        region: reference(here, region),
+        bank: reference(here, bank),
         value: literal_of(value),
     };
     enter_fields(here, objects, through, number_in(flags), items)

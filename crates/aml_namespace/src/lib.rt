@@ -9,6 +9,7 @@ mod here;
 mod law;
 mod link;
 mod load;
+mod look_up;
 mod made;
 mod memory;
 mod namespace;
@@ -19,6 +20,7 @@ mod paths;
 mod predefined;
 mod printed;
 mod resolve;
+mod settle;
 mod width;
 
 pub use fault::{LoadCause, LoadFault, LoadRefusal};
@@ -28,6 +30,6 @@ pub use memory::NoMemory;
 pub use namespace::{Host, Namespace};
 pub use object::{
     AccessType, BufferField, BufferFieldSize, Content, DataName, Entry, Field, FieldRule, Method,
-    NamePlace, Object, ObjectId, Region, Scope, Source, Through, UpdateRule,
+    NamePlace, Object, ObjectId, Reference, Region, Scope, Source, Through, UpdateRule,
 };
 pub use width::Width;

@@ -6,12 +6,12 @@ ghost use Rattle.aml_operators.specs.Shape.{AreShaped, IsShaped};
 ghost use Rattle.aml_operators.specs.Tree.{view, views};
 ghost use Rattle.aml_namespace.specs.Parts.{HasParts};
 ghost use Rattle.aml_namespace.specs.Kept.{here_of};
-ghost use Rattle.aml_namespace.specs.Made.{buffer_content, buffer_field, content_of, data_of, literal, method_of, name_place, named, named_bits, named_buffer_field, named_data, named_method, named_region, number_in, object_of, package_content, scope_numbered, size_in, sized_package_content, string_content};
+ghost use Rattle.aml_namespace.specs.Made.{buffer_content, buffer_field, content_of, data_of, literal, method_of, name_place, named, named_bits, named_buffer_field, named_data, named_method, named_region, number_in, object_of, package_content, reference, scope_numbered, size_in, sized_package_content, string_content};
 
 use crate::here::Here;
 use crate::object::{
-    BufferField, BufferFieldSize, Content, DataName, Method, NamePlace, Object, ObjectId, Region,
-    Scope, Source,
+    BufferField, BufferFieldSize, Content, DataName, Method, NamePlace, Object, ObjectId,
+    Reference, Region, Scope, Source,
 };
 use crate::parts::{four, one, three, two};
 use aml_operators::{Op, Term, literal_of};
@@ -54,6 +54,16 @@ pub(crate) fn name_place(here: Here<'_>, name: &Term) -> NamePlace
         table: here.table,
         at: name.at,
         scope: scope_numbered(here.scope),
+    }
+}
+
+/// What is named here, and found once all tables are loaded.
+pub(crate) fn reference(here: Here<'_>, name: &Term) -> Reference
+    ensures { result ≡ reference (here_of here.entry) (view name.now) }
+{
+    Reference {
+        name: name_place(here, name),
+        object: None,
     }
 }
 
@@ -131,6 +141,7 @@ fn data_of(here: Here<'_>, term: &Term) -> Object
                 at: term.at,
                 end: term.end,
             },
+            scope: scope_numbered(here.scope),
         },
     })
 }
@@ -158,7 +169,7 @@ fn buffer_field(here: Here<'_>, size: BufferFieldSize, buffer: &Term, index: &Te
     ensures { result ≡ buffer_field (here_of here.entry) size (view buffer.now) (view index.now) }
 {
     Object::BufferField(BufferField {
-        source: name_place(here, buffer),
+        source: reference(here, buffer),
         index: literal(index),
         size,
     })

@@ -44,7 +44,8 @@ impl<'a> Namespace<'a> {
     ghost use Rattle.std.specs.Prelude.{◌≤◌, Option, IfOk, suc, option_and_then, slice_get};
     ghost use Rattle.std.specs.Option.{option_map};
     ghost use Rattle.aml_tree.specs.Body.{trees_read};
-    ghost use Rattle.aml_namespace.specs.Names.{ReadsBodyOf, body_bytes, link_at, looked_up, method_at, named_in, named_within};
+    ghost use Rattle.aml_namespace.specs.LookUp.{looked_up};
+    ghost use Rattle.aml_namespace.specs.Names.{ReadsBodyOf, body_bytes, link_at, method_at};
     ghost use Rattle.aml_namespace.specs.Entries.{entry_numbered, object_at, path_numbered, paths_in};
     ghost use Rattle.aml_namespace.specs.Printed.{printed_object};
     ghost use Rattle.aml_namespace.specs.Shows.{Loads, bytes_in, shown};
@@ -68,6 +69,7 @@ impl<'a> Namespace<'a> {
             Ok(revision) => revision,
             Err(fault) => return Err(fault),
         };
+        objects.settle(alloc, tables)?;
         Ok(Namespace {
             tables: Vec::from_slice(alloc, tables)?,
             host,
@@ -134,33 +136,7 @@ impl<'a> Namespace<'a> {
         ensures { option_map (λ id. id.0) result
             ≡ looked_up (shown self.now).entries scope (name_of name.now) }
     {
-        let number = match scope {
-            Scope::Root => self.named_in(ROOT, name)?,
-            Scope::At(id) => self.named_within(id.0, name)?,
-        };
-        Some(ObjectId(number))
-    }
-
-    /// The number of the object that a name names within the object with this number.
-    #[tactic(auto, using(crate::proofs::Kept::past_paths))]
-    fn named_within(&self, id: usize, name: &NameRef<'_>) -> Option<usize>
-        ensures { result ≡ named_within (shown self.now).entries id (name_of name.now) }
-    {
-        if id >= self.objects.len() {
-            return None;
-        }
-        self.named_in(id + 1, name)
-    }
-
-    /// The number of the object that a name names in the scope whose path has this number.
-    #[tactic(auto, using(crate::proofs::Kept::scope_there))]
-    fn named_in(&self, scope: usize, name: &NameRef<'_>) -> Option<usize>
-        requires { scope ≤ length (shown self.now).entries }
-        ensures { let entries = (shown self.now).entries in result ≡ option_and_then
-            (λ path. named_in entries path (name_of name.now)) (slice_get (paths_in entries) scope) }
-    {
-        self.objects
-            .object_number(self.objects.resolve(scope, name)?)
+        Some(ObjectId(self.objects.look_up(scope, name)?))
     }
 
     /// What the name at a place of these bytes means in the body of the method with this number.
@@ -170,7 +146,7 @@ impl<'a> Namespace<'a> {
         let Some(name) = name_at(bytes, at) else {
             return Link::Missing;
         };
-        match self.named_within(id.0, &name) {
+        match self.objects.look_up(Scope::At(id), &name) {
             Some(number) => link_of(number, self.objects.object(number)),
             None => Link::Missing,
         }
@@ -228,7 +204,8 @@ impl Arity for Inside<'_> {
     ghost counts = { λ inside. counts (shown inside.namespace.now).entries inside.method };
 
     fn arity(&self, name: &NameRef<'_>, _at: usize) -> u8 {
-        match self.namespace.named_within(self.method, name) {
+        let scope = Scope::At(ObjectId(self.method));
+        match self.namespace.objects.look_up(scope, name) {
             Some(number) => args_of(self.namespace.objects.object(number)),
             None => 0,
         }

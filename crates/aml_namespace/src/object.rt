@@ -23,6 +23,16 @@ pub struct NamePlace {
     pub scope: Scope,
 }
 
+/// What an object says of another by its name.
+#[derive(Clone, Copy, Debug, PartialEq, Eq)]
+pub struct Reference {
+    /// Where the name stands.
+    pub name: NamePlace,
+    /// The object that it names once all tables are loaded; None where nothing has the name, and
+    /// before.
+    pub object: Option<ObjectId>,
+}
+
 /// What stands under a path.
 #[derive(Clone, Copy, Debug, PartialEq, Eq)]
 pub enum Entry {
@@ -99,8 +109,13 @@ pub enum Source {
     Revision,
     /// The name of the operating system, of `_OS_`.
     OsName,
-    /// A term of a table, with the table's number in the order of loading.
-    Term { table: usize, span: Span },
+    /// A term of a table, with the table's number in the order of loading. Names in a package are
+    /// resolved from the scope.
+    Term {
+        table: usize,
+        span: Span,
+        scope: Scope,
+    },
 }
 
 /// An operation region (ACPI 6.5, 19.6, OperationRegion).
@@ -131,16 +146,16 @@ pub struct Field {
 #[derive(Clone, Copy, Debug, PartialEq, Eq)]
 pub enum Through {
     /// In a region.
-    Region(NamePlace),
+    Region(Reference),
     /// By an index field and a data field.
     Index {
-        index: NamePlace,
-        data: NamePlace,
+        index: Reference,
+        data: Reference,
     },
     /// In a region, with a bank field that is set to a value, which is None where it is computed.
     Bank {
-        region: NamePlace,
-        bank: NamePlace,
+        region: Reference,
+        bank: Reference,
         value: Option<u64>,
     },
 }
@@ -178,8 +193,8 @@ pub enum UpdateRule {
 /// A field of a buffer (ACPI 6.5, 19.6, CreateField and its kin).
 #[derive(Clone, Copy, Debug, PartialEq, Eq)]
 pub struct BufferField {
-    /// The buffer's name.
-    pub source: NamePlace,
+    /// The buffer.
+    pub source: Reference,
     /// The number of its first byte, or of its first bit where it is a bit or so many bits.
     pub index: u64,
     pub size: BufferFieldSize,

@@ -25,7 +25,7 @@ const GREATEST_COUNT: usize = 65_535;
 #[derive(Drop)]
 pub(crate) struct Objects {
     /// In order of definition.
-    entries: Vec<Entry>,
+    pub(crate) entries: Vec<Entry>,
     /// The root's path, and those of the entries in the same order.
     paths: Paths,
     ghost placed: { length (paths_seen paths) ≡ suc (length entries.items) },

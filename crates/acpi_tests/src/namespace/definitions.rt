@@ -4,7 +4,8 @@ use super::{dsdt_of, found};
 use crate::made::HOST;
 use aml_namespace::{
     AccessType, BufferField, BufferFieldSize, Content, DataName, Entry, Field, FieldRule, Link,
-    Method, NamePlace, Namespace, Object, ObjectId, Region, Scope, Source, Through, UpdateRule,
+    Method, NamePlace, Namespace, Object, ObjectId, Reference, Region, Scope, Source, Through,
+    UpdateRule,
 };
 use aml_tree::Span;
 use std::test::Fail;
@@ -52,6 +53,7 @@ const INT0: DataName = DataName {
     source: Source::Term {
         table: 0,
         span: Span { at: 93, end: 95 },
+        scope: Scope::Root,
     },
 };
 
@@ -60,6 +62,7 @@ const BUF0: DataName = DataName {
     source: Source::Term {
         table: 0,
         span: Span { at: 100, end: 106 },
+        scope: Scope::Root,
     },
 };
 
@@ -68,6 +71,7 @@ const STR0: DataName = DataName {
     source: Source::Term {
         table: 0,
         span: Span { at: 111, end: 116 },
+        scope: Scope::Root,
     },
 };
 
@@ -76,6 +80,7 @@ const PKG0: DataName = DataName {
     source: Source::Term {
         table: 0,
         span: Span { at: 121, end: 128 },
+        scope: Scope::Root,
     },
 };
 
@@ -85,11 +90,14 @@ const REG0: Region = Region {
     length: Some(0x10),
 };
 
-/// The region's name where the Field's stands.
-const REG0_OF_FIELD: NamePlace = NamePlace {
-    table: 0,
-    at: 142,
-    scope: Scope::Root,
+/// The region, by its name in the Field.
+const REG0_OF_FIELD: Reference = Reference {
+    name: NamePlace {
+        table: 0,
+        at: 142,
+        scope: Scope::Root,
+    },
+    object: Some(ObjectId(18)),
 };
 
 const LOCKED_BYTES: FieldRule = FieldRule {
@@ -116,15 +124,21 @@ const FLD1: Field = Field {
 
 const IDX0: Field = Field {
     through: Through::Index {
-        index: NamePlace {
-            table: 0,
-            at: 162,
-            scope: Scope::Root,
+        index: Reference {
+            name: NamePlace {
+                table: 0,
+                at: 162,
+                scope: Scope::Root,
+            },
+            object: Some(ObjectId(19)),
         },
-        data: NamePlace {
-            table: 0,
-            at: 166,
-            scope: Scope::Root,
+        data: Reference {
+            name: NamePlace {
+                table: 0,
+                at: 166,
+                scope: Scope::Root,
+            },
+            object: Some(ObjectId(20)),
         },
     },
     bit: 0,
@@ -139,15 +153,21 @@ const IDX0: Field = Field {
 
 const BNK0: Field = Field {
     through: Through::Bank {
-        region: NamePlace {
-            table: 0,
-            at: 179,
-            scope: Scope::Root,
+        region: Reference {
+            name: NamePlace {
+                table: 0,
+                at: 179,
+                scope: Scope::Root,
+            },
+            object: Some(ObjectId(18)),
         },
-        bank: NamePlace {
-            table: 0,
-            at: 183,
-            scope: Scope::Root,
+        bank: Reference {
+            name: NamePlace {
+                table: 0,
+                at: 183,
+                scope: Scope::Root,
+            },
+            object: Some(ObjectId(19)),
         },
         value: Some(2),
     },
@@ -162,20 +182,26 @@ const BNK0: Field = Field {
 };
 
 const BYT0: BufferField = BufferField {
-    source: NamePlace {
-        table: 0,
-        at: 196,
-        scope: Scope::Root,
+    source: Reference {
+        name: NamePlace {
+            table: 0,
+            at: 196,
+            scope: Scope::Root,
+        },
+        object: Some(ObjectId(15)),
     },
     index: 3,
     size: BufferFieldSize::Byte,
 };
 
 const BIT0: BufferField = BufferField {
-    source: NamePlace {
-        table: 0,
-        at: 208,
-        scope: Scope::Root,
+    source: Reference {
+        name: NamePlace {
+            table: 0,
+            at: 208,
+            scope: Scope::Root,
+        },
+        object: Some(ObjectId(15)),
     },
     index: 5,
     size: BufferFieldSize::Bits(11),

@@ -4,7 +4,7 @@ use super::{dsdt_of, found};
 use crate::made::HOST;
 use aml_namespace::{
     AccessType, BufferField, BufferFieldSize, Content, DataName, Field, FieldRule, NamePlace,
-    Namespace, Object, ObjectId, Region, Scope, Source, Through, UpdateRule,
+    Namespace, Object, ObjectId, Reference, Region, Scope, Source, Through, UpdateRule,
 };
 use aml_tree::Span;
 use std::test::Fail;
@@ -36,6 +36,7 @@ const BUF1: DataName = DataName {
     source: Source::Term {
         table: 0,
         span: Span { at: 41, end: 48 },
+        scope: Scope::Root,
     },
 };
 
@@ -44,6 +45,7 @@ const VPK1: DataName = DataName {
     source: Source::Term {
         table: 0,
         span: Span { at: 53, end: 57 },
+        scope: Scope::Root,
     },
 };
 
@@ -53,12 +55,15 @@ const REG1: Region = Region {
     length: Some(1),
 };
 
-/// A name that stands in the device.
-fn within_device(at: usize) -> NamePlace {
-    NamePlace {
-        table: 0,
-        at,
-        scope: Scope::At(ObjectId(11)),
+/// What a name names that stands in the device.
+fn within_device(at: usize, object: usize) -> Reference {
+    Reference {
+        name: NamePlace {
+            table: 0,
+            at,
+            scope: Scope::At(ObjectId(11)),
+        },
+        object: Some(ObjectId(object)),
     }
 }
 
@@ -72,8 +77,8 @@ enum Made {
     Banked,
     /// A field of the buffer, by the place of its name, its index and its size.
     BufferField(usize, u64, BufferFieldSize),
-    /// A name of the integer One, which stands at a place.
-    One(usize),
+    /// A name of the integer One, which stands at a place within an object.
+    One(usize, usize),
     Other(Object),
 }
 
@@ -95,8 +100,8 @@ fn field(through: Through, bit: u64, bits: u64, access: AccessType, is_connected
 /// The first bit of the bank.
 fn banked() -> Field {
     let through = Through::Bank {
-        region: within_device(173),
-        bank: within_device(177),
+        region: within_device(173, 12),
+        bank: within_device(177, 13),
         value: None,
     };
     let plain = field(through, 0, 1, AccessType::Any, false);
@@ -112,16 +117,16 @@ fn banked() -> Field {
 fn object_of(made: Made) -> Object {
     match made {
         Made::Field(bit, bits, access, is_connected) => {
-            let through = Through::Region(within_device(80));
+            let through = Through::Region(within_device(80, 12));
             Object::Field(field(through, bit, bits, access, is_connected))
         }
         Made::Banked => Object::Field(banked()),
         Made::BufferField(at, index, size) => Object::BufferField(BufferField {
-            source: within_device(at),
+            source: within_device(at, 9),
             index,
             size,
         }),
-        Made::One(at) => Object::Data(DataName {
+        Made::One(at, within) => Object::Data(DataName {
             content: Content::Integer,
             source: Source::Term {
                 table: 0,
@@ -129,6 +134,7 @@ fn object_of(made: Made) -> Object {
                     at,
                     end: at.saturating_add(1),
                 },
+                scope: Scope::At(ObjectId(within)),
             },
         }),
         Made::Other(object) => object,
@@ -185,11 +191,11 @@ const OBJECTS: &[(usize, &[u8], Made)] = &[
     (22, b"\\\x2eDEV0BNK1", Made::Banked),
     (23, b"\\EVT1", Made::Other(Object::Event)),
     (24, b"\\TZ01", Made::Other(Object::ThermalZone)),
-    (25, b"\\\x2eTZ01INN0", Made::One(213)),
+    (25, b"\\\x2eTZ01INN0", Made::One(213, 24)),
     (26, b"\\PWR1", Made::Other(Object::PowerResource)),
-    (27, b"\\\x2ePWR1INN0", Made::One(229)),
+    (27, b"\\\x2ePWR1INN0", Made::One(229, 26)),
     (28, b"\\CPU1", Made::Other(Object::Processor)),
-    (29, b"\\\x2eCPU1INN0", Made::One(248)),
+    (29, b"\\\x2eCPU1INN0", Made::One(248, 28)),
 ];
 
 #[test]

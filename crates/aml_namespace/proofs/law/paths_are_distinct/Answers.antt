@@ -1,4 +1,4 @@
-use Rattle.aml_namespace.proofs.Distinct.{paths_distinct}
+use Rattle.aml_namespace.proofs.Settling.{paths_distinct}
 use Rattle.aml_namespace.proofs.law.paths_are_distinct.Goals as goal
 
 pub returns : goal.returns
