@@ -21,3 +21,5 @@ pub mod PrintedPaths
 pub mod Placed
 pub mod Distinct
 pub mod Settling
+pub mod Copies
+pub mod Telling

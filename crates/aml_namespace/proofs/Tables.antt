@@ -1,13 +1,16 @@
 -- Loading tables one behind the other.
-use Rattle.std.proofs.Common.{◌≡◌, ℕ, zero, suc, ◌+◌, ◌<◌, ◌≤◌, inl, inr, List, [], ◌∷◌, length, get_or, drop, map, slice_get, Some, Err, refl, sym, ap, ◌∙◌, subst, arith}
-use Rattle.std.proofs.lemmas.List.{drop_all}
+use Rattle.std.proofs.Common.{◌≡◌, ℕ, zero, suc, ◌+◌, ◌<◌, ◌≤◌, inl, inr, List, [], ◌∷◌, ◌++◌, length, get_or, drop, map, slice_get, Some, Err, refl, sym, ap, ◌∙◌, subst, arith}
+use Rattle.std.proofs.lemmas.List.{append_assoc, append-nil, drop_all}
+use Rattle.aml_operators.specs.Tree.{trees}
+use Rattle.aml_namespace.specs.declared.external.External.{External}
+use Rattle.aml_namespace.specs.Externals.{all_declared}
 use Rattle.acpi_tables.specs.Bytes.{number_at}
 use Rattle.aml_namespace.specs.declared.fault.LoadFault.{LoadFault}
 use Rattle.aml_namespace.specs.declared.fault.LoadFault.TheVariants.{NoMemory, Refused}
 use Rattle.aml_namespace.specs.Loads.{LoadsAll, LoadsTable}
 use Rattle.aml_namespace.specs.declared.fault.LoadRefusal.{LoadRefusal}
 use Rattle.aml_namespace.specs.Entries.{Entries}
-use Rattle.aml_namespace.specs.Load.{AllFail, AllMake, Fails, Makes, first_width}
+use Rattle.aml_namespace.specs.Load.{AllDeclare, AllFail, AllMake, Fails, Makes, at_root, first_width}
 use Rattle.aml_namespace.specs.Widths.{width_by}
 use Rattle.aml_namespace.proofs.Positions.{drop_from}
 
@@ -57,3 +60,22 @@ slice_get-map f (x ∷ xs) (suc n) d lt = slice_get-map f xs n d (omega arith)
 -- the first of them tells it
 pub first_told : (tables : List (List ℕ)) (bytes : List ℕ) (n revision : ℕ) → slice_get tables n ≡ Some bytes → n ≡ 0 → revision ≡ number_at 8 1 bytes → width_by revision ≡ first_width tables
 first_told tables bytes n revision is first told = ap width_by told ∙ first_tells tables bytes (subst (λ (k : ℕ). slice_get tables k ≡ Some bytes) first is)
+
+-- behind the first tables: what the others declare stands behind what those did
+abbrev pub LeftToDeclare : List (List ℕ) → Entries → ℕ → Entries → List External → Type 0
+LeftToDeclare tables before n now externals = (rest : List External) → AllDeclare n (drop n tables) now rest → AllDeclare 0 tables before (externals ++ rest)
+
+module _ (tables : List (List ℕ)) (before now : Entries) (n : ℕ) (bytes : List ℕ) (is : slice_get tables n ≡ Some bytes) (externals : List External) (left : LeftToDeclare tables before n now externals) where
+  -- one more table
+  pub LeftToDeclare-more : (after : Entries) (makes : Makes n bytes now after) (more : List External) → more ≡ externals ++ all_declared (at_root n bytes) now (trees makes.terms) → LeftToDeclare tables before (n + 1) after more
+  LeftToDeclare-more after makes more same rest h =
+      let mine = all_declared (at_root n bytes) now (trees makes.terms) in
+      let next_is : drop n tables ≡ bytes ∷ drop (n + 1) tables = drop_from tables n bytes is in
+      let number : n + 1 ≡ suc n = omega arith in
+      let others = subst (λ (k : ℕ). AllDeclare k (drop (n + 1) tables) after rest) number h in
+      let all = left (mine ++ rest) (subst (λ (ts : List (List ℕ)). AllDeclare n ts now (mine ++ rest)) (sym next_is) (after, makes, rest, others, refl)) in
+      subst (AllDeclare 0 tables before) (sym (append_assoc externals mine rest) ∙ ap (λ (l : List External). l ++ rest) (sym same)) all
+
+pub LeftToDeclare-all : (tables : List (List ℕ)) (before : Entries) (n : ℕ) (now : Entries) (externals : List External) → length tables ≤ n → LeftToDeclare tables before n now externals → AllDeclare 0 tables before externals
+LeftToDeclare-all tables before n now externals past left =
+    subst (AllDeclare 0 tables before) (append-nil externals) (left [] (subst (λ (ts : List (List ℕ)). AllDeclare n ts now []) (sym (drop_all n tables past)) refl))

@@ -10,12 +10,15 @@ pub mod Enter
 pub mod Made
 pub mod FieldLists
 pub mod Define
+pub mod Externals
 pub mod Kept
 pub mod Parts
 pub mod Predefined
 pub mod Bodies
 pub mod LookUp
 pub mod Settled
+pub mod Told
+pub mod Counted
 pub mod Load
 pub mod Loads
 pub mod Names

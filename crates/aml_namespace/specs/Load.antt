@@ -1,5 +1,5 @@
 -- What loaded tables make, or the first fault (ACPI 6.5, 5.2.11 and 5.3).
-use Rattle.std.specs.Prelude.{◌≡◌, ◌⊎◌, ℕ, zero, suc, List, [], ◌∷◌, codes, length, Some, Ok, Err}
+use Rattle.std.specs.Prelude.{◌≡◌, ◌⊎◌, ℕ, zero, suc, List, [], ◌∷◌, ◌++◌, codes, length, Some, Ok, Err}
 use Rattle.acpi_tables.specs.Bytes.{number_at}
 use Rattle.acpi_tables.specs.Fault.{first_fault}
 use Rattle.acpi_tables.specs.Table.{IsTableOf, table_checks}
@@ -7,10 +7,12 @@ use Rattle.acpi_tables.specs.declared.fault.TableFault.{TableFault}
 use Rattle.aml_operators.specs.Tree.{Tree, trees}
 use Rattle.aml_tree.specs.declared.fault.Refusal.{Refusal}
 use Rattle.aml_tree.specs.Body.{IsModule, FaultyModule}
+use Rattle.aml_namespace.specs.declared.external.External.{External}
 use Rattle.aml_namespace.specs.declared.fault.LoadRefusal.{LoadRefusal}
 use Rattle.aml_namespace.specs.Define.{all_defined}
 use Rattle.aml_namespace.specs.Enter.{Here}
 use Rattle.aml_namespace.specs.Entries.{Entries}
+use Rattle.aml_namespace.specs.Externals.{all_declared}
 use Rattle.aml_namespace.specs.Fault.{table_refusal, tree_refusal}
 use Rattle.aml_namespace.specs.Predefined.{predefined_entries}
 use Rattle.aml_namespace.specs.Settled.{settled}
@@ -50,12 +52,19 @@ abbrev pub AllFail : ℕ → List (List ℕ) → Entries → LoadRefusal → Typ
 AllFail n [] before f = ⊥
 AllFail n (bytes ∷ more) before f = Fails n bytes before f ⊎ ((next : Entries) × Makes n bytes before next × AllFail (suc n) more next f)
 
--- what a namespace shows: its tables' bytes, the text of `_OS_`, the width of integers, and its entries in order of definition
+-- what such tables declare as others' methods, in the order of the bytes
+abbrev pub AllDeclare : ℕ → List (List ℕ) → Entries → List External → Type 0
+AllDeclare n [] before externals = externals ≡ []
+AllDeclare n (bytes ∷ more) before externals = (next : Entries) × (makes : Makes n bytes before next) × (rest : List External) × AllDeclare (suc n) more next rest × (externals ≡ all_declared (at_root n bytes) before (trees makes.terms) ++ rest)
+
+-- what a namespace shows: its tables' bytes, the text of `_OS_`, the width of integers, its entries in order of definition, and what
+-- the tables declare as others' methods
 pub record Shown : Type 0 where
   pub tables : List (List ℕ)
   pub os : List ℕ
   pub width : Width
   pub entries : Entries
+  pub externals : List External
 
 -- the revision of the first table tells the width
 abbrev pub first_width : List (List ℕ) → Width
@@ -70,6 +79,7 @@ pub record IsLoaded (tables : List (List ℕ)) (os : List ℕ) (ns : Shown) : Ty
   pub made : Entries
   pub makes : AllMake 0 tables (predefined_entries (length os)) made
   pub entries_are : ns.entries ≡ settled tables made
+  pub declares : AllDeclare 0 tables (predefined_entries (length os)) ns.externals
 
 -- the first fault of these tables
 abbrev pub FaultyLoad : List (List ℕ) → List ℕ → LoadRefusal → Type 0

@@ -1,5 +1,5 @@
 -- What a namespace's names name (ACPI 6.5, 5.3).
-use Rattle.std.specs.Prelude.{ℕ, List, take, Option, Some, None, option_and_then, Result}
+use Rattle.std.specs.Prelude.{ℕ, List, take, Option, Some, None, option_and_then, unwrap_or, Result}
 use Rattle.aml_lex.specs.NameStrings.{NameString}
 use Rattle.aml_lex.specs.Standing.{name_there}
 use Rattle.aml_operators.specs.Tree.{Tree}
@@ -12,10 +12,12 @@ use Rattle.aml_namespace.specs.declared.object.Object.{Object}
 use Rattle.aml_namespace.specs.declared.object.Object.TheVariants as object
 use Rattle.aml_namespace.specs.declared.object.Scope.TheVariants.{At}
 use Rattle.aml_namespace.specs.Bodies.{bytes_of}
-use Rattle.aml_namespace.specs.Entries.{Entries, number_of, object_at, object_number}
+use Rattle.aml_namespace.specs.Entries.{Entries, number_of, object_at, object_number, paths_in}
 use Rattle.aml_namespace.specs.Load.{Shown}
-use Rattle.aml_namespace.specs.LookUp.{looked_up}
+use Rattle.aml_namespace.specs.LookUp.{looked_up, scope_path}
 use Rattle.aml_namespace.specs.Paths.{Path}
+use Rattle.aml_namespace.specs.Resolve.{resolve}
+use Rattle.aml_namespace.specs.Told.{first_told}
 
 -- the object under a path
 abbrev pub found : Entries → Path → Option ℕ
@@ -39,9 +41,19 @@ args_of o = 0
 abbrev pub named_within : Entries → ℕ → NameString → Option ℕ
 named_within entries id name = looked_up entries (At (record { 0 = id })) name
 
--- how many arguments a name takes in a method's body
-abbrev pub counts : Entries → ℕ → NameString → ℕ → ℕ
-counts entries id name at = args_of (option_and_then (object_at entries) (named_within entries id name))
+-- how many arguments tables declare of the other's method that a name names within the object with a number
+abbrev pub told_within : Shown → ℕ → NameString → Option ℕ
+told_within ns id name = option_and_then
+    (λ scope. resolve (first_told ns.tables (paths_in ns.entries) ns.externals) scope name) (scope_path ns.entries (At (record { 0 = id })))
+
+-- how many arguments a name takes that names an object, or none
+abbrev pub count_of : Shown → ℕ → NameString → Option ℕ → ℕ
+count_of ns id name None = unwrap_or (told_within ns id name) 0
+count_of ns id name (Some i) = args_of (object_at ns.entries i)
+
+-- how many arguments a name takes in a method's body: those of what it names, else those that tables declare
+abbrev pub counts : Shown → ℕ → NameString → ℕ → ℕ
+counts ns id name at = count_of ns id name (named_within ns.entries id name)
 
 -- what the name of an object means in a body
 abbrev pub link_to : ℕ → Object → Link
@@ -70,8 +82,8 @@ body_bytes ns m = take m.body.end (bytes_of ns.tables m.table)
 
 -- the statements of a method's body, as the grammar ties them to its table's bytes
 abbrev pub IsBodyOf : Shown → ℕ → Method → List Tree → Type 0
-IsBodyOf ns id m ts = IsBody (counts ns.entries id) (body_bytes ns m) m.body.at ts
+IsBodyOf ns id m ts = IsBody (counts ns id) (body_bytes ns m) m.body.at ts
 
 -- the answer of reading a method's body
 abbrev pub ReadsBodyOf : Shown → ℕ → Method → Result (List Tree) TreeFault → Type 0
-ReadsBodyOf ns id m answer = ReadsBody (counts ns.entries id) (body_bytes ns m) m.body.at answer
+ReadsBodyOf ns id m answer = ReadsBody (counts ns id) (body_bytes ns m) m.body.at answer

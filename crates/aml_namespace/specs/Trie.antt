@@ -1,5 +1,5 @@
 -- Paths that are kept as steps: the root first, and then one path a step.
-use Rattle.std.specs.Prelude.{◌≡◌, ◌≤◌, ℕ, suc, List, [], ◌∷◌, ◌++◌, Some, slice_get}
+use Rattle.std.specs.Prelude.{◌≡◌, ◌≤◌, ℕ, suc, List, [], ◌∷◌, ◌++◌, Some, None, slice_get}
 use Rattle.std.specs.BTreeMap.{BTreeMap, get}
 use Rattle.std.specs.Ordering.{nat_cmp, ordering_then}
 use Rattle.std.specs.declared.cmp.Ordering.{Ordering}
@@ -40,3 +40,7 @@ pub record IsTrie (numbers : BTreeMap Step ℕ) (steps : List Step) (paths : Lis
 
 abbrev pub AreNumbered : BTreeMap Step ℕ → List Step → Type 0
 AreNumbered numbers steps = IsTrie numbers steps (paths_of steps)
+
+-- numbers are kept of no more than so many paths
+abbrev pub CountsWithin : BTreeMap ℕ ℕ → ℕ → Type 0
+CountsWithin counts many = (n : ℕ) → many ≤ n → get nat_cmp counts n ≡ None

@@ -1,23 +1,28 @@
 // What a module's terms make, in the order of the bytes (ACPI 6.5, 5.3 and 19.6).
 
-ghost use Rattle.std.specs.Prelude.{◌≡◌, ◌≤◌, ◌+◌, length, OnOk};
+ghost use Rattle.std.specs.Prelude.{◌≡◌, ◌≤◌, ◌+◌, ◌++◌, length, OnOk, OnErr, Err};
 ghost use Rattle.aml_operators.specs.declared.row.Code.TheVariants as code;
 ghost use Rattle.aml_operators.specs.Shape.{AreShaped, IsShaped};
 ghost use Rattle.aml_operators.specs.Tree.{view, views};
 ghost use Rattle.aml_namespace.specs.Define.{alias_entered, all_defined, bank_fields, defined, field_entered, fields_from, flat, holding, index_fields, object_entered, region_fields, reopening};
+ghost use Rattle.aml_namespace.specs.Externals.{all_declared, declared, declared_flat, declared_holding, declared_method, declared_reopening};
 ghost use Rattle.aml_namespace.specs.FieldLists.{list_start};
 ghost use Rattle.aml_namespace.specs.Kept.{Makes, entries_seen, here_of};
 ghost use Rattle.aml_namespace.specs.Parts.{HasParts};
 
 use crate::enter::{enter, enter_alias, open};
+use crate::external::External;
 use crate::fault::LoadFault;
 use crate::fields::Cursor;
 use crate::here::{Here, name_at};
-use crate::made::{number_in, object_of, reference};
+use crate::made::{name_place, number_in, object_of, reference};
 use crate::object::{Entry, Field, Object, Through};
 use crate::objects::Objects;
-use crate::parts::{first_and_rest, two};
+use crate::parts::{first_and_rest, three, two};
 use aml_operators::{Op, Term, literal_of};
+
+/// The object type of methods.
+const METHOD_TYPE: u64 = 8;
 
 /// Adds the object that a name at a place makes, if there is one.
 fn enter_object(
@@ -161,11 +166,31 @@ fn define_bank_fields(
     enter_fields(here, objects, through, number_in(flags), items)
 }
 
+/// What an External declares, where that is a method.
+#[tactic(auto, using(aml_operators::proofs::Views::view_out, aml_operators::proofs::PartsOf::part_count))]
+fn declare(here: Here<'_>, externals: &mut Vec<External>, parts: &[Term]) -> Result<(), LoadFault>
+    requires { length parts.now ≡ 3 }
+    ensures declares { let more = declared_method (here_of here.entry) (views parts.now) in
+        OnOk result (externals.new.items ≡ externals.old.items ++ more) }
+    ensures no_refusal { OnErr result (result ≡ Err LoadFault.NoMemory) }
+{
+    let (name, kind, args) = three(parts);
+    if number_in(kind) != METHOD_TYPE {
+        return Ok(());
+    }
+    externals.push(External {
+        name: name_place(here, name),
+        args: (number_in(args) % 256) as u8,
+    })?;
+    Ok(())
+}
+
 /// What a term makes that has no terms within.
 #[tactic(auto, using(crate::proofs::Shapes::least_parts, aml_operators::proofs::PartsOf::part_count, aml_operators::proofs::Views::view_out))]
 fn define_flat(
     here: Here<'_>,
     objects: &mut Objects,
+    externals: &mut Vec<External>,
     op: Op,
     at: usize,
     parts: &[Term],
@@ -176,6 +201,8 @@ fn define_flat(
     ensures made { let entries = entries_seen objects.old in
         Makes result (entries_seen objects.new) (flat (here_of here.entry) entries op at (views parts.now)) }
     ensures grows { OnOk result (length (entries_seen objects.old) ≤ length (entries_seen objects.new)) }
+    ensures declares { let more = declared_flat (here_of here.entry) op (views parts.now) in
+        OnOk result (externals.new.items ≡ externals.old.items ++ more) }
 {
     match op {
         Op::Alias => {
@@ -185,6 +212,7 @@ fn define_flat(
         Op::Field => define_fields(here, objects, parts),
         Op::IndexField => define_index_fields(here, objects, parts),
         Op::BankField => define_bank_fields(here, objects, parts),
+        Op::External => declare(here, externals, parts),
         _ => enter_object(here, objects, object_of(here, op, at, parts)),
     }
 }
@@ -194,6 +222,7 @@ fn define_flat(
 fn define_within(
     here: Here<'_>,
     objects: &mut Objects,
+    externals: &mut Vec<External>,
     made: Object,
     name: &Term,
     body: &[Term],
@@ -204,6 +233,9 @@ fn define_within(
         Makes result (entries_seen objects.new)
         (holding (here_of here.entry) entries made (view name.now) (λ inner es. all_defined inner es (views body.now))) }
     ensures grows { OnOk result (length (entries_seen objects.old) ≤ length (entries_seen objects.new)) }
+    ensures declares { let entries = entries_seen objects.old in
+        OnOk result (externals.new.items ≡ externals.old.items ++ declared_holding (here_of here.entry)
+        entries made (view name.now) (λ inner es. all_declared inner es (views body.now))) }
 {
     let Some(path) = name_at(here.bytes, name.at) else {
         return Ok(());
@@ -214,7 +246,7 @@ fn define_within(
         bytes: here.bytes,
         scope: objects.len(),
     };
-    define_all(inner, objects, body)
+    define_all(inner, objects, externals, body)
 }
 
 /// What stands within a scope that is opened again.
@@ -222,6 +254,7 @@ fn define_within(
 fn define_reopened(
     here: Here<'_>,
     objects: &mut Objects,
+    externals: &mut Vec<External>,
     name: &Term,
     body: &[Term],
 ) -> Result<(), LoadFault>
@@ -231,6 +264,9 @@ fn define_reopened(
         Makes result (entries_seen objects.new)
         (reopening (here_of here.entry) entries (view name.now) (λ inner. all_defined inner entries (views body.now))) }
     ensures grows { OnOk result (length (entries_seen objects.old) ≤ length (entries_seen objects.new)) }
+    ensures declares { let entries = entries_seen objects.old in
+        OnOk result (externals.new.items ≡ externals.old.items ++ declared_reopening (here_of here.entry)
+        entries (view name.now) (λ inner. all_declared inner entries (views body.now))) }
 {
     let Some(path) = name_at(here.bytes, name.at) else {
         return Ok(());
@@ -241,47 +277,54 @@ fn define_reopened(
         bytes: here.bytes,
         scope,
     };
-    define_all(inner, objects, body)
+    define_all(inner, objects, externals, body)
 }
 
 /// What a term makes.
 #[cycle(define)]
 #[tactic(auto, using(crate::proofs::Shapes::least_parts, aml_operators::proofs::Views::view_out))]
-fn define(here: Here<'_>, objects: &mut Objects, term: &Term) -> Result<(), LoadFault>
+fn define(
+    here: Here<'_>,
+    objects: &mut Objects,
+    externals: &mut Vec<External>,
+    term: &Term,
+) -> Result<(), LoadFault>
     requires there { here.scope ≤ length (entries_seen objects.old) }
     requires shaped { IsShaped code.Module (view term.now) }
     ensures made { let entries = entries_seen objects.old in
         Makes result (entries_seen objects.new) (defined (here_of here.entry) entries (view term.now)) }
     ensures grows { OnOk result (length (entries_seen objects.old) ≤ length (entries_seen objects.new)) }
+    ensures declares { let more = declared (here_of here.entry) (entries_seen objects.old) (view term.now) in
+        OnOk result (externals.new.items ≡ externals.old.items ++ more) }
 {
     let parts = &term.parts[..];
     match term.op {
         Op::Scope => {
             let (name, body) = first_and_rest(parts);
-            define_reopened(here, objects, name, body)
+            define_reopened(here, objects, externals, name, body)
         }
         Op::Device => {
             let (name, body) = first_and_rest(parts);
-            define_within(here, objects, Object::Device, name, body)
+            define_within(here, objects, externals, Object::Device, name, body)
         }
         Op::ThermalZone => {
             let (name, body) = first_and_rest(parts);
-            define_within(here, objects, Object::ThermalZone, name, body)
+            define_within(here, objects, externals, Object::ThermalZone, name, body)
         }
         Op::PowerResource => {
             let (name, rest) = first_and_rest(parts);
             let (_, rest) = first_and_rest(rest);
             let (_, body) = first_and_rest(rest);
-            define_within(here, objects, Object::PowerResource, name, body)
+            define_within(here, objects, externals, Object::PowerResource, name, body)
         }
         Op::Processor => {
             let (name, rest) = first_and_rest(parts);
             let (_, rest) = first_and_rest(rest);
             let (_, rest) = first_and_rest(rest);
             let (_, body) = first_and_rest(rest);
-            define_within(here, objects, Object::Processor, name, body)
+            define_within(here, objects, externals, Object::Processor, name, body)
         }
-        op => define_flat(here, objects, op, term.at, parts),
+        op => define_flat(here, objects, externals, op, term.at, parts),
     }
 }
 
@@ -291,6 +334,7 @@ fn define(here: Here<'_>, objects: &mut Objects, term: &Term) -> Result<(), Load
 pub(crate) fn define_all(
     here: Here<'_>,
     objects: &mut Objects,
+    externals: &mut Vec<External>,
     terms: &[Term],
 ) -> Result<(), LoadFault>
     requires there { here.scope ≤ length (entries_seen objects.old) }
@@ -298,9 +342,11 @@ pub(crate) fn define_all(
     ensures made { let entries = entries_seen objects.old in
         Makes result (entries_seen objects.new) (all_defined (here_of here.entry) entries (views terms.now)) }
     ensures grows { OnOk result (length (entries_seen objects.old) ≤ length (entries_seen objects.new)) }
+    ensures declares { let more = all_declared (here_of here.entry) (entries_seen objects.old) (views terms.now) in
+        OnOk result (externals.new.items ≡ externals.old.items ++ more) }
 {
     for term in terms {
-        define(here, objects, term)?;
+        define(here, objects, externals, term)?;
     }
     Ok(())
 }

@@ -1,8 +1,10 @@
 //! The namespace that tables' definitions make (ACPI 6.5, 5.3).
 #![tactic(auto)]
 
+mod counted;
 mod define;
 mod enter;
+mod external;
 mod fault;
 mod fields;
 mod here;

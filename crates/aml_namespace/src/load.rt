@@ -3,9 +3,10 @@
 ghost use Rattle.std.specs.Prelude.{◌≡◌, ◌<◌, length, map};
 ghost use Rattle.aml_namespace.specs.Kept.{entries_seen};
 ghost use Rattle.aml_namespace.specs.Load.{signature_of};
-ghost use Rattle.aml_namespace.specs.Loads.{LoadsAll, LoadsTable};
+ghost use Rattle.aml_namespace.specs.Loads.{DeclaresTable, LoadsAll, LoadsTable};
 
 use crate::define::define_all;
+use crate::external::External;
 use crate::fault::{LoadFault, table_fault, tree_fault};
 use crate::here::Here;
 use crate::objects::Objects;
@@ -31,8 +32,11 @@ fn load_table(
     table: usize,
     bytes: &[u8],
     objects: &mut Objects,
+    externals: &mut Vec<External>,
 ) -> Result<u8, LoadFault>
-    ensures { LoadsTable table bytes.now (entries_seen objects.old) (entries_seen objects.new) result }
+    ensures loads { LoadsTable table bytes.now (entries_seen objects.old) (entries_seen objects.new) result }
+    ensures declares { let before = entries_seen objects.old in let after = entries_seen objects.new in
+        DeclaresTable table bytes.now before after externals.old.items externals.new.items result }
 {
     let header = match read_table(bytes, signature_of(table)) {
         Ok(header) => header,
@@ -47,23 +51,33 @@ fn load_table(
         bytes,
         scope: ROOT,
     };
-    define_all(here, objects, &terms)?;
+    define_all(here, objects, externals, &terms)?;
     Ok(header.revision)
 }
 
-/// Loads tables, one behind the other, and answers the revision of the first.
+/// What loaded tables tell beside their objects.
+#[derive(Drop)]
+pub(crate) struct Loaded {
+    /// The revision of the first.
+    pub revision: u8,
+    /// The methods that they declare as others', in the order of the bytes.
+    pub externals: Vec<External>,
+}
+
+/// Loads tables, one behind the other.
 pub(crate) fn load_tables(
     alloc: Global,
     tables: &[&[u8]],
     objects: &mut Objects,
-) -> Result<u8, LoadFault>
+) -> Result<Loaded, LoadFault>
     requires { 0 < length tables.now }
     ensures { let bytes = map (λ t. t.now) tables.now in
         LoadsAll bytes (entries_seen objects.old) (entries_seen objects.new) result }
 {
     let mut revision = 0;
+    let mut externals = Vec::new(alloc);
     for (number, bytes) in tables.iter().enumerate() {
-        let told = match load_table(alloc, number, bytes, objects) {
+        let told = match load_table(alloc, number, bytes, objects, &mut externals) {
             Ok(told) => told,
             Err(fault) => return Err(fault),
         };
@@ -71,5 +85,8 @@ pub(crate) fn load_tables(
             revision = told;
         }
     }
-    Ok(revision)
+    Ok(Loaded {
+        revision,
+        externals,
+    })
 }

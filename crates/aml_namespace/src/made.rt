@@ -1,11 +1,12 @@
 // The objects that definitions make (ACPI 6.5, 19.6).
 
-ghost use Rattle.std.specs.Prelude.{◌≡◌, length};
+ghost use Rattle.std.specs.Prelude.{◌≡◌, ◌-◌, ◌^◌, length, min};
 ghost use Rattle.aml_operators.specs.declared.row.Code.TheVariants as code;
 ghost use Rattle.aml_operators.specs.Shape.{AreShaped, IsShaped};
 ghost use Rattle.aml_operators.specs.Tree.{view, views};
 ghost use Rattle.aml_namespace.specs.Parts.{HasParts};
 ghost use Rattle.aml_namespace.specs.Kept.{here_of};
+ghost use Rattle.aml_namespace.specs.LookUp.{scope_number};
 ghost use Rattle.aml_namespace.specs.Made.{buffer_content, buffer_field, content_of, data_of, literal, method_of, name_place, named, named_bits, named_buffer_field, named_data, named_method, named_region, number_in, object_of, package_content, reference, scope_numbered, size_in, sized_package_content, string_content};
 
 use crate::here::Here;
@@ -42,6 +43,16 @@ pub(crate) fn scope_numbered(path: usize) -> Scope
     match path {
         0 => Scope::Root,
         _ => Scope::At(ObjectId(path - 1)),
+    }
+}
+
+/// The number of a scope's path. No namespace has so many paths that the number is cut.
+pub(crate) fn number_of_scope(scope: Scope) -> usize
+    ensures { result ≡ min (scope_number scope) (2 ^ 64 - 1) }
+{
+    match scope {
+        Scope::Root => 0,
+        Scope::At(id) => id.0.saturating_add(1),
     }
 }
 

@@ -1,11 +1,16 @@
 // The namespace of loaded tables (ACPI 6.5, 5.3).
 
-ghost use Rattle.std.specs.Prelude.{◌≡◌, ◌<◌, ◌==◌, length, map, Some, IsSome};
+ghost use Rattle.std.specs.Prelude.{◌≡◌, ◌<◌, ◌==◌, [], length, map, Some, IsSome, IfOk};
+ghost use Rattle.std.specs.Option.{ForNone, ForSome};
 ghost use Rattle.aml_lex.specs.Names.{name_of};
 ghost use Rattle.aml_namespace.specs.Bodies.{BodiesWithin, bytes_of};
+ghost use Rattle.aml_namespace.specs.Counted.{TellsAll};
+ghost use Rattle.aml_namespace.specs.Entries.{paths_in};
 ghost use Rattle.aml_namespace.specs.Kept.{entries_seen, path_kept};
 ghost use Rattle.aml_namespace.specs.Names.{args_of, link_of, method_in};
 
+use crate::counted::Counted;
+use crate::external::External;
 use crate::fault::LoadFault;
 use crate::here::name_at;
 use crate::link::Link;
@@ -18,7 +23,7 @@ use crate::predefined::predefined;
 use crate::width::Width;
 use aml_lex::{NameRef, NameSeg};
 use aml_tree::{Arity, Term, TreeFault, read_body};
-use std::alloc::Global;
+use std::alloc::{AllocError, Global};
 
 /// What the operating system tells of itself.
 #[derive(Clone, Copy, Debug)]
@@ -37,6 +42,13 @@ pub struct Namespace<'a> {
     host: Host<'a>,
     width: Width,
     objects: Objects,
+    /// The methods that the tables declare as others', in the order of the bytes.
+    externals: Vec<External>,
+    /// How many arguments those take; None where there are none.
+    counted: Option<Counted>,
+    ghost untold: { ForNone counted (externals.items ≡ []) },
+    ghost told: { ForSome counted (λ c.
+        TellsAll (map (λ t. t.now) tables.items) (paths_in (entries_seen objects)) externals.items c) },
     ghost bodies: { BodiesWithin (map (λ t. t.now) tables.items) (entries_seen objects) },
 }
 
@@ -45,8 +57,8 @@ impl<'a> Namespace<'a> {
     ghost use Rattle.std.specs.Option.{option_map};
     ghost use Rattle.aml_tree.specs.Body.{trees_read};
     ghost use Rattle.aml_namespace.specs.LookUp.{looked_up};
-    ghost use Rattle.aml_namespace.specs.Names.{ReadsBodyOf, body_bytes, link_at, method_at};
-    ghost use Rattle.aml_namespace.specs.Entries.{entry_numbered, object_at, path_numbered, paths_in};
+    ghost use Rattle.aml_namespace.specs.Names.{ReadsBodyOf, body_bytes, link_at, method_at, told_within};
+    ghost use Rattle.aml_namespace.specs.Entries.{entry_numbered, object_at, path_numbered};
     ghost use Rattle.aml_namespace.specs.Printed.{printed_object};
     ghost use Rattle.aml_namespace.specs.Shows.{Loads, bytes_in, shown};
 
@@ -65,16 +77,19 @@ impl<'a> Namespace<'a> {
         ensures { Loads (bytes_in tables.now) host.entry.os.now result }
     {
         let mut objects = predefined(alloc, host.os.len() as u64)?;
-        let revision = match load_tables(alloc, tables, &mut objects) {
-            Ok(revision) => revision,
+        let loaded = match load_tables(alloc, tables, &mut objects) {
+            Ok(loaded) => loaded,
             Err(fault) => return Err(fault),
         };
         objects.settle(alloc, tables)?;
+        let counted = declared_counts(alloc, &objects, tables, &loaded.externals)?;
         Ok(Namespace {
             tables: Vec::from_slice(alloc, tables)?,
             host,
-            width: Width::by_revision(revision),
+            width: Width::by_revision(loaded.revision),
             objects,
+            externals: loaded.externals,
+            counted,
         })
     }
 
@@ -139,6 +154,20 @@ impl<'a> Namespace<'a> {
         Some(ObjectId(self.objects.look_up(scope, name)?))
     }
 
+    /// How many arguments tables declare of the other's method that a name names within the object with
+    /// this number.
+    fn told_within(&self, id: usize, name: &NameRef<'_>) -> Option<u8>
+        ensures { result ≡ told_within (shown self.now) id (name_of name.now) }
+    {
+        if id >= self.objects.len() {
+            return None;
+        }
+        match &self.counted {
+            Some(counted) => counted.count(id + 1, name),
+            None => None,
+        }
+    }
+
     /// What the name at a place of these bytes means in the body of the method with this number.
     pub fn link(&self, id: ObjectId, bytes: &[u8], at: usize) -> Link
         ensures { result ≡ link_at (shown self.now).entries id.0 bytes.now at }
@@ -201,15 +230,32 @@ impl Arity for Inside<'_> {
     ghost use Rattle.aml_namespace.specs.Names.{counts};
     ghost use Rattle.aml_namespace.specs.Shows.{shown};
 
-    ghost counts = { λ inside. counts (shown inside.namespace.now).entries inside.method };
+    ghost counts = { λ inside. counts (shown inside.namespace.now) inside.method };
 
     fn arity(&self, name: &NameRef<'_>, _at: usize) -> u8 {
         let scope = Scope::At(ObjectId(self.method));
         match self.namespace.objects.look_up(scope, name) {
             Some(number) => args_of(self.namespace.objects.object(number)),
-            None => 0,
+            None => self.namespace.told_within(self.method, name).unwrap_or(0),
         }
     }
+}
+
+/// What declarations tell of the paths of a namespace; None where there is none.
+fn declared_counts(
+    alloc: Global,
+    objects: &Objects,
+    tables: &[&[u8]],
+    externals: &[External],
+) -> Result<Option<Counted>, AllocError>
+    ensures untold { IfOk result (λ counted. ForNone counted (externals.now ≡ [])) }
+    ensures told { let paths = paths_in (entries_seen objects.now) in IfOk result (λ counted.
+        ForSome counted (TellsAll (map (λ t. t.now) tables.now) paths externals.now)) }
+{
+    if externals.is_empty() {
+        return Ok(None);
+    }
+    Ok(Some(Counted::of(alloc, objects.paths(), tables, externals)?))
 }
 
 /// How many arguments what is named takes.

@@ -52,6 +52,14 @@ impl Objects {
         self.entries.len()
     }
 
+    /// The paths.
+    #[tactic(auto, using(crate::proofs::Kept::kept_paths))]
+    pub(crate) fn paths(&self) -> &Paths
+        ensures { paths_seen result.now ≡ paths_in (entries_seen self.now) }
+    {
+        &self.paths
+    }
+
     /// What stands under the path with this number, which counts the paths but the root's.
     fn entry(&self, number: usize) -> Option<Entry>
         ensures { result ≡ slice_get self.now.entries.items number }

@@ -17,8 +17,8 @@ pub(crate) const ROOT: usize = 0;
 #[derive(Clone, Copy, Debug, PartialEq, Eq, PartialOrd, Ord)]
 pub(crate) struct Step {
     /// The other path's number.
-    parent: usize,
-    segment: NameSeg,
+    pub parent: usize,
+    pub segment: NameSeg,
 }
 
 /// Absolute paths, each under a number: the root's is 0. With a path stand all that begin it, and
@@ -80,7 +80,7 @@ impl Paths {
     }
 
     /// The last step to the path with this number, which is not the root.
-    fn last_step(&self, number: usize) -> Step
+    pub(crate) fn last_step(&self, number: usize) -> Step
         requires below_root { 0 < number }
         requires there { number < length (paths_seen self.now) }
         ensures leads { let paths = paths_seen self.now in
@@ -166,5 +166,16 @@ impl Paths {
                 Err(AllocError)
             }
         }
+    }
+
+    /// The same paths under the same numbers.
+    pub(crate) fn copy(&self, alloc: Global) -> Result<Paths, AllocError>
+        ensures { IfOk result (λ paths. paths_seen paths ≡ paths_seen self.now) }
+    {
+        let mut paths = Paths::new(alloc);
+        for step in &self.steps {
+            paths.add(step.parent, step.segment)?;
+        }
+        Ok(paths)
     }
 }

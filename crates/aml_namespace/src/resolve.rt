@@ -25,7 +25,7 @@ impl Paths {
 
     /// The number of the path from which a name's segments lead, in the scope whose path has this
     /// number; above the root is none.
-    fn base(&self, scope: usize, name: &NameRef<'_>) -> Option<usize>
+    pub(crate) fn base(&self, scope: usize, name: &NameRef<'_>) -> Option<usize>
         requires { scope < length (paths_seen self.now) }
         ensures found { let paths = paths_seen self.now in
             option_map (path_at paths) result ≡ base_of (path_at paths scope) (name_of name.now) }
@@ -38,7 +38,7 @@ impl Paths {
     }
 
     /// The number of the path that a name spells, where it stands.
-    fn spelled(&self, scope: usize, name: &NameRef<'_>) -> Option<usize>
+    pub(crate) fn spelled(&self, scope: usize, name: &NameRef<'_>) -> Option<usize>
         requires { scope < length (paths_seen self.now) }
         ensures { let paths = paths_seen self.now in
             result ≡ option_and_then (path_number paths) (spelled (path_at paths scope) (name_of name.now)) }

@@ -1,6 +1,8 @@
 use Rattle.std.proofs.Common.{List, ℕ, length, sym, ap, subst}
 use Rattle.aml_namespace.specs.Bodies.{BodiesWithin}
-use Rattle.aml_namespace.specs.Entries.{Entries}
+use Rattle.aml_namespace.specs.declared.external.External.{External}
+use Rattle.aml_namespace.specs.Counted.{TellsAll}
+use Rattle.aml_namespace.specs.Entries.{Entries, paths_in}
 use Rattle.aml_namespace.specs.Kept.{entries_seen}
 use Rattle.aml_namespace.specs.Load.{AllMake}
 use Rattle.aml_namespace.specs.Shows.{bytes_in}
@@ -9,12 +11,18 @@ use Rattle.aml_namespace.proofs.Sound.{bodies_within}
 use Rattle.aml_namespace.proofs.namespace.Namespace.load.Goals as goal
 
 -- the bodies lie within the tables that are kept
-pub invariant_of-result : goal.invariant_of-result
-invariant_of-result c =
+pub invariant_of-result-clause-bodies : goal.invariant_of-result-clause-bodies
+invariant_of-result-clause-bodies c =
     let tables = bytes_in c.args.tables.now in
     let entries = entries_seen c.load_tables.new.objects in
     let made = subst (λ (before : Entries). AllMake 0 tables before entries) c.in_ok-objects.ensures c.in-Ok.ensures.0 in
     let settled_are = c.in_ok-settle.ensures in
     let within = settled_bodies tables entries (bodies_within tables (length c.args.host.os.now) entries made) in
     let kept = subst (BodiesWithin tables) (sym settled_are) within in
-    record { bodies = subst (λ (ts : List (List ℕ)). BodiesWithin ts (entries_seen c.settle.new.self)) (ap bytes_in (sym c.in_ok-from_slice.ensures.items)) kept }
+    subst (λ (ts : List (List ℕ)). BodiesWithin ts (entries_seen c.settle.new.self)) (ap bytes_in (sym c.in_ok-from_slice.ensures.items)) kept
+
+pub invariant_of-result-clause-told : goal.invariant_of-result-clause-told
+invariant_of-result-clause-told c = λ counted is.
+    let paths = paths_in (entries_seen c.settle.new.self) in
+    let told = subst (λ (es : List External). TellsAll (bytes_in c.args.tables.now) paths es counted) c.deref.ensures.value (c.in_ok-counted.ensures.told counted is) in
+    subst (λ (ts : List (List ℕ)). TellsAll ts paths c.in-Ok.loaded.externals.items counted) (ap bytes_in (sym c.in_ok-from_slice.ensures.items)) told

@@ -1,0 +1,181 @@
+// How many arguments names take that tables declare as others' methods (ACPI 6.5, 19.6.46, External).
+
+ghost use Rattle.std.specs.Prelude.{◌≡◌, ◌≤◌, ◌<◌, ◌++◌, ◌∷◌, [], length, map, slice_get, option_and_then, Some, None, OnOk, IfOk};
+ghost use Rattle.std.specs.BTreeMap.{get};
+ghost use Rattle.std.specs.Ordering.{nat_cmp};
+ghost use Rattle.aml_lex.specs.Names.{name_of};
+ghost use Rattle.aml_namespace.specs.Told.{declared_path};
+ghost use Rattle.aml_namespace.specs.Paths.{path_at};
+ghost use Rattle.aml_namespace.specs.Resolve.{resolve, spelled, upward_search};
+ghost use Rattle.aml_namespace.specs.Steps.{paths_seen};
+ghost use Rattle.aml_namespace.specs.Trie.{CountsWithin};
+
+use crate::external::External;
+use crate::here::name_at;
+use crate::made::number_of_scope;
+use crate::paths::{Paths, ROOT};
+use aml_lex::{NameRef, NameSeg};
+use std::alloc::{AllocError, Global};
+use std::collections::BTreeMap;
+
+/// What declarations tell of paths.
+#[derive(Drop)]
+pub(crate) struct Counted {
+    /// The paths of the namespace under their numbers, and behind them those that declarations spell.
+    paths: Paths,
+    /// The number of the namespace's paths, the root's among them.
+    named: usize,
+    /// How many arguments, by the path's number.
+    counts: BTreeMap<usize, u8>,
+    ghost within: { CountsWithin counts (length (paths_seen paths)) },
+    ghost named_there: { named ≤ length (paths_seen paths) },
+}
+
+impl Counted {
+    ghost use Rattle.aml_namespace.specs.Counted.{Stays, Tells, TellsAll, all_paths, named_paths, told};
+
+    /// The paths of a namespace, of which nothing is told.
+    fn new(alloc: Global, paths: &Paths) -> Result<Counted, AllocError>
+        ensures { IfOk result (λ c. TellsAll [] (paths_seen paths.now) [] c) }
+    {
+        Ok(Counted {
+            paths: paths.copy(alloc)?,
+            named: paths.len(),
+            counts: BTreeMap::new(alloc),
+        })
+    }
+
+    /// The number of the path that is one segment below the path with this number.
+    fn step_to(&mut self, at: usize, segment: NameSeg) -> Result<usize, AllocError>
+        requires { at < length (all_paths self.old) }
+        ensures leads { let path = path_at (all_paths self.old) at ++ segment.bytes ∷ [] in
+            IfOk result (λ n. slice_get (all_paths self.new) n ≡ Some path) }
+        ensures stays { OnOk result (Stays self.old self.new) }
+    {
+        match self.paths.child(at, segment) {
+            Some(number) => Ok(number),
+            None => self.paths.add(at, segment),
+        }
+    }
+
+    /// The number of the path of a name's segments below the path with this number.
+    fn path_to(&mut self, base: usize, name: &NameRef<'_>) -> Result<usize, AllocError>
+        requires { base < length (all_paths self.old) }
+        ensures leads { let path = path_at (all_paths self.old) base ++ (name_of name.now).segs in
+            IfOk result (λ n. slice_get (all_paths self.new) n ≡ Some path) }
+        ensures stays { OnOk result (Stays self.old self.new) }
+    {
+        let mut number = base;
+        for i in 0..name.segs() {
+            number = self.step_to(number, name.seg(i))?;
+        }
+        Ok(number)
+    }
+
+    /// Tells of the path with this number that it has so many arguments, where nothing was told.
+    fn tell(&mut self, number: usize, args: u8) -> Result<(), AllocError>
+        requires { number < length (all_paths self.old) }
+        ensures { let path = path_at (all_paths self.old) number in
+            OnOk result (Tells self.old self.new (Some path) args) }
+    {
+        if self.counts.contains_key(&number) {
+            return Ok(());
+        }
+        self.counts.insert(number, args)?;
+        Ok(())
+    }
+
+    /// Tells what a declaration does.
+    fn declare(&mut self, tables: &[&[u8]], external: External) -> Result<(), AllocError>
+        ensures { let path = declared_path (map (λ t. t.now) tables.now) (named_paths self.old) external in
+            OnOk result (Tells self.old self.new path external.args) }
+    {
+        let scope = number_of_scope(external.name.scope);
+        if scope >= self.named {
+            return Ok(());
+        }
+        let Some(bytes) = tables.get(external.name.table) else {
+            return Ok(());
+        };
+        let Some(name) = name_at(bytes, external.name.at) else {
+            return Ok(());
+        };
+        let Some(base) = self.paths.base(scope, &name) else {
+            return Ok(());
+        };
+        let number = self.path_to(base, &name)?;
+        self.tell(number, external.args)
+    }
+
+    /// Of the paths of a namespace, what declarations tell.
+    pub(crate) fn of(
+        alloc: Global,
+        paths: &Paths,
+        tables: &[&[u8]],
+        externals: &[External],
+    ) -> Result<Counted, AllocError>
+        ensures { IfOk result
+            (λ c. TellsAll (map (λ t. t.now) tables.now) (paths_seen paths.now) externals.now c) }
+    {
+        let mut counted = Counted::new(alloc, paths)?;
+        for external in externals {
+            counted.declare(tables, *external)?;
+        }
+        Ok(counted)
+    }
+
+    /// What is told of the path with this number.
+    fn count_at(&self, number: usize) -> Option<u8>
+        ensures { result ≡ get nat_cmp self.now.counts number }
+    {
+        self.counts.get(&number).copied()
+    }
+
+    /// What is told of the path that is one segment below the path with this number.
+    fn count_below(&self, at: usize, segment: NameSeg) -> Option<u8>
+        requires { at < length (all_paths self.now) }
+        ensures { result ≡ told self.now (path_at (all_paths self.now) at ++ segment.bytes ∷ []) }
+    {
+        self.count_at(self.paths.child(at, segment)?)
+    }
+
+    /// What is told of the path of this segment below the longest prefix of the path with this number,
+    /// the path itself among them, of which something is told.
+    fn nearest_count(&self, at: usize, segment: NameSeg) -> Option<u8>
+        requires { at < length (all_paths self.now) }
+        ensures { let paths = all_paths self.now in
+            result ≡ upward_search (told self.now) (path_at paths at) segment.bytes }
+    {
+        let mut number = at;
+        'up: loop {
+            if let Some(count) = self.count_below(number, segment) {
+                return Some(count);
+            }
+            if number == ROOT {
+                return None;
+            }
+            number = self.paths.last_step(number).parent;
+        }
+    }
+
+    /// What is told of the path that a name spells in the scope whose path has this number.
+    fn spelled_count(&self, scope: usize, name: &NameRef<'_>) -> Option<u8>
+        requires { scope < length (all_paths self.now) }
+        ensures { let paths = all_paths self.now in
+            result ≡ option_and_then (told self.now) (spelled (path_at paths scope) (name_of name.now)) }
+    {
+        self.count_at(self.paths.spelled(scope, name)?)
+    }
+
+    /// What is told of what a name names in the scope whose path has this number.
+    pub(crate) fn count(&self, scope: usize, name: &NameRef<'_>) -> Option<u8>
+        requires { scope < length (all_paths self.now) }
+        ensures { let paths = all_paths self.now in
+            result ≡ resolve (told self.now) (path_at paths scope) (name_of name.now) }
+    {
+        match name.lone_segment() {
+            Some(segment) => self.nearest_count(scope, segment),
+            None => self.spelled_count(scope, name),
+        }
+    }
+}
