@@ -18,6 +18,7 @@ use Rattle.aml_namespace.specs.Bodies.{BodiesWithin, bytes_of}
 use Rattle.aml_namespace.specs.Names.{method_in}
 use Rattle.aml_namespace.specs.Entries.{Entries, entry_numbered, number_of, own_object, object_at, object_number, owner, path_numbered, paths_in}
 use Rattle.aml_namespace.specs.Kept.{entries_seen}
+use Rattle.aml_namespace.specs.LookUp.{owned_at}
 use Rattle.aml_namespace.specs.Steps.{LeadsTo, paths_seen}
 use Rattle.aml_namespace.proofs.Seen.{seen_closed, seen_distinct, seen_root}
 
@@ -146,3 +147,13 @@ method_of (Some o) m is = absurd cc
 -- the body of a method lies in its table
 pub body_lies : (tables : List (List ℕ)) (entries : Entries) (i : ℕ) (m : Method) → BodiesWithin tables entries → option_and_then method_in (object_at entries i) ≡ Some m → (m.table < length tables) × (m.body.at ≤ m.body.end) × (m.body.end ≤ length (bytes_of tables m.table))
 body_lies tables entries i m within is = within i m (method_of (object_at entries i) m is)
+
+owned_by : (i : ℕ) (path : Path) (entry : Entry) (o : Option (Path × Entry)) → option_map (λ (e : Path × Entry). e.0) o ≡ Some path → option_map (λ (e : Path × Entry). e.1) o ≡ Some entry → owned_at i o ≡ (path, record { 0 = owner i entry }) ∷ []
+owned_by i path entry None at is = absurd cc
+owned_by i path entry (Some e) at is =
+    ap (λ (p : Path). (p, record { 0 = owner i e.1 }) ∷ []) (same_Some e.0 path at)
+    ∙ ap (λ (x : Entry). (path, record { 0 = owner i x }) ∷ []) (same_Some e.1 entry is)
+
+-- a path and the number of its object, by what the program keeps of both
+pub kept_owned : (objects : Objects) (i : ℕ) (path : Path) (entry : Entry) → slice_get (paths_seen objects.paths) (suc i) ≡ Some path → slice_get objects.entries.items i ≡ Some entry → owned_at i (slice_get (entries_seen objects) i) ≡ (path, record { 0 = owner i entry }) ∷ []
+kept_owned objects i path entry at is = owned_by i path entry (slice_get (entries_seen objects) i) (sym (kept_path objects i) ∙ at) (kept_entry objects i ∙ is)

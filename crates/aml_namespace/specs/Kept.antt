@@ -7,6 +7,7 @@ use Rattle.aml_namespace.specs.declared.fault.LoadFault.{LoadFault}
 use Rattle.aml_namespace.specs.declared.fault.LoadFault.TheVariants.{NoMemory, Refused}
 use Rattle.aml_namespace.specs.declared.fault.LoadRefusal.{LoadRefusal}
 use Rattle.aml_namespace.specs.declared.here.Here as program
+use Rattle.aml_namespace.specs.declared.object.ObjectId.{ObjectId}
 use Rattle.aml_namespace.specs.declared.objects.Objects.{Objects}
 use Rattle.aml_namespace.specs.Paths.{Path, path_at}
 use Rattle.aml_namespace.specs.Steps.{path_seen, paths_seen}
@@ -19,6 +20,10 @@ entries_seen objects = zip (drop 1 (paths_seen objects.paths)) objects.entries.i
 -- the path of the segments that the program answers
 abbrev pub path_kept : {Z : Type 0} → Vec NameSeg Z → Path
 path_kept segments = path_seen segments.items
+
+-- a path that the program answers, with its object's number
+abbrev pub owned_kept : {Z : Type 0} → Vec NameSeg Z × ObjectId → Path × ObjectId
+owned_kept owned = (path_kept owned.0, owned.1)
 
 abbrev pub here_of : program.Here → Here
 here_of here = record { table = here.table; bytes = here.bytes.now; scope = here.scope }

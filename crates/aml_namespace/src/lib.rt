@@ -10,6 +10,7 @@ mod fields;
 mod here;
 mod law;
 mod link;
+mod listed;
 mod load;
 mod look_up;
 mod made;

@@ -6,7 +6,8 @@ ghost use Rattle.aml_lex.specs.Names.{name_of};
 ghost use Rattle.aml_namespace.specs.Bodies.{BodiesWithin, bytes_of};
 ghost use Rattle.aml_namespace.specs.Counted.{TellsAll};
 ghost use Rattle.aml_namespace.specs.Entries.{paths_in};
-ghost use Rattle.aml_namespace.specs.Kept.{entries_seen, path_kept};
+ghost use Rattle.aml_namespace.specs.Kept.{entries_seen, owned_kept, path_kept};
+ghost use Rattle.aml_namespace.specs.LookUp.{methods_in, owned_paths};
 ghost use Rattle.aml_namespace.specs.Names.{args_of, link_of, method_in};
 
 use crate::counted::Counted;
@@ -46,6 +47,8 @@ pub struct Namespace<'a> {
     externals: Vec<External>,
     /// How many arguments those take; None where there are none.
     counted: Option<Counted>,
+    methods: Vec<ObjectId>,
+    ghost listed: { methods.items ≡ methods_in (entries_seen objects) },
     ghost untold: { ForNone counted (externals.items ≡ []) },
     ghost told: { ForSome counted (λ c.
         TellsAll (map (λ t. t.now) tables.items) (paths_in (entries_seen objects)) externals.items c) },
@@ -82,6 +85,7 @@ impl<'a> Namespace<'a> {
             Err(fault) => return Err(fault),
         };
         objects.settle(alloc, tables)?;
+        let methods = objects.methods(alloc)?;
         let counted = declared_counts(alloc, &objects, tables, &loaded.externals)?;
         Ok(Namespace {
             tables: Vec::from_slice(alloc, tables)?,
@@ -90,6 +94,7 @@ impl<'a> Namespace<'a> {
             objects,
             externals: loaded.externals,
             counted,
+            methods,
         })
     }
 
@@ -126,6 +131,25 @@ impl<'a> Namespace<'a> {
         ensures { result ≡ method_at (shown self.now) id.0 }
     {
         method_in(self.object(id)?)
+    }
+
+    /// The numbers of all methods, in order of definition. `_OSI` is none of them.
+    pub fn methods(&self) -> &[ObjectId]
+        ensures { result.now ≡ methods_in (shown self.now).entries }
+    {
+        &self.methods
+    }
+
+    /// Every path in order of definition, its segments from the root on, with the number of its
+    /// object: an alias's path has that of another.
+    pub fn paths(&self, alloc: Global) -> Result<Vec<(Vec<NameSeg>, ObjectId)>, NoMemory>
+        ensures { IfOk result
+            (λ paths. map owned_kept paths.items ≡ owned_paths (shown self.now).entries) }
+    {
+        match self.objects.owned_paths(alloc) {
+            Ok(paths) => Ok(paths),
+            Err(_) => Err(NoMemory),
+        }
     }
 
     /// The segments of the path with this number from the root on; None past the last.
@@ -242,6 +266,7 @@ impl Arity for Inside<'_> {
 }
 
 /// What declarations tell of the paths of a namespace; None where there is none.
+#[tactic(auto, using(crate::proofs::Kept::kept_paths))]
 fn declared_counts(
     alloc: Global,
     objects: &Objects,
@@ -255,7 +280,7 @@ fn declared_counts(
     if externals.is_empty() {
         return Ok(None);
     }
-    Ok(Some(Counted::of(alloc, objects.paths(), tables, externals)?))
+    Ok(Some(Counted::of(alloc, &objects.paths, tables, externals)?))
 }
 
 /// How many arguments what is named takes.

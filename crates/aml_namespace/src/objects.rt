@@ -27,7 +27,7 @@ pub(crate) struct Objects {
     /// In order of definition.
     pub(crate) entries: Vec<Entry>,
     /// The root's path, and those of the entries in the same order.
-    paths: Paths,
+    pub(crate) paths: Paths,
     ghost placed: { length (paths_seen paths) ≡ suc (length entries.items) },
 }
 
@@ -50,14 +50,6 @@ impl Objects {
         ensures { result ≡ length (entries_seen self.now) }
     {
         self.entries.len()
-    }
-
-    /// The paths.
-    #[tactic(auto, using(crate::proofs::Kept::kept_paths))]
-    pub(crate) fn paths(&self) -> &Paths
-        ensures { paths_seen result.now ≡ paths_in (entries_seen self.now) }
-    {
-        &self.paths
     }
 
     /// What stands under the path with this number, which counts the paths but the root's.
@@ -236,7 +228,7 @@ fn own_object(entry: Entry) -> Option<Object>
 }
 
 /// The number of the object of the entry with a number.
-fn owner(number: usize, entry: Entry) -> usize
+pub(crate) fn owner(number: usize, entry: Entry) -> usize
     ensures { result ≡ owner number entry }
 {
     match entry {

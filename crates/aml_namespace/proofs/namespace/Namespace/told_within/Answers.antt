@@ -43,6 +43,6 @@ returns-in-None c =
     let there = scope_there (entries_seen ns.objects) scope (omega (arith, c.len.ensures, c.if-id-len.false)) in
     let name = name_of c.args.name.now in
     sym (ap (λ (es : List External). option_and_then (λ (p : Path). resolve (first_told tables paths es) p name) (slice_get paths (suc c.args.id))) (ns.untold c.in-None.is)
-      ∙ sym (ap (λ n. option_and_then (λ (p : Path). resolve (first_told tables paths []) p name) (slice_get paths n)) next)
-      ∙ ap (option_and_then (λ (p : Path). resolve (first_told tables paths []) p name)) there
-      ∙ none_declared tables paths (path_at paths scope) name)
+    ∙ sym (ap (λ n. option_and_then (λ (p : Path). resolve (first_told tables paths []) p name) (slice_get paths n)) next)
+    ∙ ap (option_and_then (λ (p : Path). resolve (first_told tables paths []) p name)) there
+    ∙ none_declared tables paths (path_at paths scope) name)
