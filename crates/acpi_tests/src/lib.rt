@@ -3,6 +3,8 @@
 #![tactic(auto)]
 
 #[cfg(test)]
+mod flow;
+#[cfg(test)]
 mod kinds;
 #[cfg(test)]
 mod made;
@@ -10,6 +12,8 @@ mod made;
 mod meaning;
 #[cfg(test)]
 mod namespace;
+#[cfg(test)]
+mod operators;
 #[cfg(test)]
 mod plain;
 #[cfg(test)]

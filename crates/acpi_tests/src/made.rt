@@ -58,3 +58,13 @@ pub(crate) fn changed(
     }
     Ok(table)
 }
+
+/// A method MAIN of so many arguments, whose body has at most 57 bytes and begins 43 bytes behind the
+/// start of its table, where it is the first there.
+pub(crate) fn method_of(alloc: Global, arguments: u8, body: &[u8]) -> Result<Vec<u8>, AllocError> {
+    let mut method = [0x14, (body.len() % 58 + 6) as u8].to_vec(alloc)?;
+    method.extend_from_slice(b"MAIN")?;
+    method.push(arguments)?;
+    method.extend_from_slice(body)?;
+    Ok(method)
+}

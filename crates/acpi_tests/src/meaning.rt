@@ -2,6 +2,7 @@
 
 use aml_meaning::{
     Action, AmlCause, AmlError, Arithmetic, action_of, done_is_stable, reads_are_answered,
+    set_bits_are_found,
 };
 use aml_operators::Op;
 use std::test::Fail;
@@ -36,11 +37,13 @@ fn calls(rt: HostRuntime) {
     let rows: &[(Op, Action)] = &[
         (Op::Add, Action::Binary(Arithmetic::Add)),
         (Op::Arg6, Action::Argument(6)),
-        (Op::Noop, Action::Unwritten),
+        (Op::LNot, Action::LNot),
+        (Op::Timer, Action::Unwritten),
     ];
     for (op, action) in rows {
         assert_eq!(rt; action_of(*op), *action);
     }
     done_is_stable();
     reads_are_answered();
+    set_bits_are_found();
 }

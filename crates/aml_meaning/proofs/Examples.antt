@@ -1,12 +1,13 @@
 -- Bodies and what they come to, computed.
 use Rattle.std.proofs.Common.{◌≡◌, ℕ, ◌-◌, ◌^◌, [], ◌∷◌, Some, refl, None}
-use Rattle.aml_operators.specs.declared.op.Op.TheVariants.{Return, Add, Subtract, Arg0, One, NullName, Local0, Noop, Store, Invocation, NameString}
+use Rattle.aml_operators.specs.declared.op.Op.TheVariants.{Return, Add, Subtract, Arg0, One, NullName, Local0, Timer, Store, Invocation, NameString, While, Decrement, Break, If, Else}
 use Rattle.aml_operators.specs.Tree.{Trees, Node, none, more}
 use Rattle.aml_kinds.specs.Values.{Int}
 use Rattle.aml_namespace.specs.declared.link.Link.TheVariants.{Missing}
 use Rattle.aml_meaning.specs.declared.error.AmlCause.TheVariants as cause
 use Rattle.aml_meaning.specs.State.{State, Goes, Halts, Spent, error}
-use Rattle.aml_meaning.specs.Parts.{◌>>=◌, give, stop_with, tick, paid, get_local, get_arg, set_local}
+use Rattle.aml_meaning.specs.Parts.{◌>>=◌, give, stop_with, tick, paid, get_local, get_arg, set_local, set_arg}
+use Rattle.aml_meaning.specs.Loops.{loop, spent, turned}
 use Rattle.aml_meaning.specs.Calls.{framed}
 use Rattle.aml_meaning.specs.Meaning.{Setting}
 use Rattle.aml_meaning.specs.Whole.{before, evaluated}
@@ -75,16 +76,16 @@ the_end_gives_none : evaluated (of_width 64) none [] [] (steps 0) ≡ Goes None 
 unfolding framed give
 the_end_gives_none = refl
 
-no_meaning_is_an_error : evaluated (of_width 64) (more (Node Noop 0 1 none) none) [] [] (steps 1) ≡ Halts (error cause.Outside 0 0) (steps 0)
+no_meaning_is_an_error : evaluated (of_width 64) (more (Node Timer 0 1 none) none) [] [] (steps 1) ≡ Halts (error cause.Outside 0 0) (steps 0)
 unfolding framed ◌>>=◌ give stop_with tick paid
 no_meaning_is_an_error = refl
 
-no_meaning_takes_a_step : evaluated (of_width 64) (more (Node Noop 0 1 none) none) [] [] (steps 0) ≡ Spent (steps 0)
+no_meaning_takes_a_step : evaluated (of_width 64) (more (Node Timer 0 1 none) none) [] [] (steps 0) ≡ Spent (steps 0)
 unfolding framed ◌>>=◌ give stop_with tick paid
 no_meaning_takes_a_step = refl
 
--- Store (One, Noop): the target's own step, then its place
-no_target_is_an_error : evaluated (of_width 64) (more (Node Store 0 3 (more (Node One 1 2 none) (more (Node Noop 2 3 none) none))) none) [] [] (steps 3) ≡ Halts (error cause.Outside 0 2) (steps 0)
+-- Store (One, Timer): the target's own step, then its place
+no_target_is_an_error : evaluated (of_width 64) (more (Node Store 0 3 (more (Node One 1 2 none) (more (Node Timer 2 3 none) none))) none) [] [] (steps 3) ≡ Halts (error cause.Outside 0 2) (steps 0)
 unfolding framed ◌>>=◌ give stop_with tick paid
 no_target_is_an_error = refl
 
@@ -104,3 +105,40 @@ below_zero_at_32 = refl
 missing_name : evaluated (of_width 64) (more (Node Return 0 5 (more (Node Invocation 1 5 (more (Node NameString 1 5 none) none)) none)) none) [] [] (steps 2) ≡ Halts (error cause.Missing 0 1) (steps 0)
 unfolding framed ◌>>=◌ give stop_with tick paid
 missing_name = refl
+
+-- While (Arg0) { Decrement (Arg0) }, Return (Arg0)
+abbrev counted_down : Trees
+counted_down = more (Node While 0 5 (more (Node Arg0 2 3 none) (more (Node Decrement 3 5 (more (Node Arg0 4 5 none) none)) none))) (more (Node Return 5 7 (more (Node Arg0 6 7 none) none)) none)
+
+two_turns : evaluated (of_width 64) counted_down (Int 2 ∷ []) [] (steps 12) ≡ Goes (Some (Int 0)) (steps 0)
+unfolding framed ◌>>=◌ give stop_with tick paid get_arg set_arg loop turned spent
+two_turns = refl
+
+one_step_less : evaluated (of_width 64) counted_down (Int 2 ∷ []) [] (steps 11) ≡ Spent (steps 0)
+unfolding framed ◌>>=◌ give stop_with tick paid get_arg set_arg loop turned spent
+one_step_less = refl
+
+no_turn : evaluated (of_width 64) counted_down (Int 0 ∷ []) [] (steps 4) ≡ Goes (Some (Int 0)) (steps 0)
+unfolding framed ◌>>=◌ give stop_with tick paid get_arg loop turned spent
+no_turn = refl
+
+-- While (One) { Break }
+a_break_ends_its_loop : evaluated (of_width 64) (more (Node While 0 4 (more (Node One 2 3 none) (more (Node Break 3 4 none) none))) none) [] [] (steps 3) ≡ Goes None (steps 0)
+unfolding framed ◌>>=◌ give stop_with tick paid loop turned spent
+a_break_ends_its_loop = refl
+
+a_break_without_a_loop : evaluated (of_width 64) (more (Node Break 0 1 none) none) [] [] (steps 1) ≡ Halts (error cause.Outside 0 0) (steps 0)
+unfolding framed ◌>>=◌ stop_with tick paid
+a_break_without_a_loop = refl
+
+-- If (Arg0) { Return (One) } Else { Return (Arg0) }
+abbrev either : Trees
+either = more (Node If 0 9 (more (Node Arg0 2 3 none) (more (Node Return 3 5 (more (Node One 4 5 none) none)) (more (Node Else 5 9 (more (Node Return 7 9 (more (Node Arg0 8 9 none) none)) none)) none)))) none
+
+its_own_block : evaluated (of_width 64) either (Int 7 ∷ []) [] (steps 4) ≡ Goes (Some (Int 1)) (steps 0)
+unfolding framed ◌>>=◌ give stop_with tick paid get_arg
+its_own_block = refl
+
+its_else : evaluated (of_width 64) either (Int 0 ∷ []) [] (steps 4) ≡ Goes (Some (Int 0)) (steps 0)
+unfolding framed ◌>>=◌ give stop_with tick paid get_arg
+its_else = refl

@@ -1,6 +1,5 @@
 -- Which events answer a read.
-use Rattle.std.proofs.Common.{◌≡◌, ℕ, suc, ◌==◌, ◌&&◌, List, length, Bool, true, false, Some, refl, sym, ap, ◌∙◌}
-use Rattle.std.specs.Prelude.{slice_get}
+use Rattle.std.proofs.Common.{◌≡◌, ◌==◌, ◌&&◌, Bool, true, false, refl}
 use Rattle.std.specs.Cmp.{unsigned_Decides, first_so, second_so}
 use Rattle.aml_regions.specs.declared.access.Access.{Access}
 use Rattle.aml_regions.specs.Events.{same_access}

@@ -1,5 +1,6 @@
 pub mod State
 pub mod Parts
+pub mod Loops
 pub mod Calls
 pub mod Rules
 pub mod Actions

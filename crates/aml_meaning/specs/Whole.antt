@@ -1,11 +1,14 @@
 -- What a method means, from its beginning to its end.
-use Rattle.std.specs.Prelude.{◌≡◌, ℕ, suc, ◌+◌, List, [], length, slice_get, Option, Some}
+use Rattle.std.specs.Int.{bit_at}
+use Rattle.std.specs.Prelude.{◌≡◌, ◌<◌, ◌≤◌, ◌^◌, ℕ, suc, ◌+◌, List, [], length, slice_get, Option, Some}
 use Rattle.aml_operators.specs.Tree.{Trees}
 use Rattle.aml_kinds.specs.Values.{Value}
 use Rattle.aml_regions.specs.declared.access.Access.{Access}
 use Rattle.aml_regions.specs.declared.event.Event.{Event}
 use Rattle.aml_regions.specs.declared.event.Event.TheVariants.{Read}
 use Rattle.aml_meaning.specs.declared.error.AmlError.{AmlError}
+use Rattle.aml_meaning.specs.declared.action.Bitwise.TheVariants as bitwise
+use Rattle.aml_meaning.specs.Rules.{transform}
 use Rattle.aml_meaning.specs.State.{State, with_steps, entered, Error, Out, Goes, Halts, NoAnswer}
 use Rattle.aml_meaning.specs.Parts.{read_unit, with_event}
 use Rattle.aml_meaning.specs.Calls.{framed}
@@ -44,3 +47,15 @@ abbrev pub OtherAnswerIsNone : Type 0
 OtherAnswerIsNone = (access other : Access) (value n : ℕ) (script : List Event) (s : State) →
     slice_get script (length s.log) ≡ Some (Read other value) → (access ≡ other → ⊥) → s.steps ≡ suc n →
     (read_unit access).run script s ≡ NoAnswer (with_steps s n)
+
+-- the highest bit of a number that is not 0: the number has it, and is below the next
+abbrev pub LeftBitIsHighest : Type 0
+LeftBitIsHighest = (n : ℕ) → 0 < n → n < 2 ^ 64 → (j : ℕ) × (transform bitwise.FindSetLeftBit n ≡ suc j) × (2 ^ j ≤ n) × (n < 2 ^ suc j)
+
+-- its lowest bit is set, and none below is
+abbrev pub RightBitIsLowest : Type 0
+RightBitIsLowest = (n : ℕ) → 0 < n → n < 2 ^ 64 → (j : ℕ) × (transform bitwise.FindSetRightBit n ≡ suc j) × (bit_at n j ≡ 1) × ((i : ℕ) → i < j → bit_at n i ≡ 0)
+
+-- 0 has no bit to be found
+abbrev pub ZeroHasNoBit : Type 0
+ZeroHasNoBit = (transform bitwise.FindSetLeftBit 0 ≡ 0) × (transform bitwise.FindSetRightBit 0 ≡ 0)

@@ -16,6 +16,27 @@ pub enum Arithmetic {
     Or,
     Nor,
     Xor,
+    ShiftLeft,
+    ShiftRight,
+    Mod,
+}
+
+/// An operator whose operands are an integer and a target.
+#[derive(Clone, Copy, Debug, PartialEq, Eq)]
+pub enum Bitwise {
+    Not,
+    FindSetLeftBit,
+    FindSetRightBit,
+}
+
+/// An operator that says of two values whether something holds.
+#[derive(Clone, Copy, Debug, PartialEq, Eq)]
+pub enum Comparison {
+    LAnd,
+    LOr,
+    LEqual,
+    LGreater,
+    LLess,
 }
 
 /// What kind of meaning an operator has, as a term and as a target.
@@ -27,14 +48,35 @@ pub enum Action {
     Local(u8),
     /// An argument, by its number below 7 (5.5.2.1).
     Argument(u8),
-    /// A name alone, as a target.
+    /// A name alone, as a target or as what is read.
     Name,
     /// Two integers give a third, which is stored into a target.
     Binary(Arithmetic),
+    /// An integer gives another, which is stored into a target.
+    Unary(Bitwise),
+    /// An integer and one give a third, which is stored back (19.6, Increment, Decrement).
+    ByOne(Arithmetic),
+    /// Two values are asked whether something holds: Ones or Zero.
+    Compare(Comparison),
+    /// An integer is asked whether it is zero: Ones or Zero (19.6, LNot).
+    LNot,
+    /// An integer divided by another: the remainder and the quotient each have a target
+    /// (19.6, Divide).
+    Divide,
     /// A value is stored into a target (19.6, Store).
     Store,
     /// The method ends with a value (19.6, Return).
     Return,
+    /// Statements under a test, and those of an Else (19.6, If).
+    If,
+    /// Statements as long as a test holds (19.6, While).
+    While,
+    /// The innermost loop ends (19.6, Break).
+    Break,
+    /// Its turn ends (19.6, Continue).
+    Continue,
+    /// Nothing is done (19.6, Noop, BreakPoint).
+    Nothing,
     /// A name as a term, with its arguments (20.2.5, MethodInvocation).
     Invoke,
     /// No target: nothing is stored.
@@ -78,8 +120,28 @@ pub fn action_of(op: Op) -> Action
         Op::Or => Action::Binary(Arithmetic::Or),
         Op::Nor => Action::Binary(Arithmetic::Nor),
         Op::Xor => Action::Binary(Arithmetic::Xor),
+        Op::ShiftLeft => Action::Binary(Arithmetic::ShiftLeft),
+        Op::ShiftRight => Action::Binary(Arithmetic::ShiftRight),
+        Op::Mod => Action::Binary(Arithmetic::Mod),
+        Op::Not => Action::Unary(Bitwise::Not),
+        Op::FindSetLeftBit => Action::Unary(Bitwise::FindSetLeftBit),
+        Op::FindSetRightBit => Action::Unary(Bitwise::FindSetRightBit),
+        Op::Increment => Action::ByOne(Arithmetic::Add),
+        Op::Decrement => Action::ByOne(Arithmetic::Subtract),
+        Op::LAnd => Action::Compare(Comparison::LAnd),
+        Op::LOr => Action::Compare(Comparison::LOr),
+        Op::LEqual => Action::Compare(Comparison::LEqual),
+        Op::LGreater => Action::Compare(Comparison::LGreater),
+        Op::LLess => Action::Compare(Comparison::LLess),
+        Op::LNot => Action::LNot,
+        Op::Divide => Action::Divide,
         Op::Store => Action::Store,
         Op::Return => Action::Return,
+        Op::If => Action::If,
+        Op::While => Action::While,
+        Op::Break => Action::Break,
+        Op::Continue => Action::Continue,
+        Op::Noop | Op::BreakPoint => Action::Nothing,
         Op::Invocation => Action::Invoke,
         Op::NameString => Action::Name,
         Op::NullName => Action::NoTarget,

@@ -1,6 +1,6 @@
 // Laws of the meaning, over its definitions alone.
 
-ghost use Rattle.aml_meaning.specs.Whole.{DoneIsStable, ErrorIsStable, OtherAnswerIsNone, ReadIsAnswered};
+ghost use Rattle.aml_meaning.specs.Whole.{DoneIsStable, ErrorIsStable, LeftBitIsHighest, OtherAnswerIsNone, ReadIsAnswered, RightBitIsLowest, ZeroHasNoBit};
 
 /// A body that is done with so many steps is done with more, just so, and they are left; and one that
 /// meets an error meets the same.
@@ -14,4 +14,12 @@ pub fn done_is_stable()
 pub fn reads_are_answered()
     ensures answered { ReadIsAnswered }
     ensures other { OtherAnswerIsNone }
+{}
+
+/// FindSetLeftBit and FindSetRightBit give the number, counted from 1, of the highest and of the
+/// lowest bit that is set; of 0 they give 0.
+pub fn set_bits_are_found()
+    ensures left { LeftBitIsHighest }
+    ensures right { RightBitIsLowest }
+    ensures zero { ZeroHasNoBit }
 {}

@@ -9,7 +9,7 @@ ghost use Rattle.aml_plain.specs.Tells.{EvaluatesBody, outcome_of, setting_of};
 use crate::eval::eval_all;
 use crate::frame::Frame;
 use crate::halt::{Halt, Setting};
-use aml_meaning::AmlError;
+use aml_meaning::{AmlCause, AmlError};
 use aml_operators::Term;
 
 /// How an evaluation ends.
@@ -30,17 +30,23 @@ pub fn evaluate_body(here: Setting<'_>, body: &[Term], arguments: &[u64], fuel: 
 {
     let mut frame = Frame::new(arguments);
     let mut steps = fuel;
-    outcome_of(eval_all(here, body, &mut frame, &mut steps))
+    outcome_of(here.table, eval_all(here, body, &mut frame, &mut steps))
 }
 
-/// How a method ends whose statements ended so.
-fn outcome_of(ended: Result<(), Halt>) -> Outcome
-    ensures { result ≡ outcome_of ended }
+/// How a method of a table ends whose statements ended so. A6 at a Break or Continue outside any
+/// While.
+fn outcome_of(table: usize, ended: Result<(), Halt>) -> Outcome
+    ensures { result ≡ outcome_of table ended }
 {
     match ended {
         Ok(()) => Outcome::Done(None),
         Err(Halt::Returned(value)) => Outcome::Done(Some(value)),
         Err(Halt::Error(error)) => Outcome::AmlError(error),
+        Err(Halt::Broke(at) | Halt::Continued(at)) => Outcome::AmlError(AmlError {
+            table,
+            at,
+            cause: AmlCause::Outside,
+        }),
         Err(Halt::OutOfSteps) => Outcome::OutOfSteps,
     }
 }

@@ -1,8 +1,12 @@
 // The parts of a term, as many as its operator's letters name.
 
 ghost use Rattle.std.specs.Prelude.{◌≡◌, ◌<◌, length, IsSome, Some};
+ghost use Rattle.aml_operators.specs.declared.row.Code.TheVariants as code;
 ghost use Rattle.aml_operators.specs.Literal.{literal_in};
+ghost use Rattle.aml_operators.specs.Shape.{AreShaped};
 ghost use Rattle.aml_tree.specs.Body.{first_at};
+ghost use Rattle.aml_meaning.specs.Meaning.{is_else};
+ghost use Rattle.aml_plain.specs.Shapes.{IsBranch, IsSplit};
 ghost use Rattle.aml_operators.specs.Tree.{view, views, more, none};
 
 use aml_operators::{Op, Term, literal_in};
@@ -47,6 +51,57 @@ pub fn three(parts: &[Term]) -> (&Term, &Term, &Term)
     match parts {
         [a, b, c] => (a, b, c),
         _ => unreachable!(),
+    }
+}
+
+pub fn four(parts: &[Term]) -> (&Term, &Term, &Term, &Term)
+    requires { length parts.now ≡ 4 }
+    ensures { views parts.now ≡ more (view result.0.now) (more (view result.1.now)
+        (more (view result.2.now) (more (view result.3.now) none))) }
+{
+    match parts {
+        [a, b, c, d] => (a, b, c, d),
+        _ => unreachable!(),
+    }
+}
+
+/// The first of one or more, and the rest.
+pub fn first_and_rest(parts: &[Term]) -> (&Term, &[Term])
+    requires { 0 < length parts.now }
+    ensures { views parts.now ≡ more (view result.0.now) (views result.1.now) }
+{
+    match parts {
+        [first, rest @ ..] => (first, rest),
+        [] => unreachable!(),
+    }
+}
+
+/// Whether the other block of an If begins here.
+fn is_else(op: Op) -> bool
+    ensures { result ≡ is_else op }
+{
+    match op {
+        Op::Else => true,
+        _ => false,
+    }
+}
+
+/// An If's own statements, and those of its Else.
+pub fn branches(parts: &[Term]) -> (&[Term], &[Term])
+    requires { IsBranch (views parts.now) }
+    ensures split { IsSplit (views parts.now) (views result.0.now) (views result.1.now) }
+    ensures shaped { AreShaped code.Body (views parts.now) →
+        AreShaped code.Body (views result.0.now) × AreShaped code.Body (views result.1.now) }
+{
+    match parts {
+        [block @ .., last] => {
+            if is_else(last.op) {
+                (block, &last.parts)
+            } else {
+                (parts, &[])
+            }
+        }
+        [] => (parts, &[]),
     }
 }
 

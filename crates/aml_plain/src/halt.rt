@@ -33,6 +33,10 @@ pub enum Halt {
     OutOfSteps,
     Error(AmlError),
     Returned(u64),
+    /// A Break, at its place.
+    Broke(usize),
+    /// A Continue, at its place.
+    Continued(usize),
 }
 
 /// An error at a place of the body's table.
