@@ -11,7 +11,7 @@ use std::test::Fail;
 
 /// What a value of a row is.
 #[derive(Clone, Copy)]
-enum Sample {
+pub(crate) enum Sample {
     Int(u64),
     /// A buffer of so many bytes.
     Buf(usize),
@@ -143,7 +143,7 @@ fn nine_and_place(alloc: Global, place: ElementKind) -> Result<Kind, AllocError>
     shape(vec![in alloc; ElementKind::Value(Kind::Int(9)), place]?)
 }
 
-fn value_of(alloc: Global, sample: Sample) -> Result<Value, AllocError> {
+pub(crate) fn value_of(alloc: Global, sample: Sample) -> Result<Value, AllocError> {
     match sample {
         Sample::Int(number) => Ok(Value::Int(number)),
         Sample::Buf(count) => buffer(alloc, count),

@@ -1,5 +1,8 @@
+pub mod BelongLaws
+pub mod ContentLaws
 pub mod Elements
 pub mod JoinLaws
+pub mod KindsBy
 pub mod Lengths
 pub mod SameKinds
 pub mod SameValues

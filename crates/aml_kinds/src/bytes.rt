@@ -1,6 +1,6 @@
 // The bytes of a buffer, or the characters of a string.
 
-ghost use Rattle.std.specs.Prelude.{◌≡◌, IfOk, length};
+ghost use Rattle.std.specs.Prelude.{◌≡◌, IfOk, length, nat_lt, slice_set};
 
 use std::alloc::AllocError;
 use std::marker::Model;
@@ -39,6 +39,18 @@ impl Bytes {
         ensures { result.now ≡ self.now }
     {
         &self.items
+    }
+
+    /// Sets the byte at a place. There may be none; then nothing changes, and false is answered.
+    pub fn set(&mut self, at: usize, byte: u8) -> bool
+        ensures there { result ≡ nat_lt at (length self.old) }
+        ensures set { self.new ≡ slice_set self.old at byte }
+    {
+        let is_there = at < self.len();
+        if is_there {
+            self.items[at] = byte;
+        }
+        is_there
     }
 
     /// The bytes given back.

@@ -19,7 +19,7 @@ pub fn copy(alloc: Global, value: &Value) -> Result<Value, NoMemory>
 
 /// A copy of a value.
 #[cycle(copy)]
-fn copied(alloc: Global, value: &Value) -> Result<Value, AllocError>
+pub(crate) fn copied(alloc: Global, value: &Value) -> Result<Value, AllocError>
     ensures { IfOk result (λ v. view v ≡ view value.now) }
 {
     match value {

@@ -3,11 +3,13 @@
 
 mod bytes;
 mod copies;
+mod first_kinds;
 mod fitting;
 mod joins;
 mod kind;
 mod kind_copies;
 mod law;
+mod names;
 mod package;
 mod same_kinds;
 mod same_values;
@@ -21,6 +23,7 @@ pub use joins::{is_within, join, join_elements};
 pub use kind::{ElementKind, Kind};
 pub use kind_copies::copy_kind;
 pub use law::{fits_what_it_lies_within, join_associates, join_commutes, join_stays};
+pub use names::Names;
 pub use package::Package;
 pub use same_kinds::is_same_kind;
 pub use same_values::is_same_value;

@@ -7,6 +7,7 @@ pub mod RightTerms
 pub mod Turns
 pub mod Full
 pub mod Bodies
+pub mod DataRead
 pub mod Faults
 pub mod Names
 pub mod Shaped

@@ -7,6 +7,7 @@ pub mod Reading
 pub mod Grammar
 pub mod Answers
 pub mod Body
+pub mod Data
 pub mod Owns
 pub mod Spelled
 pub mod Laws

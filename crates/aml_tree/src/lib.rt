@@ -7,6 +7,7 @@
 
 mod arity;
 mod body;
+mod data;
 mod fault;
 mod laws;
 mod leaf;
@@ -18,6 +19,7 @@ mod walk;
 pub use aml_operators::{Op, Term};
 pub use arity::{Arity, NoArguments};
 pub use body::{Span, read_body};
+pub use data::read_data;
 pub use fault::{Refusal, TreeCause, TreeFault};
 pub use laws::{
     bodies_are_unique, faults_are_unique, faults_stand_within, modules_are_unique, names_are_there,
