@@ -5,7 +5,8 @@ ghost use Rattle.std.specs.Prelude.{◌<◌, ◌^◌, []};
 ghost use Rattle.aml_regions.specs.Worlds.{IsUnit};
 
 use aml_namespace::{NoMemory, ObjectId};
-use aml_regions::{Access, Event, RegisterFile, World};
+use aml_regions::{Access, Event, RegisterFile, RegistersFault, World};
+use std::alloc::Global;
 use std::test::Fail;
 
 /// A world that refuses every call.
@@ -127,5 +128,89 @@ fn refusals_are_counted(rt: HostRuntime) -> Result<(), Fail> {
     assert_eq!(rt; written_and_read(&mut world, LAST_BYTE, 1), Err(NoMemory));
     assert_eq!(rt; world.sleep(1), Err(NoMemory));
     assert_eq!(rt; world.refused, 2);
+    Ok(())
+}
+
+/// What a text makes: a byte of a space and address, or the line that is bad.
+#[derive(Clone, Copy, Debug, PartialEq, Eq)]
+enum Read {
+    Byte(u8, u64, u8),
+    Bad(usize),
+}
+
+/// Written by hand from the form of a line.
+const TEXTS: [(&str, Read); 33] = [
+    ("", Read::Byte(0, 0, 0)),
+    ("mem 0 01", Read::Byte(0, 0, 1)),
+    ("io 60 1527", Read::Byte(1, 0x60, 0x15)),
+    ("io 60 1527\n", Read::Byte(1, 0x61, 0x27)),
+    ("io 60 1527", Read::Byte(0, 0x60, 0)),
+    ("pci aB Cd", Read::Byte(2, 0xab, 0xcd)),
+    ("ec 1 02", Read::Byte(3, 1, 2)),
+    ("cmos 1 02", Read::Byte(5, 1, 2)),
+    (
+        "mem ffffffffffffffff 7f",
+        Read::Byte(0, 0xffff_ffff_ffff_ffff, 0x7f),
+    ),
+    (
+        "mem fffffffffffffffe 7f80",
+        Read::Byte(0, 0xffff_ffff_ffff_ffff, 0x80),
+    ),
+    ("mem ffffffffffffffff 7f80", Read::Bad(1)),
+    ("mem 10000000000000000 7f", Read::Bad(1)),
+    ("mem 00000000000000000001 7f", Read::Byte(0, 1, 0x7f)),
+    ("mem 1 0102\nmem 2 03", Read::Byte(0, 2, 3)),
+    ("mem 1 0102\nmem 2 03", Read::Byte(0, 1, 1)),
+    ("mem 2 03\nmem 1 0102", Read::Byte(0, 2, 2)),
+    ("\n# io 0 00 g\n\nmem 1 09", Read::Byte(0, 1, 9)),
+    ("#\nmem 1 09\n\n", Read::Byte(0, 1, 9)),
+    ("mem 1 09\n\nmem 1", Read::Bad(3)),
+    ("mem 1 09\nx\ny", Read::Bad(2)),
+    (" # no comment", Read::Bad(1)),
+    (" ", Read::Bad(1)),
+    ("mem 1 ", Read::Bad(1)),
+    ("mem  1 09", Read::Bad(1)),
+    ("mem 1 09 ", Read::Bad(1)),
+    ("mem 1 09\r\n", Read::Bad(1)),
+    ("mem 1 9", Read::Bad(1)),
+    ("mem 1 0g", Read::Bad(1)),
+    ("mem 0x1 09", Read::Bad(1)),
+    ("mem +1 09", Read::Bad(1)),
+    ("MEM 1 09", Read::Bad(1)),
+    ("smbus 1 09", Read::Bad(1)),
+    ("mem 1 09\tmem 2 09", Read::Bad(1)),
+];
+
+/// What a text makes, as its row asks.
+fn read_of(alloc: Global, text: &str, wanted: Read) -> Result<Read, NoMemory> {
+    match RegisterFile::read_text(alloc, text.as_bytes()) {
+        Ok(file) => match wanted {
+            Read::Byte(space, address, _) => {
+                Ok(Read::Byte(space, address, file.byte(space, address)))
+            }
+            Read::Bad(_) => Ok(Read::Byte(0, 0, 0)),
+        },
+        Err(RegistersFault::BadRegs { line }) => Ok(Read::Bad(line)),
+        Err(RegistersFault::NoMemory) => Err(NoMemory),
+    }
+}
+
+#[test]
+fn rows_of_register_texts(rt: HostRuntime) -> Result<(), Fail> {
+    for (text, wanted) in TEXTS {
+        let read = match read_of(rt.alloc(), text, wanted) {
+            Ok(read) => read,
+            Err(NoMemory) => read_of(rt.alloc(), text, wanted)?,
+        };
+        assert_eq!(rt; read, wanted, "{text}");
+    }
+    Ok(())
+}
+
+#[test]
+fn faults_of_register_texts_have_their_numbers(rt: HostRuntime) -> Result<(), Fail> {
+    let bad = RegistersFault::BadRegs { line: 7 };
+    assert_eq!(rt; bad.text(), "E511 BadRegs");
+    assert_eq!(rt; RegistersFault::NoMemory.text(), "E524 NoMemory");
     Ok(())
 }

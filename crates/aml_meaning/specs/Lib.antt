@@ -8,3 +8,4 @@ pub mod Meaning
 pub mod Runs
 pub mod Whole
 pub mod Causes
+pub mod Fields

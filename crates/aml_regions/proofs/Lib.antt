@@ -1,2 +1,4 @@
+mod Lines
+mod Parts
 mod Places
 mod Written

@@ -1,5 +1,10 @@
+pub mod Bits
+pub mod BufferFields
 pub mod Bytes
+pub mod Causes
 pub mod Events
+pub mod Fields
 pub mod Laws
 pub mod Registers
+pub mod Text
 pub mod Worlds

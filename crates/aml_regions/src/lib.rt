@@ -5,12 +5,17 @@
 mod access;
 mod bytes;
 mod event;
+mod fault;
+mod field;
 mod law;
 mod registers;
+mod text;
 mod world;
 
 pub use access::Access;
 pub use event::Event;
+pub use fault::RegistersFault;
+pub use field::{FieldLayout, OtherBits, RegionField, UnitWidth};
 pub use law::reads_what_was_written;
 pub use registers::RegisterFile;
 pub use world::World;

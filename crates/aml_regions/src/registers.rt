@@ -1,17 +1,21 @@
 // A world of bytes, which keeps its log.
 
-ghost use Rattle.std.specs.Prelude.{◌≡◌, ◌<◌, ◌^◌, ℕ, [], OnOk, OnErr, IfOk, IsErr};
+ghost use Rattle.std.specs.Prelude.{◌≡◌, ◌<◌, ◌^◌, ℕ, [], OnOk, OnErr, IfOk, IfErr, IsErr};
 ghost use Rattle.aml_regions.specs.Bytes.{unit_of, with_unit, SameBytes};
 ghost use Rattle.aml_regions.specs.declared.event.Event.{Event};
 ghost use Rattle.aml_regions.specs.declared.event.Event.TheVariants.{Read, Written, Notified, Slept, Stalled};
 ghost use Rattle.aml_regions.specs.Registers.{contents};
+ghost use Rattle.aml_regions.specs.Text.{FailsToSet, LineFails, LineSets, TextSets, WordsFail, WordsSet, words_of};
 ghost use Rattle.aml_regions.specs.Worlds.{IsUnit, MakesEvent, CountsRefusal};
 
 use crate::access::Access;
-use crate::bytes::{byte, make_room, put_unit, unit};
+use crate::bytes::{byte, make_room, put_run, put_unit, unit};
 use crate::event::Event;
+use crate::fault::RegistersFault;
+use crate::text::{read_address, space_named, split_once, three_words};
 use crate::world::World;
 use aml_namespace::{NoMemory, ObjectId};
+use hex::FromHexError;
 use std::alloc::Global;
 use std::collections::BTreeMap;
 
@@ -57,6 +61,75 @@ impl RegisterFile {
         ensures { result ≡ self.now.refusals }
     {
         self.refusals
+    }
+
+    /// The register file that a text sets. A line `SPACE ADDRESS BYTES` sets bytes from an address of
+    /// a space on: a space is `mem`, `io`, `pci`, `ec` or `cmos`, the others are hex without prefix.
+    /// Empty lines and lines from `#` on count for nothing, and a later line wins.
+    ///
+    /// Faults: E511 at the first line that has another form, or bytes past the last address; want of
+    /// memory.
+    pub fn read_text(alloc: Global, text: &[u8]) -> Result<RegisterFile, RegistersFault>
+        ensures bytes { IfOk result (λ file. TextSets text.now (contents file)) }
+        ensures log { IfOk result (λ file. file.events.items ≡ []) }
+        ensures refusals { IfOk result (λ file. file.refusals ≡ 0) }
+        ensures fault { IfErr result (FailsToSet text.now) }
+    {
+        let mut file = RegisterFile::new(alloc);
+        let mut rest = text;
+        let mut number = 1;
+        while let Some((line, behind)) = split_once(rest, b'\n') {
+            file.read_line(alloc, line, number)?;
+            rest = behind;
+            number += 1;
+        }
+        file.read_line(alloc, rest, number)?;
+        Ok(file)
+    }
+
+    // Sets what a line sets, if it counts.
+    fn read_line(&mut self, alloc: Global, line: &[u8], number: usize) -> Result<(), RegistersFault>
+        ensures set { OnOk result (LineSets line.now (contents self.old) (contents self.new)) }
+        ensures log { self.new.events ≡ self.old.events }
+        ensures refusals { self.new.refusals ≡ self.old.refusals }
+        ensures fault { IfErr result (LineFails line.now number) }
+    {
+        match line.first() {
+            None => Ok(()),
+            Some(b'#') => Ok(()),
+            Some(_) => self.set_line(alloc, line, number),
+        }
+    }
+
+    // Sets what the words of a line set.
+    fn set_line(&mut self, alloc: Global, line: &[u8], number: usize) -> Result<(), RegistersFault>
+        ensures set { OnOk result (WordsSet (words_of line.now) (contents self.old) (contents self.new)) }
+        ensures log { self.new.events ≡ self.old.events }
+        ensures refusals { self.new.refusals ≡ self.old.refusals }
+        ensures fault { IfErr result (WordsFail (words_of line.now) number) }
+    {
+        let bad = RegistersFault::BadRegs { line: number };
+        let Some((name, place, text)) = three_words(line) else {
+            return Err(bad);
+        };
+        let Some(space) = space_named(name) else {
+            return Err(bad);
+        };
+        let Some(address) = read_address(place) else {
+            return Err(bad);
+        };
+        let run = match hex::decode(alloc, text) {
+            Ok(run) => run,
+            Err(FromHexError::OutOfMemory) => return Err(RegistersFault::NoMemory),
+            Err(_) => return Err(bad),
+        };
+        if run.is_empty() || run.len() as u64 - 1 > u64::MAX - address {
+            return Err(bad);
+        }
+        match put_run(&mut self.bytes, space, address, &run) {
+            Ok(()) => Ok(()),
+            Err(NoMemory) => Err(RegistersFault::NoMemory),
+        }
     }
 
     // Makes an event, or counts a refusal.

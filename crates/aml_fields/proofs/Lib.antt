@@ -1,0 +1,9 @@
+pub mod BytesBits
+pub mod Events
+pub mod Masks
+pub mod Numbers
+pub mod Places
+pub mod Reading
+pub mod Tests
+pub mod WideBytes
+pub mod Writing

@@ -1,0 +1,57 @@
+// Reads of fields as bytes.
+
+ghost use Rattle.std.specs.Prelude.{◌≡◌, ℕ, ◌<◌, ◌≤◌, ◌+◌, ◌-◌, ◌*◌, ◌/◌, length, slice_index};
+ghost use Rattle.aml_regions.specs.Fields.{IsSound, count};
+ghost use Rattle.aml_regions.specs.Worlds.{CountsRefusal};
+ghost use Rattle.aml_meaning.specs.Fields.{read_bytes, told_bytes};
+ghost use Rattle.aml_meaning.specs.Runs.{Runs, state};
+
+use crate::buffer::write_buffer_field;
+use crate::kernel::run;
+use crate::units::{end_of, first_of, read_unit};
+use aml_namespace::NoMemory;
+use aml_regions::{RegionField, World};
+
+// Zeros in each byte.
+fn clear(bytes: &mut [u8])
+    ensures { (k : ℕ) → k < length bytes.new → slice_index bytes.new k ≡ 0 }
+{
+    for byte in bytes.iter_mut() {
+        *byte = 0;
+    }
+}
+
+/// The bytes of a field, as many as its bits want, by at most `limit` events: zeros stand behind its
+/// last bit. False where more events are wanted: the first `limit` were made, and the bytes are not the
+/// field's. It takes no memory of its own.
+pub fn read_wide_field<W: World>(
+    world: &mut W,
+    field: &RegionField,
+    bytes: &mut [u8],
+    limit: u64,
+) -> Result<bool, NoMemory>
+    requires sound { IsSound field.now }
+    requires size { length bytes.old ≡ (field.now.layout.bits + 7) / 8 }
+    ensures means { (frame : _) (names : _) →
+        Runs (told_bytes result bytes.new) (read_bytes field.now)
+        (state frame names limit (W.log world.old))
+        (state frame names (limit - count field.now.layout) (W.log world.new)) }
+    ensures refusal { CountsRefusal result (W.refusals world.old) (W.refusals world.new) }
+{
+    let layout = &field.layout;
+    let width = u64::from(layout.width.bits());
+    clear(bytes);
+    let mut done = 0;
+    let mut left = limit;
+    for unit in first_of(layout)..end_of(layout) {
+        let Some(answer) = read_unit(world, field, unit, &mut left)? else {
+            return Ok(false);
+        };
+        let skip = (layout.at + done) % width;
+        let take = (width - skip).min(layout.bits - done);
+        let part = run(answer, skip as u32, take as u32);
+        write_buffer_field(bytes, done, take, &part);
+        done += take;
+    }
+    Ok(true)
+}
