@@ -9,7 +9,7 @@ use Rattle.acpi_listing.specs.Words.{AsksFor, AsksNothing, IsCount, IsRequest}
 use Rattle.acpi_listing.specs.declared.fault.Fault.{Fault}
 use Rattle.acpi_listing.specs.declared.fault.Fault.TheVariants as fault
 use Rattle.acpi_listing.specs.declared.words.Request.{Request}
-use Rattle.acpi_listing.specs.declared.words.Request.TheVariants.{Tables, Eval}
+use Rattle.acpi_listing.specs.declared.words.Request.TheVariants.{Tables, Names, Eval}
 
 -- `clap` says of this command line what it takes
 pub takes_words : is_simple acpicheck_app ≡ true
@@ -36,6 +36,7 @@ none_before f (Some x) e = absurd (cc)
 -- no command, no request
 pub nothing_of_none : (r : Request) → IsRequest None r → ⊥
 nothing_of_none (Tables names) (rows, is, files) = absurd (cc)
+nothing_of_none (Names names) (rows, is, inputs) = absurd (cc)
 nothing_of_none (Eval request) (rows, is, parts) = absurd (cc)
 
 abbrev name_in : Option (Text × List Row) → Text
@@ -43,10 +44,11 @@ name_in None = []
 name_in (Some p) = p.0
 
 -- another command, no request
-pub nothing_of_other : (name : Text) (rows : List Row) → (name ≡ codes "tables" → ⊥) → (name ≡ codes "eval" → ⊥)
+pub nothing_of_other : (name : Text) (rows : List Row) → (name ≡ codes "tables" → ⊥) → (name ≡ codes "names" → ⊥) → (name ≡ codes "eval" → ⊥)
     → (r : Request) → IsRequest (Some (name, rows)) r → ⊥
-nothing_of_other name rows first second (Tables names) (others, is, files) = first (ap name_in is)
-nothing_of_other name rows first second (Eval request) (others, is, parts) = second (ap name_in is)
+nothing_of_other name rows first second third (Tables names) (others, is, files) = first (ap name_in is)
+nothing_of_other name rows first second third (Names names) (others, is, inputs) = second (ap name_in is)
+nothing_of_other name rows first second third (Eval request) (others, is, parts) = third (ap name_in is)
 
 -- a value that is not there is none of a request
 pub missing : (o : Option Text) (t : Text) → None ≡ o → o ≡ Some t → ⊥

@@ -1,5 +1,5 @@
--- Laws of evaluating a file's method.
-use Rattle.std.proofs.Common.{◌≡◌, ℕ, List, [], ◌∷◌, Option, Result, Ok, Err}
+-- Laws of listing names and of evaluating methods.
+use Rattle.std.proofs.Common.{◌≡◌, ℕ, List, Option, Result, Ok, Err}
 use Rattle.std.specs.Prelude.{IsErrAnd}
 use Rattle.aml_namespace.specs.declared.object.Method.{Method}
 use Rattle.aml_namespace.specs.Load.{Shown, IsLoaded}
@@ -8,74 +8,108 @@ use Rattle.aml_operators.specs.Tree.{Tree, trees}
 use Rattle.aml_plain.specs.Methods.{Evaluates}
 use Rattle.aml_plain.specs.declared.body.Outcome.{Outcome}
 use Rattle.aml_tree.specs.declared.fault.Refusal.{Refusal}
+use Rattle.acpi_text.specs.Names.{names_text}
 use Rattle.acpi_text.specs.Outcome.{outcome_line}
 use Rattle.acpi_listing.specs.Arguments.{ListsArguments}
-use Rattle.acpi_listing.specs.Files.{Answers, Opens, Reads}
+use Rattle.acpi_listing.specs.Files.{Answers}
+use Rattle.acpi_listing.specs.Inputs.{OpensInputs, ReadsInputs, tables_of}
+use Rattle.acpi_listing.specs.Loading.{Loads, os_name}
 use Rattle.acpi_listing.specs.Steps.{Step, Then, Gives, Still, Tells, Writes}
-use Rattle.acpi_listing.specs.Commands.{EvaluatesBody, EvaluatesFile, EvaluatesTable, Finds, Fit, IsMeant, Loads, Names, ReadsArguments, ReadsBody, Takes, os_name, outcome_status}
+use Rattle.acpi_listing.specs.Commands.{EvaluatesBody, EvaluatesFiles, EvaluatesTables, Finds, Fit, IsMeant, IsMethodAt, ListsNames, ReadsArguments, ReadsBody, Takes, outcome_status}
 use Rattle.acpi_listing.specs.declared.fault.Fault.{Fault}
 use Rattle.acpi_listing.specs.declared.fault.Stop.{Stop}
 use Rattle.acpi_listing.specs.declared.fault.Stop.TheVariants.{Fault as Faulty}
+use Rattle.acpi_listing.specs.declared.inputs.InputNames.{InputNames}
+use Rattle.acpi_listing.specs.declared.inputs.Inputs.{Inputs}
 use Rattle.acpi_listing.proofs.Chains.{given, given_fault, quiet, quiet_fault, still}
 
+-- what stands behind the load
+abbrev behind_load : List ℕ → List ℕ → ℕ → Shown → Step (Unit {0}) ℕ
+behind_load word arguments steps ns =
+    Then (Gives (Finds ns word)) (λ found. Then (Gives (ReadsBody ns found.0 found.1)) (EvaluatesBody ns found arguments steps))
+
 -- behind the load
-pub after_load : (word arguments : List ℕ) (steps : ℕ) (bytes : List ℕ) (ns : Shown) (held holds : Option (List ℕ)) (r : Result ℕ Stop)
-    → IsLoaded (bytes ∷ []) os_name ns
-    → Writes (Then (Gives (Finds ns word)) (λ found. Then (Gives (ReadsBody ns found.0 found.1)) (EvaluatesBody ns found word arguments steps))) tt tt held holds r
-    → Writes (EvaluatesTable word arguments steps bytes) tt tt held holds r
-after_load word arguments steps bytes ns held holds r loaded =
-    given (Loads bytes) (λ n. Then (Gives (Finds n word)) (λ found. Then (Gives (ReadsBody n found.0 found.1)) (EvaluatesBody n found word arguments steps))) tt tt held holds ns r loaded
+pub after_load : (word arguments : List ℕ) (steps : ℕ) (tables : List (List ℕ)) (ns : Shown) (held holds : Option (List ℕ)) (r : Result ℕ Stop)
+    → IsLoaded tables os_name ns → Writes (behind_load word arguments steps ns) tt tt held holds r
+    → Writes (EvaluatesTables word arguments steps tables) tt tt held holds r
+after_load word arguments steps tables ns held holds r loaded = given (Loads tables) (behind_load word arguments steps) tt tt held holds ns r loaded
 
 -- behind the method
-pub after_find : (word arguments : List ℕ) (steps : ℕ) (bytes : List ℕ) (ns : Shown) (id : ℕ) (m : Method) (held holds : Option (List ℕ)) (r : Result ℕ Stop)
-    → IsLoaded (bytes ∷ []) os_name ns → Names ns word id m
-    → Writes (Then (Gives (ReadsBody ns id m)) (EvaluatesBody ns (id, m) word arguments steps)) tt tt held holds r
-    → Writes (EvaluatesTable word arguments steps bytes) tt tt held holds r
-after_find word arguments steps bytes ns id m held holds r loaded names does =
-    after_load word arguments steps bytes ns held holds r loaded
-    (given (Finds ns word) (λ found. Then (Gives (ReadsBody ns found.0 found.1)) (EvaluatesBody ns found word arguments steps)) tt tt held holds (id, m) r names does)
+pub after_find : (word arguments : List ℕ) (steps : ℕ) (tables : List (List ℕ)) (ns : Shown) (id : ℕ) (m : Method) (held holds : Option (List ℕ)) (r : Result ℕ Stop)
+    → IsLoaded tables os_name ns → IsMethodAt ns word id m
+    → Writes (Then (Gives (ReadsBody ns id m)) (EvaluatesBody ns (id, m) arguments steps)) tt tt held holds r
+    → Writes (EvaluatesTables word arguments steps tables) tt tt held holds r
+after_find word arguments steps tables ns id m held holds r loaded names does =
+    after_load word arguments steps tables ns held holds r loaded
+    (given (Finds ns word) (λ found. Then (Gives (ReadsBody ns found.0 found.1)) (EvaluatesBody ns found arguments steps)) tt tt held holds (id, m) r names does)
 
 -- behind the body's reading
-pub after_body : (word arguments : List ℕ) (steps : ℕ) (bytes : List ℕ) (ns : Shown) (id : ℕ) (m : Method) (body : Result (List Tree) Refusal) (held holds : Option (List ℕ)) (r : Result ℕ Stop)
-    → IsLoaded (bytes ∷ []) os_name ns → Names ns word id m → ReadsBody ns id m (Ok body)
-    → Writes (EvaluatesBody ns (id, m) word arguments steps body) tt tt held holds r
-    → Writes (EvaluatesTable word arguments steps bytes) tt tt held holds r
-after_body word arguments steps bytes ns id m body held holds r loaded names reads does =
-    after_find word arguments steps bytes ns id m held holds r loaded names
-    (given (ReadsBody ns id m) (EvaluatesBody ns (id, m) word arguments steps) tt tt held holds body r reads does)
+pub after_body : (word arguments : List ℕ) (steps : ℕ) (tables : List (List ℕ)) (ns : Shown) (id : ℕ) (m : Method) (body : Result (List Tree) Refusal) (held holds : Option (List ℕ)) (r : Result ℕ Stop)
+    → IsLoaded tables os_name ns → IsMethodAt ns word id m → ReadsBody ns id m (Ok body)
+    → Writes (EvaluatesBody ns (id, m) arguments steps body) tt tt held holds r
+    → Writes (EvaluatesTables word arguments steps tables) tt tt held holds r
+after_body word arguments steps tables ns id m body held holds r loaded names reads does =
+    after_find word arguments steps tables ns id m held holds r loaded names
+    (given (ReadsBody ns id m) (EvaluatesBody ns (id, m) arguments steps) tt tt held holds body r reads does)
 
 -- behind the evaluation
-pub after_outcome : (word arguments : List ℕ) (steps : ℕ) (bytes : List ℕ) (ns : Shown) (id : ℕ) (m : Method) (ts : List Tree) (outcome : Outcome) (held holds : Option (List ℕ)) (r : Result ℕ Stop)
-    → IsLoaded (bytes ∷ []) os_name ns → Names ns word id m → IsBodyOf ns id m ts → Takes ns m arguments → Evaluates ns id m (trees ts) arguments steps outcome
+pub after_outcome : (word arguments : List ℕ) (steps : ℕ) (tables : List (List ℕ)) (ns : Shown) (id : ℕ) (m : Method) (ts : List Tree) (outcome : Outcome) (held holds : Option (List ℕ)) (r : Result ℕ Stop)
+    → IsLoaded tables os_name ns → IsMethodAt ns word id m → IsBodyOf ns id m ts → Takes ns m arguments → Evaluates ns id m (trees ts) arguments steps outcome
     → Writes (Tells (outcome_line outcome) (outcome_status outcome)) (tt {0}) (tt {0}) held holds r
-    → Writes (EvaluatesTable word arguments steps bytes) tt tt held holds r
-after_outcome word arguments steps bytes ns id m ts outcome held holds r loaded names body takes meant does =
-    after_body word arguments steps bytes ns id m (Ok ts) held holds r loaded names body
+    → Writes (EvaluatesTables word arguments steps tables) tt tt held holds r
+after_outcome word arguments steps tables ns id m ts outcome held holds r loaded names body takes meant does =
+    after_body word arguments steps tables ns id m (Ok ts) held holds r loaded names body
     (given (Fit ns m arguments) (λ _. Then (Gives (IsMeant ns id m ts arguments steps)) (λ o. Tells (outcome_line o) (outcome_status o))) tt tt held holds tt r takes
     (given (IsMeant ns id m ts arguments steps) (λ o. Tells (outcome_line o) (outcome_status o)) tt tt held holds outcome r meant does))
 
--- what stands behind the arguments
-abbrev behind_arguments : {F : Type 0} → Answers F → List ℕ → List ℕ → ℕ → List ℕ → Step F ℕ
-behind_arguments answers file word steps arguments = Then (Reads answers file) (λ bytes. Still (EvaluatesTable word arguments steps bytes))
+-- what stands behind the inputs, and behind the arguments
+abbrev behind_inputs : {F : Type 0} → List ℕ → List ℕ → ℕ → Inputs → Step F ℕ
+behind_inputs word arguments steps inputs = Still (EvaluatesTables word arguments steps (tables_of inputs))
+
+abbrev behind_arguments : {F : Type 0} → Answers F → InputNames → List ℕ → ℕ → List ℕ → Step F ℕ
+behind_arguments answers names word steps arguments = Then (ReadsInputs answers names) (behind_inputs word arguments steps)
 
 -- arguments that cannot be read
-pub no_arguments : {F : Type 0} (answers : Answers F) (old : F) (file word : List ℕ) (args : Option (List ℕ)) (steps : ℕ) (held : Option (List ℕ)) (f : Fault) (r : Result ℕ Stop)
-    → IsErrAnd r (λ s. s ≡ Faulty f) → ReadsArguments args (Err f) → Writes (EvaluatesFile answers file word args steps) old old held held r
-no_arguments answers old file word args steps held f r is bad =
-    given_fault (ReadsArguments args) (behind_arguments answers file word steps) old held f r is bad
+pub no_arguments : {F : Type 0} (answers : Answers F) (old : F) (names : InputNames) (word : List ℕ) (args : Option (List ℕ)) (steps : ℕ) (held : Option (List ℕ)) (f : Fault) (r : Result ℕ Stop)
+    → IsErrAnd r (λ s. s ≡ Faulty f) → ReadsArguments args (Err f) → Writes (EvaluatesFiles answers names word args steps) old old held held r
+no_arguments answers old names word args steps held f r is bad =
+    given_fault (ReadsArguments args) (behind_arguments answers names word steps) old held f r is bad
 
--- a file that cannot be read
-pub no_file : {F : Type 0} (answers : Answers F) (old new : F) (file word : List ℕ) (args : Option (List ℕ)) (arguments : List ℕ) (steps : ℕ) (held : Option (List ℕ)) (f : Fault) (r : Result ℕ Stop)
-    → IsErrAnd r (λ s. s ≡ Faulty f) → ListsArguments args arguments → Opens answers old file (Err f) new → Writes (EvaluatesFile answers file word args steps) old new held held r
-no_file answers old new file word args arguments steps held f r is lists opens =
-    given (ReadsArguments args) (behind_arguments answers file word steps) old new held held arguments r lists
-    (quiet_fault (λ o x n. Opens answers o file x n) (λ bytes. Still (EvaluatesTable word arguments steps bytes)) old new held f r is opens)
+-- inputs that cannot be read
+pub no_inputs : {F : Type 0} (answers : Answers F) (old new : F) (names : InputNames) (word : List ℕ) (args : Option (List ℕ)) (arguments : List ℕ) (steps : ℕ) (held : Option (List ℕ)) (f : Fault) (r : Result ℕ Stop)
+    → IsErrAnd r (λ s. s ≡ Faulty f) → ListsArguments args arguments → OpensInputs answers old names (Err f) new → Writes (EvaluatesFiles answers names word args steps) old new held held r
+no_inputs answers old new names word args arguments steps held f r is lists opens =
+    given (ReadsArguments args) (behind_arguments answers names word steps) old new held held arguments r lists
+    (quiet_fault (λ o x n. OpensInputs answers o names x n) (behind_inputs word arguments steps) old new held f r is opens)
 
--- a file that was read
-pub file_evaluated : {F : Type 0} (answers : Answers F) (old new : F) (file word : List ℕ) (args : Option (List ℕ)) (arguments bytes : List ℕ) (steps : ℕ) (held holds : Option (List ℕ)) (r : Result ℕ Stop)
-    → ListsArguments args arguments → Opens answers old file (Ok bytes) new → Writes (EvaluatesTable word arguments steps bytes) tt tt held holds r
-    → Writes (EvaluatesFile answers file word args steps) old new held holds r
-file_evaluated answers old new file word args arguments bytes steps held holds r lists opens does =
-    given (ReadsArguments args) (behind_arguments answers file word steps) old new held holds arguments r lists
-    (quiet (λ o x n. Opens answers o file x n) (λ b. Still (EvaluatesTable word arguments steps b)) old new new held holds bytes r opens
-    (still (EvaluatesTable word arguments steps bytes) new held holds r does))
+-- inputs that were read
+pub inputs_evaluated : {F : Type 0} (answers : Answers F) (old new : F) (names : InputNames) (word : List ℕ) (args : Option (List ℕ)) (arguments : List ℕ) (inputs : Inputs) (steps : ℕ) (held holds : Option (List ℕ)) (r : Result ℕ Stop)
+    → ListsArguments args arguments → OpensInputs answers old names (Ok inputs) new → Writes (EvaluatesTables word arguments steps (tables_of inputs)) tt tt held holds r
+    → Writes (EvaluatesFiles answers names word args steps) old new held holds r
+inputs_evaluated answers old new names word args arguments inputs steps held holds r lists opens does =
+    given (ReadsArguments args) (behind_arguments answers names word steps) old new held holds arguments r lists
+    (quiet (λ o x n. OpensInputs answers o names x n) (behind_inputs word arguments steps) old new new held holds inputs r opens
+    (still (EvaluatesTables word arguments steps (tables_of inputs)) new held holds r does))
+
+-- what stands behind the inputs of `names`, and behind their load
+abbrev behind_tables : {F : Type 0} → Inputs → Step F ℕ
+behind_tables inputs = Then (Gives (Loads (tables_of inputs))) (λ ns. Tells (names_text ns) 0)
+
+-- no names: inputs that cannot be read, or tables that cannot be loaded
+pub no_names : {F : Type 0} (answers : Answers F) (old new : F) (names : InputNames) (held : Option (List ℕ)) (f : Fault) (r : Result ℕ Stop)
+    → IsErrAnd r (λ s. s ≡ Faulty f) → OpensInputs answers old names (Err f) new → Writes (ListsNames answers names) old new held held r
+no_names answers old new names held f r is opens = quiet_fault (λ o x n. OpensInputs answers o names x n) behind_tables old new held f r is opens
+
+pub no_namespace : {F : Type 0} (answers : Answers F) (old new : F) (names : InputNames) (inputs : Inputs) (held : Option (List ℕ)) (f : Fault) (r : Result ℕ Stop)
+    → IsErrAnd r (λ s. s ≡ Faulty f) → OpensInputs answers old names (Ok inputs) new → Loads (tables_of inputs) (Err f) → Writes (ListsNames answers names) old new held held r
+no_namespace answers old new names inputs held f r is opens fails =
+    quiet (λ o x n. OpensInputs answers o names x n) behind_tables old new new held held inputs r opens
+    (given_fault (Loads (tables_of inputs)) (λ ns. Tells (names_text ns) 0) new held f r is fails)
+
+-- the names of tables that were loaded
+pub names_listed : {F : Type 0} (answers : Answers F) (old new : F) (names : InputNames) (inputs : Inputs) (ns : Shown) (held holds : Option (List ℕ)) (r : Result ℕ Stop)
+    → OpensInputs answers old names (Ok inputs) new → Loads (tables_of inputs) (Ok ns) → Writes (Tells (names_text ns) 0) new new held holds r
+    → Writes (ListsNames answers names) old new held holds r
+names_listed answers old new names inputs ns held holds r opens loaded tells =
+    quiet (λ o x n. OpensInputs answers o names x n) behind_tables old new new held holds inputs r opens
+    (given (Loads (tables_of inputs)) (λ shown. Tells (names_text shown) 0) new new held holds ns r loaded tells)

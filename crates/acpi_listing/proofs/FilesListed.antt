@@ -65,7 +65,7 @@ LeftFrom answers old now xs i mid held between =
     → Writes (ListsFiles answers 0 (map now xs)) old new held holds r
 
 -- the names from one on
-names_from : {X : Type 0} (now : X → List ℕ) (xs : List X) (i : ℕ) (d : X) → i < length xs
+pub names_from : {X : Type 0} (now : X → List ℕ) (xs : List X) (i : ℕ) (d : X) → i < length xs
     → map now (drop i xs) ≡ now (get_or xs i d) ∷ map now (drop (i + 1) xs)
 names_from now xs i d below = rw add-one (ap (map now) (drop-cons xs i d below))
 

@@ -1,3 +1,4 @@
+pub mod FilesRead
 pub mod FilesListed
 pub mod Evaluations
 pub mod Elements

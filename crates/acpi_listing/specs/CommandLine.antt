@@ -14,9 +14,6 @@ files_rule = record (new_rule (codes "files")) {
   range = Some (record { start_inclusive = 1; end_inclusive = usize_max });
 }
 
-abbrev pub file_rule : Rule
-file_rule = record (new_rule (codes "file")) { required = true; action = Some Set }
-
 -- an option with one value
 abbrev pub option_rule : List ℕ → Rule
 option_rule name = record (new_rule name) { long = Some name; action = Some Set }
@@ -34,15 +31,18 @@ plain_rule = record (option_rule (codes "plain")) {
   parser = Some (Unsigned 0 18446744073709551615);
 }
 
-abbrev pub tables_app : App
-tables_app = with_rule (new_app (codes "tables")) files_rule
+-- a command that takes files alone
+abbrev pub files_app : List ℕ → App
+files_app name = with_rule (new_app name) files_rule
 
 abbrev pub eval_app : App
-eval_app = with_rule (with_rule (with_rule (with_rule (new_app (codes "eval")) method_rule) args_rule) plain_rule) file_rule
+eval_app = with_rule (with_rule (with_rule (with_rule (new_app (codes "eval")) method_rule) args_rule) plain_rule) files_rule
 
 -- the words have no program's name in front, and one of the commands is wanted
 abbrev pub commands_app : App
 commands_app = on_top (λ s. record s { no_binary_name = true; subcommand_required = true }) (new_app (codes "acpicheck"))
 
 abbrev pub acpicheck_app : App
-acpicheck_app = with_subcommand (with_subcommand commands_app tables_app.top) eval_app.top
+acpicheck_app =
+    with_subcommand (with_subcommand (with_subcommand commands_app
+    (files_app (codes "tables")).top) (files_app (codes "names")).top) eval_app.top

@@ -1,13 +1,12 @@
 -- What the commands do, from words that were read to what is printed.
-use Rattle.std.specs.Prelude.{◌≡◌, ◌≤◌, ◌⊎◌, ◌-◌, ◌^◌, ℕ, List, [], ◌∷◌, ◌++◌, All, Bool, codes, option_and_then, length, Option, Some, None, Result, Ok, Err, IfOk, map, option_map, vec_items}
+use Rattle.std.specs.Prelude.{◌≡◌, ◌≤◌, ◌⊎◌, ◌-◌, ◌^◌, ℕ, List, ◌++◌, All, Bool, option_and_then, length, Option, Some, None, Result, Ok, Err, IfOk, map, option_map, vec_items}
 use Rattle.std.specs.Io.KnownBytes.{Appends}
 use Rattle.aml_namespace.specs.Widths.{bits_of}
 use Rattle.aml_operators.specs.Tree.{Tree, trees}
 use Rattle.aml_tree.specs.declared.fault.Refusal.{Refusal}
 use Rattle.aml_tree.specs.declared.fault.TreeFault.TheVariants.{Refused}
-use Rattle.aml_namespace.specs.declared.fault.LoadRefusal.{LoadRefusal}
 use Rattle.aml_namespace.specs.declared.object.Method.{Method}
-use Rattle.aml_namespace.specs.Load.{Shown, IsLoaded, FaultyLoad}
+use Rattle.aml_namespace.specs.Load.{Shown}
 use Rattle.aml_namespace.specs.Names.{method_at, IsBodyOf, ReadsBodyOf}
 use Rattle.aml_namespace.specs.Printed.{printed_object}
 use Rattle.aml_plain.specs.Methods.{Evaluates}
@@ -15,9 +14,12 @@ use Rattle.aml_plain.specs.declared.body.Outcome.{Outcome}
 use Rattle.aml_plain.specs.declared.body.Outcome.TheVariants.{Done, AmlError, OutOfSteps}
 use Rattle.acpi_listing.specs.Arguments.{ListsArguments, ListsBadArguments}
 use Rattle.acpi_text.specs.Lists.{Lists}
+use Rattle.acpi_text.specs.Names.{names_text, path_of, path_text}
 use Rattle.acpi_text.specs.Outcome.{outcome_line, refusal_line}
 use Rattle.acpi_listing.specs.Faults.{fault_line}
-use Rattle.acpi_listing.specs.Files.{Answers, Reads, ListsFiles}
+use Rattle.acpi_listing.specs.Files.{Answers, ListsFiles}
+use Rattle.acpi_listing.specs.Inputs.{ReadsInputs, tables_of}
+use Rattle.acpi_listing.specs.Loading.{Loads}
 use Rattle.acpi_listing.specs.Steps.{Step, Then, Gives, Still, Tells, Tries}
 use Rattle.acpi_listing.specs.FirstLine.{StartsWith, FailsToStart}
 use Rattle.acpi_listing.specs.Input.{IsRead, hex_answers}
@@ -27,26 +29,19 @@ use Rattle.acpi_listing.specs.declared.fault.Fault.TheVariants as fault
 use Rattle.acpi_listing.specs.declared.fault.Stop.{Stop}
 use Rattle.acpi_listing.specs.declared.fault.Stop.TheVariants.{Fault as Faulty, Run}
 use Rattle.acpi_listing.specs.declared.input.Input.{Input}
+use Rattle.acpi_listing.specs.declared.inputs.InputNames.{InputNames}
 use Rattle.acpi_listing.specs.declared.hex_lines.HexLines.{HexLines}
 use Rattle.acpi_text.specs.declared.writing.RunFault.{RunFault}
 use Rattle.acpi_listing.specs.declared.words.Request.{Request}
-use Rattle.acpi_listing.specs.declared.words.Request.TheVariants.{Tables, Eval}
+use Rattle.acpi_listing.specs.declared.words.Request.TheVariants.{Tables, Names, Eval}
 
 -- the method whose printed path, or an alias's, a word is
-abbrev pub Names : Shown → List ℕ → ℕ → Method → Type 0
-Names ns word id m = (printed_object ns.entries word ≡ Some id) × (method_at ns id ≡ Some m)
+abbrev pub IsMethodAt : Shown → List ℕ → ℕ → Method → Type 0
+IsMethodAt ns word id m = (printed_object ns.entries word ≡ Some id) × (method_at ns id ≡ Some m)
 
 -- no method has a word's path
-abbrev pub NamesNone : Shown → List ℕ → Type 0
-NamesNone ns word = option_and_then (method_at ns) (printed_object ns.entries word) ≡ None
-
--- what `_OS_` tells
-abbrev pub os_name : List ℕ
-os_name = codes "acpicheck"
-
--- why a table has no namespace
-abbrev pub FailsToLoad : List ℕ → Fault → Type 0
-FailsToLoad bytes f = (refusal : LoadRefusal) × FaultyLoad (bytes ∷ []) os_name refusal × (f ≡ fault.Load refusal)
+abbrev pub IsNoMethodAt : Shown → List ℕ → Type 0
+IsNoMethodAt ns word = option_and_then (method_at ns) (printed_object ns.entries word) ≡ None
 
 -- a method takes arguments: as many as it has, each an integer of the namespace
 abbrev pub Takes : Shown → Method → List ℕ → Type 0
@@ -62,14 +57,10 @@ outcome_status OutOfSteps = 3
 abbrev pub ReadsArguments : Option (List ℕ) → Result (List ℕ) Fault → Type 0
 ReadsArguments args = Tries (ListsArguments args) (λ f. (f ≡ fault.BadArgs) × ListsBadArguments args)
 
--- the namespace of a table, or the first fault of its load
-abbrev pub Loads : List ℕ → Result Shown Fault → Type 0
-Loads bytes = Tries (IsLoaded (bytes ∷ []) os_name) (FailsToLoad bytes)
-
 -- the method of that path
 abbrev pub Finds : Shown → List ℕ → Result (ℕ × Method) Fault → Type 0
-Finds ns word (Ok (id, m)) = Names ns word id m
-Finds ns word (Err f) = NamesNone ns word × (f ≡ fault.NoSuchObject)
+Finds ns word (Ok (id, m)) = IsMethodAt ns word id m
+Finds ns word (Err f) = IsNoMethodAt ns word × (f ≡ fault.NoSuchObject)
 
 -- the terms of a method's body, or why it cannot be read
 abbrev pub ReadsBody : Shown → ℕ → Method → Result (Result (List Tree) Refusal) Fault → Type 0
@@ -87,27 +78,38 @@ abbrev pub IsMeant : Shown → ℕ → Method → List Tree → List ℕ → ℕ
 IsMeant ns id m ts arguments steps (Ok outcome) = Evaluates ns id m (trees ts) arguments steps outcome
 IsMeant ns id m ts arguments steps (Err _) = ⊥
 
+-- `names`: the files, their load, the lines of all names
+abbrev pub ListsNames : {F : Type 0} → Answers F → InputNames → Step F ℕ
+ListsNames answers names =
+    Then (ReadsInputs answers names) (λ inputs.
+    Then (Gives (Loads (tables_of inputs))) (λ ns.
+    Tells (names_text ns) 0))
+
+-- the first path of the object with a number, as it is printed
+abbrev pub printed_path : Shown → ℕ → List ℕ
+printed_path ns id = path_text (path_of ns.entries id)
+
 -- `eval` of a body: a refused one has its line; else the arguments must fit, and the outcome has its line
-abbrev pub EvaluatesBody : Shown → ℕ × Method → List ℕ → List ℕ → ℕ → Result (List Tree) Refusal → Step (Unit {0}) ℕ
-EvaluatesBody ns (id, m) word arguments steps (Err refusal) = Tells (refusal_line word m.table refusal) 3
-EvaluatesBody ns (id, m) word arguments steps (Ok ts) =
+abbrev pub EvaluatesBody : Shown → ℕ × Method → List ℕ → ℕ → Result (List Tree) Refusal → Step (Unit {0}) ℕ
+EvaluatesBody ns (id, m) arguments steps (Err refusal) = Tells (refusal_line (printed_path ns id) m.table refusal) 3
+EvaluatesBody ns (id, m) arguments steps (Ok ts) =
     Then (Gives (Fit ns m arguments)) (λ _.
     Then (Gives (IsMeant ns id m ts arguments steps)) (λ outcome.
     Tells (outcome_line outcome) (outcome_status outcome)))
 
--- `eval` of a table: the load, the method of that path, its body
-abbrev pub EvaluatesTable : List ℕ → List ℕ → ℕ → List ℕ → Step (Unit {0}) ℕ
-EvaluatesTable word arguments steps bytes =
-    Then (Gives (Loads bytes)) (λ ns.
+-- `eval` of tables: the load, the method of that path, its body
+abbrev pub EvaluatesTables : List ℕ → List ℕ → ℕ → List (List ℕ) → Step (Unit {0}) ℕ
+EvaluatesTables word arguments steps tables =
+    Then (Gives (Loads tables)) (λ ns.
     Then (Gives (Finds ns word)) (λ found.
-    Then (Gives (ReadsBody ns found.0 found.1)) (EvaluatesBody ns found word arguments steps)))
+    Then (Gives (ReadsBody ns found.0 found.1)) (EvaluatesBody ns found arguments steps)))
 
--- `eval`: the arguments, the file, its table
-abbrev pub EvaluatesFile : {F : Type 0} → Answers F → List ℕ → List ℕ → Option (List ℕ) → ℕ → Step F ℕ
-EvaluatesFile answers file word args steps =
+-- `eval`: the arguments, the files, their tables
+abbrev pub EvaluatesFiles : {F : Type 0} → Answers F → InputNames → List ℕ → Option (List ℕ) → ℕ → Step F ℕ
+EvaluatesFiles answers names word args steps =
     Then (Gives (ReadsArguments args)) (λ arguments.
-    Then (Reads answers file) (λ bytes.
-    Still (EvaluatesTable word arguments steps bytes)))
+    Then (ReadsInputs answers names) (λ inputs.
+    Still (EvaluatesTables word arguments steps (tables_of inputs))))
 
 -- what the words ask for, or why there is nothing
 abbrev pub Asks : List (List ℕ) → Result Request Fault → Type 0
@@ -116,7 +118,8 @@ Asks words = Tries (AsksFor words) (λ f. (f ≡ fault.CommandLine) × AsksNothi
 -- what is asked for is done, with files of a source
 abbrev pub Obeys : {F : Type 0} → Answers F → Request → Step F ℕ
 Obeys answers (Tables names) = ListsFiles answers 0 (map (λ name. name.now) (vec_items names))
-Obeys answers (Eval request) = EvaluatesFile answers request.file.now request.method.now (option_map (λ text. text.now) request.args) request.steps
+Obeys answers (Names names) = ListsNames answers names
+Obeys answers (Eval request) = EvaluatesFiles answers request.inputs request.method.now (option_map (λ text. text.now) request.args) request.steps
 
 -- a command: its words, and what they ask for
 abbrev pub ObeysWords : {F : Type 0} → Answers F → List (List ℕ) → Step F ℕ

@@ -1,5 +1,5 @@
 -- Files that are read from a source, one after the other, and listed.
-use Rattle.std.specs.Prelude.{◌≡◌, ◌≤◌, ◌<◌, ◌⊎◌, ◌+◌, ℕ, List, [], ◌∷◌, length, Some, Result, Ok, Err, Vec, vec_items}
+use Rattle.std.specs.Prelude.{◌≡◌, ◌≤◌, ◌<◌, ◌⊎◌, ◌+◌, ℕ, List, [], ◌∷◌, length, Some, Result, Ok, Err, Vec, map, vec_items}
 use Rattle.aml_namespace.specs.declared.fault.LoadFault.{LoadFault}
 use Rattle.aml_namespace.specs.declared.fault.LoadFault.TheVariants as load
 use Rattle.acpi_tables.specs.Fault.{first_fault}
@@ -44,6 +44,22 @@ Opens answers old name (Err f) new =
 -- a file is read
 abbrev pub Reads : {F : Type 0} → Answers F → List ℕ → Step F (List ℕ)
 Reads answers name = Quietly (λ old r new. Opens answers old name r new)
+
+-- files are read one after the other, up to the first that cannot be had; before each, memory may be wanted
+abbrev pub OpensAll : {F : Type 0} → Answers F → F → List (List ℕ) → Result (List (List ℕ)) Fault → F → Type 0
+OpensAll answers old [] (Ok all) new = (all ≡ []) × (new ≡ old)
+OpensAll answers old (name ∷ names) (Ok all) new =
+    (bytes : List ℕ) × (mid : _) × (more : List (List ℕ)) × Opens answers old name (Ok bytes) mid
+    × OpensAll answers mid names (Ok more) new × (all ≡ bytes ∷ more)
+OpensAll answers old [] (Err f) new = (f ≡ fault.NoMemory) × (new ≡ old)
+OpensAll answers old (name ∷ names) (Err f) new =
+    ((f ≡ fault.NoMemory) × (new ≡ old)) ⊎ (Opens answers old name (Err f) new
+    ⊎ ((bytes : List ℕ) × (mid : _) × Opens answers old name (Ok bytes) mid × OpensAll answers mid names (Err f) new))
+
+-- the bytes of files that were read
+abbrev pub files_of : {A B E : Type 0} → Result (Vec (Vec ℕ A) B) E → Result (List (List ℕ)) E
+files_of (Ok files) = Ok (map vec_items (vec_items files))
+files_of (Err e) = Err e
 
 -- the table of a file, or the first fault of the file with that number
 abbrev pub ReadsTable : ℕ → List ℕ → Result Table Fault → Type 0

@@ -7,5 +7,7 @@ pub mod CommandLine
 pub mod Words
 pub mod Input
 pub mod FirstLine
+pub mod Inputs
+pub mod Loading
 pub mod Commands
 pub mod Program

@@ -43,7 +43,7 @@ Prints line old text (Ok _) new = (text ≡ line) × (new ≡ old)
 Prints line old text (Err (Faulty _)) new = ⊥
 Prints line old text (Err (Run _)) new = ((rest : List ℕ) × (line ≡ text ++ rest)) × (new ≡ old)
 
--- the last line of a command, and its status
+-- the last text of a command, and its status
 abbrev pub Tells : {F : Type 0} → List ℕ → ℕ → Step F ℕ
 Tells line status = Then (Prints line) (λ _. Ends status)
 

@@ -3,8 +3,10 @@ use Rattle.std.specs.Prelude.{◌≡◌, ◌<◌, ◌^◌, ℕ, List, [], Option
 use Rattle.std.specs.Str.Parse.{IsNumeral, digits_value, without_leading_plus}
 use Rattle.clap.specs.Words.{Row, Text, all_of, fault_of, first_of, one_of, subcommand_of}
 use Rattle.acpi_listing.specs.CommandLine.{acpicheck_app}
+use Rattle.acpi_listing.specs.Inputs.{file_names}
+use Rattle.acpi_listing.specs.declared.inputs.InputNames.{InputNames}
 use Rattle.acpi_listing.specs.declared.words.Request.{Request}
-use Rattle.acpi_listing.specs.declared.words.Request.TheVariants.{Tables, Eval}
+use Rattle.acpi_listing.specs.declared.words.Request.TheVariants.{Tables, Names, Eval}
 use Rattle.acpi_listing.specs.declared.words.EvalRequest.{EvalRequest}
 
 -- a text is a number below 2^64 in decimal digits, a plus may stand first
@@ -12,10 +14,14 @@ abbrev pub IsCount : Text → ℕ → Type 0
 IsCount text n =
     let digits = without_leading_plus text in IsNumeral 10 digits × (n < 2 ^ 64) × (n ≡ digits_value 10 digits)
 
+-- the inputs are the values of their options, and the files
+abbrev pub HasInputs : List Row → InputNames → Type 0
+HasInputs rows names = all_of (codes "files") rows ≡ Some (file_names names)
+
 -- each part of an evaluation is the value of its option
 abbrev pub HasParts : List Row → EvalRequest → Type 0
 HasParts rows request =
-    (first_of (codes "file") rows ≡ Some request.file.now)
+    HasInputs rows request.inputs
     × (first_of (codes "method") rows ≡ Some request.method.now)
     × (first_of (codes "args") rows ≡ option_map (λ text. text.now) request.args)
     × ((text : Text) × (one_of (codes "plain") rows ≡ Some text) × IsCount text request.steps)
@@ -25,6 +31,7 @@ abbrev pub IsRequest : Option (Text × List Row) → Request → Type 0
 IsRequest found (Tables names) =
     (rows : List Row) × (found ≡ Some (codes "tables", rows))
     × (all_of (codes "files") rows ≡ Some (map (λ name. name.now) (vec_items names)))
+IsRequest found (Names names) = (rows : List Row) × (found ≡ Some (codes "names", rows)) × HasInputs rows names
 IsRequest found (Eval request) = (rows : List Row) × (found ≡ Some (codes "eval", rows)) × HasParts rows request
 
 -- the words are a command line, and this is what they ask for

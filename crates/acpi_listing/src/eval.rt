@@ -1,23 +1,25 @@
 // The command `eval`.
 
-ghost use Rattle.std.specs.Prelude.{◌≡◌, ◌≤◌, ◌⊎◌, ◌↔◌, ◌∷◌, [], ℕ, List, true};
+ghost use Rattle.std.specs.Prelude.{◌≡◌, ◌≤◌, ◌⊎◌, ◌↔◌, ℕ, List, true};
 ghost use Rattle.std.specs.Prelude.{IfOk, IfErr, length, option_map, vec_items};
 ghost use Rattle.acpi_listing.specs.Arguments.{ListsArguments, ListsBadArguments};
-ghost use Rattle.aml_namespace.specs.Load.{IsLoaded};
 ghost use Rattle.aml_namespace.specs.Names.{method_at};
 ghost use Rattle.aml_namespace.specs.Shows.{shown};
-ghost use Rattle.acpi_listing.specs.Commands.{EvaluatesFile, EvaluatesTable, FailsToLoad, Names, NamesNone, os_name};
+ghost use Rattle.acpi_listing.specs.Commands.{EvaluatesFiles, EvaluatesTables, IsMethodAt, IsNoMethodAt, printed_path};
 ghost use Rattle.acpi_listing.specs.Commands.{Takes, outcome_status};
-ghost use Rattle.acpi_listing.specs.Steps.{Tells, Tries, Writes};
+ghost use Rattle.acpi_listing.specs.Steps.{Tells, Writes};
+ghost use Rattle.acpi_listing.specs.Inputs.{tables_of};
 ghost use Rattle.acpi_text.specs.Outcome.{outcome_line, refusal_line};
 ghost use Rattle.acpi_listing.specs.declared.fault.Fault.TheVariants as fault;
 
 use crate::arguments::read_arguments;
 use crate::fault::{Fault, Stop};
-use crate::source::{Source, read_within_limit};
+use crate::inputs::Inputs;
+use crate::load::load;
+use crate::source::Source;
 use crate::words::EvalRequest;
 use acpi_text::{list_evaluation, list_refusal};
-use aml_namespace::{Host, Method, Namespace, ObjectId};
+use aml_namespace::{Method, Namespace, ObjectId};
 use aml_plain::{Outcome, evaluate_terms};
 use aml_tree::{Refusal, TreeFault};
 use std::alloc::Global;
@@ -31,13 +33,13 @@ pub fn evaluate<F: Source, W: Write>(
     out: &mut W,
 ) -> Result<u8, Stop>
     ensures status { IfOk result (λ status. status ≤ 3) }
-    ensures printed { Writes (EvaluatesFile F.answers request.now.file.now request.now.method.now
+    ensures printed { Writes (EvaluatesFiles F.answers request.now.inputs request.now.method.now
         (option_map (λ text. text.now) request.now.args) request.now.steps)
         files.old files.new (W.contents out.old) (W.contents out.new) result }
 {
     let arguments = arguments_of(alloc, request)?;
-    let table = read_within_limit(files, request.file)?;
-    evaluate_table(alloc, request, &arguments, &table, out)
+    let inputs = Inputs::read(alloc, &request.inputs, files)?;
+    evaluate_inputs(alloc, request, &arguments, &inputs, out)
 }
 
 fn arguments_of(alloc: Global, request: &EvalRequest<'_>) -> Result<Vec<u64>, Fault>
@@ -52,25 +54,25 @@ fn arguments_of(alloc: Global, request: &EvalRequest<'_>) -> Result<Vec<u64>, Fa
     }
 }
 
-// Evaluates the method of a table.
-fn evaluate_table<W: Write>(
+// Evaluates a method of the tables that were read.
+fn evaluate_inputs<W: Write>(
     alloc: Global,
     request: &EvalRequest<'_>,
     arguments: &[u64],
-    table: &[u8],
+    inputs: &Inputs,
     out: &mut W,
 ) -> Result<u8, Stop>
     ensures status { IfOk result (λ status. status ≤ 3) }
-    ensures printed { Writes (EvaluatesTable request.now.method.now arguments.now request.now.steps
-        table.now) tt tt (W.contents out.old) (W.contents out.new) result }
+    ensures printed { Writes (EvaluatesTables request.now.method.now arguments.now request.now.steps
+        (tables_of inputs.now)) tt tt (W.contents out.old) (W.contents out.new) result }
 {
-    let namespace = load(alloc, table)?;
+    let namespace = load(alloc, inputs)?;
     let (id, method) = find_method(&namespace, request.method)?;
     let body = match namespace.tree(alloc, id) {
         Ok(body) => body,
         Err(TreeFault::NoMemory) => return Err(Stop::Fault(Fault::NoMemory)),
         Err(TreeFault::Refused(refusal)) => {
-            return tell_refusal(alloc, out, request.method, method.table, refusal);
+            return tell_refusal(alloc, out, &namespace, id, method.table, refusal);
         }
     };
     if !fits(&namespace, method, arguments) {
@@ -94,39 +96,26 @@ fn tell_outcome<W: Write>(alloc: Global, out: &mut W, outcome: &Outcome) -> Resu
 fn tell_refusal<W: Write>(
     alloc: Global,
     out: &mut W,
-    path: &str,
+    namespace: &Namespace<'_>,
+    id: ObjectId,
     table: usize,
     refusal: Refusal,
 ) -> Result<u8, Stop>
     ensures status { IfOk result (λ status. status ≤ 3) }
-    ensures printed { Writes (Tells (refusal_line path.now table refusal) 3)
-        (tt {0}) (tt {0}) (W.contents out.old) (W.contents out.new) result }
+    ensures printed { let path = printed_path (shown namespace.now) id.0 in
+        Writes (Tells (refusal_line path table refusal) 3) (tt {0}) (tt {0})
+        (W.contents out.old) (W.contents out.new) result }
 {
-    list_refusal(alloc, out, path, table, refusal)?;
+    list_refusal(alloc, out, namespace, id, table, refusal)?;
     Ok(3)
-}
-
-/// The text of `_OS_`.
-const OS_NAME: &[u8] = b"acpicheck";
-
-fn load<'a>(alloc: Global, table: &'a [u8]) -> Result<Namespace<'a>, Fault>
-    ensures { Tries (λ ns. IsLoaded (table.now ∷ []) os_name (shown ns)) (FailsToLoad table.now) result }
-{
-    let host = Host {
-        os: OS_NAME,
-        osi: &[],
-    };
-    match Namespace::load(alloc, &[table], host) {
-        Ok(namespace) => Ok(namespace),
-        Err(fault) => Err(Fault::from(fault)),
-    }
 }
 
 // The method whose printed path, or an alias's, the word is.
 fn find_method(namespace: &Namespace<'_>, word: &str) -> Result<(ObjectId, Method), Fault>
-    ensures found { IfOk result (λ found. Names (shown namespace.now) word.now found.0.0 found.1) }
+    ensures found { IfOk result
+        (λ found. IsMethodAt (shown namespace.now) word.now found.0.0 found.1) }
     ensures none { IfErr result
-        (λ f. NamesNone (shown namespace.now) word.now × (f ≡ fault.NoSuchObject)) }
+        (λ f. IsNoMethodAt (shown namespace.now) word.now × (f ≡ fault.NoSuchObject)) }
 {
     let Some(id) = namespace.find(word.as_bytes()) else {
         return Err(Fault::NoSuchObject);

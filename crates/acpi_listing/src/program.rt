@@ -10,6 +10,7 @@ use crate::fault_line::list_fault;
 use crate::files::list_files;
 use crate::first_line::read_first_line;
 use crate::input::read_input;
+use crate::names::list_names_of;
 use crate::source::Source;
 use crate::words::{Request, read_words};
 use acpi_text::{RunFault, put};
@@ -79,6 +80,7 @@ fn obey<S: AsStr, F: Source, W: Write>(
 {
     match read_words(alloc, words)? {
         Request::Tables { files: names } => list_files(alloc, names.as_slice(), files, out),
+        Request::Names(inputs) => list_names_of(alloc, &inputs, files, out),
         Request::Eval(request) => evaluate(alloc, &request, files, out),
     }
 }

@@ -1,11 +1,12 @@
 // Where a command's files come from.
 
-ghost use Rattle.std.specs.Prelude.{ℕ, List, Result};
-ghost use Rattle.acpi_listing.specs.Files.{Opens, bytes_of};
+ghost use Rattle.std.specs.Prelude.{◌≡◌, ℕ, List, Result, IfOk, length, map};
+ghost use Rattle.acpi_listing.specs.Files.{Opens, OpensAll, bytes_of, files_of};
 ghost use Rattle.acpi_listing.specs.declared.source.SourceFault.{SourceFault};
 
 use crate::fault::Fault;
 use crate::input::INPUT_LIMIT;
+use std::alloc::Global;
 use thiserror::Error;
 
 /// Why a file has no bytes.
@@ -38,4 +39,21 @@ pub fn read_within_limit<F: Source>(files: &mut F, name: &str) -> Result<Vec<u8>
         return Err(Fault::File);
     }
     Ok(bytes)
+}
+
+/// Reads files of at most [`INPUT_LIMIT`] bytes each, one after the other.
+pub fn read_files<F: Source>(
+    alloc: Global,
+    names: &[&str],
+    files: &mut F,
+) -> Result<Vec<Vec<u8>>, Fault>
+    ensures read { OpensAll F.answers files.old (map (λ name. name.now) names.now) (files_of result)
+        files.new }
+    ensures count { IfOk result (λ read. length read.items ≡ length names.now) }
+{
+    let mut read = Vec::new(alloc);
+    for name in names {
+        read.push(read_within_limit(files, name)?)?;
+    }
+    Ok(read)
 }

@@ -4,11 +4,12 @@ ghost use Rattle.std.specs.Prelude.{◌≡◌, ◌⊎◌, IfErr, IfOk, IfSome, S
 ghost use Rattle.clap.specs.Words.{HasKind, all_of, app_of, fault_of, found_of, rows_of, rule_of, subcommand_rows_of};
 ghost use Rattle.clap.specs.declared.Command.TheViews.{out-Command as fields_of};
 ghost use Rattle.acpi_listing.specs.Steps.{Tries};
-ghost use Rattle.acpi_listing.specs.CommandLine.{acpicheck_app, eval_app, tables_app, file_rule, files_rule, option_rule, plain_rule};
-ghost use Rattle.acpi_listing.specs.Words.{AsksFor, AsksNothing, HasParts, IsRequest};
+ghost use Rattle.acpi_listing.specs.CommandLine.{acpicheck_app, commands_app, eval_app, files_app, files_rule, option_rule, plain_rule};
+ghost use Rattle.acpi_listing.specs.Words.{AsksFor, AsksNothing, HasInputs, HasParts, IsRequest};
 ghost use Rattle.acpi_listing.specs.declared.fault.Fault.TheVariants as fault;
 
 use crate::fault::Fault;
+use crate::inputs::InputNames;
 use clap::error::ErrorKind;
 use clap::{Arg, ArgAction, ArgMatches, Command, Error, value_parser};
 use std::alloc::{AllocError, Global};
@@ -19,6 +20,8 @@ use std::convert::AsStr;
 pub enum Request<'a> {
     /// To list tables.
     Tables { files: Vec<&'a str> },
+    /// To list the names of a DSDT and its SSDTs.
+    Names(InputNames<'a>),
     /// To evaluate a method.
     Eval(EvalRequest<'a>),
 }
@@ -26,8 +29,8 @@ pub enum Request<'a> {
 /// Which method is to be evaluated, and how.
 #[derive(Debug, Drop)]
 pub struct EvalRequest<'a> {
-    /// The file of the DSDT.
-    pub file: &'a str,
+    /// The DSDT and its SSDTs.
+    pub inputs: InputNames<'a>,
     /// The method's path.
     pub method: &'a str,
     /// The text that lists the arguments.
@@ -77,18 +80,27 @@ fn fault_of_kind(kind: ErrorKind) -> Fault
 fn command<'a>(alloc: Global) -> Result<Command<'a>, AllocError>
     ensures { IfOk result (λ c. app_of c ≡ acpicheck_app) }
 {
-    Command::new(alloc, "acpicheck")
-        .no_binary_name(true)
-        .subcommand_required(true)
-        .subcommand(tables_command(alloc)?)?
+    program(alloc)
+        .subcommand(files_command(alloc, "tables")?)?
+        .subcommand(files_command(alloc, "names")?)?
         .subcommand(eval_command(alloc)?)
 }
 
-fn tables_command<'a>(alloc: Global) -> Result<Command<'a>, AllocError>
-    ensures app { IfOk result (λ c. app_of c ≡ tables_app) }
+// The words have no program's name in front, and a command is wanted.
+fn program<'a>(alloc: Global) -> Command<'a>
+    ensures { app_of result ≡ commands_app }
+{
+    Command::new(alloc, "acpicheck")
+        .no_binary_name(true)
+        .subcommand_required(true)
+}
+
+// A command of that name, which takes files alone.
+fn files_command<'a>(alloc: Global, name: &'a str) -> Result<Command<'a>, AllocError>
+    ensures app { IfOk result (λ c. app_of c ≡ files_app name.entry.now) }
     ensures local { IfOk result (λ c. (fields_of c).has_globals ≡ false) }
 {
-    Command::new(alloc, "tables").arg(files_arg(alloc))
+    Command::new(alloc, name).arg(files_arg(alloc))
 }
 
 fn eval_command<'a>(alloc: Global) -> Result<Command<'a>, AllocError>
@@ -99,7 +111,7 @@ fn eval_command<'a>(alloc: Global) -> Result<Command<'a>, AllocError>
         .arg(option_arg(alloc, "method").required(true))?
         .arg(option_arg(alloc, "args"))?
         .arg(steps_arg(alloc))?
-        .arg(file_arg(alloc))
+        .arg(files_arg(alloc))
 }
 
 // One file or more.
@@ -111,15 +123,6 @@ fn files_arg<'a>(alloc: Global) -> Arg<'a>
         .required(true)
         .action(ArgAction::Append)
         .num_args(1..)
-}
-
-fn file_arg<'a>(alloc: Global) -> Arg<'a>
-    ensures rule { rule_of result ≡ file_rule }
-    ensures local { result.global ≡ false }
-{
-    Arg::new(alloc, "file")
-        .required(true)
-        .action(ArgAction::Set)
 }
 
 // The number of steps, below 2^64.
@@ -153,7 +156,8 @@ fn request_of<'a>(alloc: Global, matches: &ArgMatches<'a>) -> Result<Request<'a>
         "tables" => Ok(Request::Tables {
             files: files_of(alloc, found)?,
         }),
-        "eval" => Ok(Request::Eval(eval_of(found)?)),
+        "names" => Ok(Request::Names(inputs_of(alloc, found)?)),
+        "eval" => Ok(Request::Eval(eval_of(alloc, found)?)),
         _ => Err(Fault::CommandLine),
     }
 }
@@ -170,15 +174,25 @@ fn files_of<'a>(alloc: Global, found: &ArgMatches<'a>) -> Result<Vec<&'a str>, F
     }
 }
 
-// Each part of the request is the value of its option.
-fn eval_of<'a>(found: &ArgMatches<'a>) -> Result<EvalRequest<'a>, Fault>
-    ensures parts { IfOk result (HasParts (rows_of (found_of found.now))) }
-    ensures faults { IfErr result (λ f. (f ≡ fault.CommandLine)
-        × ((r : _) → HasParts (rows_of (found_of found.now)) r → ⊥)) }
+// The inputs of a command: the files.
+fn inputs_of<'a>(alloc: Global, found: &ArgMatches<'a>) -> Result<InputNames<'a>, Fault>
+    ensures { let rows = rows_of (found_of found.now) in
+        Tries (HasInputs rows)
+        (λ f. (f ≡ fault.CommandLine) × ((names : _) → HasInputs rows names → ⊥)) result }
 {
-    let Some(file) = found.get_str("file") else {
+    let files = files_of(alloc, found)?;
+    if files.is_empty() {
         return Err(Fault::CommandLine);
-    };
+    }
+    Ok(InputNames { files })
+}
+
+// Each part of the request is the value of its option.
+fn eval_of<'a>(alloc: Global, found: &ArgMatches<'a>) -> Result<EvalRequest<'a>, Fault>
+    ensures { let rows = rows_of (found_of found.now) in
+        Tries (HasParts rows)
+        (λ f. (f ≡ fault.CommandLine) × ((r : _) → HasParts rows r → ⊥)) result }
+{
     let Some(method) = found.get_str("method") else {
         return Err(Fault::CommandLine);
     };
@@ -186,7 +200,7 @@ fn eval_of<'a>(found: &ArgMatches<'a>) -> Result<EvalRequest<'a>, Fault>
         return Err(Fault::CommandLine);
     };
     Ok(EvalRequest {
-        file,
+        inputs: inputs_of(alloc, found)?,
         method,
         args: found.get_str("args"),
         steps,

@@ -4,11 +4,13 @@
 mod calls;
 mod names;
 mod rows;
+mod several;
 mod whole;
 
 use acpi_listing::{RunFault, run};
 use hex;
 use rows::{EVAL, INPUTS, TABLES};
+use several::SEVERAL;
 use std::alloc::{AllocError, Global};
 use std::io;
 use std::io::Write;
@@ -92,12 +94,19 @@ fn dsdt(alloc: Global, revision: u8, body: &str) -> Option<String> {
     bytes
         .extend_from_slice(&hex::decode(alloc, body).ok()?)
         .ok()?;
-    let length = u8::try_from(bytes.len()).ok()?;
-    *bytes.get_mut(4)? = length;
     *bytes.get_mut(8)? = revision;
-    let sum = bytes.iter().fold(0u8, |sum, b| sum.wrapping_add(*b));
-    *bytes.get_mut(9)? = 0u8.wrapping_sub(sum);
+    seal(&mut bytes)?;
     hex::encode(alloc, bytes.as_slice()).ok()
+}
+
+// Writes a table's length and checksum.
+fn seal(table: &mut [u8]) -> Option<()> {
+    let length = u32::try_from(table.len()).ok()?;
+    table.get_mut(4..8)?.copy_from_slice(&length.to_le_bytes());
+    *table.get_mut(9)? = 0;
+    let sum = table.iter().fold(0u8, |sum, b| sum.wrapping_add(*b));
+    *table.get_mut(9)? = 0u8.wrapping_sub(sum);
+    Some(())
 }
 
 // The input of an evaluation.
@@ -137,6 +146,14 @@ fn rows_of_tables(rt: HostRuntime) -> Result<(), Fail> {
     Ok(())
 }
 
+#[test]
+fn rows_of_several_files(rt: HostRuntime) -> Result<(), Fail> {
+    for (input, text, status) in SEVERAL {
+        prints(&rt, rt.alloc(), input, text, *status)?;
+    }
+    Ok(())
+}
+
 // What a command prints, into a writer that takes a byte at a time, and into one that fails at each
 // byte: a listing, an outcome, a fault's line and the line of a body that cannot be read.
 #[test]
@@ -148,6 +165,7 @@ fn writers(rt: HostRuntime) -> Result<(), Fail> {
         ("eval --plain 9 --method \\M000 --args 41 @", TABLE_1, 0),
         ("eval --plain 9 --method \\M001 @", TABLE_1, 1),
         ("eval --plain 9 --method \\M000 @", torn.as_str(), 3),
+        ("names @", TABLE_1, 0),
     ];
     for (words, table, status) in rows {
         let input = format!(in alloc; "{words}\n{table}\n{table}\n")?;

@@ -1,5 +1,5 @@
 -- How an evaluation ended, as it is printed.
-use Rattle.std.specs.Prelude.{ℕ, List, [], ◌∷◌, Some, None, codes, decimal}
+use Rattle.std.specs.Prelude.{ℕ, List, [], ◌∷◌, ◌++◌, Some, None, codes, decimal}
 use Rattle.aml_meaning.specs.Causes.{aml_cause_text}
 use Rattle.aml_tree.specs.Causes.{tree_cause_text}
 use Rattle.acpi_text.specs.Text.{joined, hex}
@@ -15,7 +15,11 @@ outcome_line (AmlError error) =
     joined (codes "error " ∷ decimal error.table ∷ codes " " ∷ decimal error.at ∷ codes " " ∷ aml_cause_text error.cause ∷ codes "\n" ∷ [])
 outcome_line OutOfSteps = codes "out of steps\n"
 
--- the line of a method whose body cannot be read: its path and table, and the place, number and name of what is wrong
+-- what stands behind a path whose method's body cannot be read: its table, and the place, number and name of what is wrong
+unfoldable pub refusal_part : ℕ → Refusal → List ℕ
+refusal_part table refusal =
+    joined (codes " refused " ∷ decimal table ∷ codes " " ∷ decimal refusal.at ∷ codes " " ∷ tree_cause_text refusal.cause ∷ codes "\n" ∷ [])
+
+-- the line of such a method
 unfoldable pub refusal_line : List ℕ → ℕ → Refusal → List ℕ
-refusal_line path table refusal =
-    joined (path ∷ codes " refused " ∷ decimal table ∷ codes " " ∷ decimal refusal.at ∷ codes " " ∷ tree_cause_text refusal.cause ∷ codes "\n" ∷ [])
+refusal_line path table refusal = path ++ refusal_part table refusal

@@ -5,6 +5,7 @@ mod escaped;
 mod items;
 mod names;
 mod outcome;
+mod path;
 mod refusal;
 mod structures;
 mod table;

@@ -2,13 +2,12 @@
 
 ghost use Rattle.std.specs.Prelude.{◌≡◌, ◌++◌, ◌<◌, length, slice_get, IfOk, OnOk, string_bytes};
 ghost use Rattle.acpi_text.specs.Lists.{Lists};
-ghost use Rattle.acpi_text.specs.Names.{content_text, entry_line, entry_text, kind_text, names_text, path_of, path_text, size_bits};
+ghost use Rattle.acpi_text.specs.Names.{content_text, entry_line, entry_text, kind_text, names_text, path_of, size_bits};
 ghost use Rattle.aml_namespace.specs.Paths.{Path};
 ghost use Rattle.aml_namespace.specs.Shows.{shown};
-ghost use Rattle.aml_namespace.specs.Steps.{path_seen};
 
+use crate::path::push_path;
 use crate::writing::{RunFault, put};
-use aml_lex::NameSeg;
 use aml_namespace::{BufferFieldSize, Content, Entry, Namespace, Object, ObjectId};
 use std::alloc::{AllocError, Global};
 use std::io::Write;
@@ -93,38 +92,6 @@ fn push_entry(
             push_path(alloc, line, namespace, id)
         }
     }
-}
-
-// Adds the path with this number.
-fn push_path(
-    alloc: Global,
-    line: &mut Vec<u8>,
-    namespace: &Namespace<'_>,
-    id: ObjectId,
-) -> Result<(), RunFault>
-    ensures { OnOk result (line.new.items
-        ≡ line.old.items ++ path_text (path_of (shown namespace.now).entries id.0)) }
-{
-    match namespace.path(alloc, id)? {
-        Some(path) => push_segments(line, path.as_slice())?,
-        None => push_segments(line, &[])?,
-    }
-    Ok(())
-}
-
-// Adds the path of these segments.
-#[tactic(auto, unfolding(crate::specs::Names::path_text))]
-fn push_segments(line: &mut Vec<u8>, path: &[NameSeg]) -> Result<(), AllocError>
-    ensures { OnOk result (line.new.items ≡ line.old.items ++ path_text (path_seen path.now)) }
-{
-    line.push(b'\\')?;
-    for (i, segment) in path.iter().enumerate() {
-        if i > 0 {
-            line.push(b'.')?;
-        }
-        line.extend_from_slice(&segment.bytes)?;
-    }
-    Ok(())
 }
 
 // The kind of an object.

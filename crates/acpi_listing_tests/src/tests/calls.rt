@@ -76,7 +76,7 @@ fn words_and_files(rt: HostRuntime) -> Result<(), Fail> {
             "fault E524 NoMemory\n",
             1,
         ),
-        (&["names", "dsdt.bin"], "", "fault E520 CommandLine\n", 2),
+        (&["verify", "dsdt.bin"], "", "fault E520 CommandLine\n", 2),
     ];
     for (words, front, last, status) in tables {
         let mut out = Vec::new(alloc);

@@ -1,8 +1,10 @@
 // The listing of a namespace's names.
 
-use acpi_listing::list_names;
+use super::seal;
+use acpi_listing::{Source, SourceFault, list_names, run_words};
 use aml_namespace::{Host, Namespace};
 use hex;
+use std::alloc::Global;
 use std::test::Fail;
 
 const PREDEFINED: &str =
@@ -37,5 +39,57 @@ fn names_of_tables(rt: HostRuntime) -> Result<(), Fail> {
         let text = format!(in alloc; "{PREDEFINED}{names}")?;
         assert_eq!(rt; out.as_slice(), text.as_bytes());
     }
+    Ok(())
+}
+
+const LETTERS: &[u8] = b"ABCDEFGHIJKLMNOPQRSTUVWXYZ0123456789";
+
+// A DSDT with so many names of Zero.
+fn table_of_zeros(alloc: Global, count: usize) -> Option<Vec<u8>> {
+    let mut bytes = hex::decode(alloc, &super::TABLE_1[..72]).ok()?;
+    for number in 0..count {
+        bytes.push(8).ok()?;
+        for place in [46_656, 1_296, 36, 1] {
+            bytes.push(*LETTERS.get(number / place % 36)?).ok()?;
+        }
+        bytes.push(0).ok()?;
+    }
+    seal(&mut bytes)?;
+    Some(bytes)
+}
+
+// Each file is such a table.
+#[derive(Drop)]
+struct Zeros {
+    alloc: Global,
+    count: usize,
+}
+
+impl Source for Zeros {
+    fn read(&mut self, _name: &str) -> Result<Vec<u8>, SourceFault> {
+        table_of_zeros(self.alloc, self.count).ok_or(SourceFault::NoMemory)
+    }
+}
+
+// There are at most 65,535 paths, of which nine are predefined. The name that is one too many stands
+// behind a header of 36 bytes, 65,526 definitions of six bytes and an opcode.
+#[test]
+fn as_many_names_as_there_may_be(rt: HostRuntime) -> Result<(), Fail> {
+    let alloc = rt.alloc();
+    let mut out = Vec::new(alloc);
+    let mut files = Zeros {
+        alloc,
+        count: 65_526,
+    };
+    let ended = run_words(alloc, &["names", "zeros.bin"], &mut files, &mut out);
+    assert_eq!(rt; ended, Ok(0));
+    assert!(rt; out.starts_with(PREDEFINED.as_bytes()));
+    assert!(rt; out.ends_with(b"\\BOUF integer\n"));
+    assert_eq!(rt; out.iter().filter(|b| **b == b'\n').count(), 65_535);
+    files.count = 65_527;
+    out.clear();
+    let ended = run_words(alloc, &["names", "zeros.bin"], &mut files, &mut out);
+    assert_eq!(rt; ended, Ok(1));
+    assert_eq!(rt; out.as_slice(), b"fault E303 TooMany 0 393193\n".as_slice());
     Ok(())
 }

@@ -1,32 +1,28 @@
-use Rattle.std.proofs.Common.{◌<◌, ◌^◌, ◌∙◌, sym, refl, subst, codes}
+use Rattle.std.proofs.Common.{◌<◌, ◌^◌, ◌∙◌, inr, sym, refl, subst, codes}
 use Rattle.std.specs.Str.Parse.{ParsesUnsigned, ExplainsUnsignedError, HasUnsignedDigitsIfOk}
 use Rattle.clap.specs.Words.{found_of}
 use Rattle.clap.proofs.WalkLemmas.{first_value-rows, one_text-rows}
 use Rattle.acpi_listing.proofs.Asked.{missing, steps_read}
 use Rattle.acpi_listing.proofs.words.eval_of.Goals as goal
 
-pub returns-in_default-clause-faults : goal.returns-in_default-clause-faults
-returns-in_default-clause-faults c =
-    (refl, λ r parts. missing _ r.file.now (c.in_default.ensures ∙ first_value-rows (found_of c.args.found.now) (codes "file")) parts.0)
+pub returns-in_default : goal.returns-in_default
+returns-in_default c =
+    inr (refl, λ r parts. missing _ r.method.now (c.in_default.ensures ∙ first_value-rows (found_of c.args.found.now) (codes "method")) parts.1)
 
-pub returns-in_default-get_str-clause-faults : goal.returns-in_default-get_str-clause-faults
-returns-in_default-get_str-clause-faults c =
-    (refl, λ r parts. missing _ r.method.now (c.in_default-get_str.ensures ∙ first_value-rows (found_of c.args.found.now) (codes "method")) parts.1)
-
-pub returns-in_default-get_one-clause-faults : goal.returns-in_default-get_one-clause-faults
-returns-in_default-get_one-clause-faults c = (
+pub returns-in_default-get_one : goal.returns-in_default-get_one
+returns-in_default-get_one c = inr (
   refl,
   λ r parts. let (text, is, count) = parts.3 in
       let (e, gives) = c.in_default-get_one.ensures.value text (one_text-rows (found_of c.args.found.now) (codes "plain") ∙ is) in
       gives.0 (count.0, subst (λ m. m < 2 ^ 64) count.2 count.1),
 )
 
-pub returns-clause-parts : goal.returns-clause-parts
-returns-clause-parts c =
+pub returns : goal.returns
+returns c =
     let found = found_of c.args.found.now in
     let steps = steps_read (λ bs r. ParsesUnsigned 64 10 bs r × ExplainsUnsignedError 10 bs r × HasUnsignedDigitsIfOk bs r) _ c.in-Some-get_one.steps (λ t r g. g.0) c.in-Some-get_one.ensures.none c.in-Some-get_one.ensures.value in (
-      sym (first_value-rows found (codes "file")) ∙ sym c.in-Some.ensures,
-      sym (first_value-rows found (codes "method")) ∙ sym c.in-Some-get_str.ensures,
-      sym (first_value-rows found (codes "args")) ∙ sym c.get_str-3.ensures,
+      c.in_ok-inputs_of.ensures,
+      sym (first_value-rows found (codes "method")) ∙ sym c.in-Some.ensures,
+      sym (first_value-rows found (codes "args")) ∙ sym c.get_str-2.ensures,
       (steps.0, sym (one_text-rows found (codes "plain")) ∙ steps.1, steps.2),
     )

@@ -7,16 +7,18 @@ use Rattle.aml_operators.specs.Tree.{view}
 use Rattle.aml_tree.proofs.Shaped.{body_shaped}
 use Rattle.acpi_text.specs.Outcome.{outcome_line}
 use Rattle.acpi_listing.specs.Steps.{Gives, Tells, Then}
-use Rattle.acpi_listing.specs.Commands.{EvaluatesBody, Finds, Fit, IsMeant, Loads, ReadsBody, Takes, outcome_status}
+use Rattle.acpi_listing.specs.Inputs.{tables_of}
+use Rattle.acpi_listing.specs.Loading.{Loads}
+use Rattle.acpi_listing.specs.Commands.{EvaluatesBody, Finds, Fit, IsMeant, ReadsBody, Takes, outcome_status}
 use Rattle.acpi_listing.proofs.Chains.{given_fault}
 use Rattle.acpi_listing.proofs.Evaluations.{after_load, after_find, after_body, after_outcome}
-use Rattle.acpi_listing.proofs.eval.evaluate_table.Goals as goal
+use Rattle.acpi_listing.proofs.eval.evaluate_inputs.Goals as goal
 
 pub returns-in_err-namespace-clause-printed : goal.returns-in_err-namespace-clause-printed
 returns-in_err-namespace-clause-printed g c =
     let word = c.args.request.now.method.now in
-    given_fault (Loads c.args.table.now)
-    (λ ns. Then (Gives (Finds ns word)) (λ found. Then (Gives (ReadsBody ns found.0 found.1)) (EvaluatesBody ns found word c.args.arguments.now c.args.request.now.steps)))
+    given_fault (Loads (tables_of c.args.inputs.now))
+    (λ ns. Then (Gives (Finds ns word)) (λ found. Then (Gives (ReadsBody ns found.0 found.1)) (EvaluatesBody ns found c.args.arguments.now c.args.request.now.steps)))
     tt _ _ c.from_residual.result c.from_residual.ensures.1 c.in_err-namespace.ensures
 
 pub returns-in_err-id-clause-printed : goal.returns-in_err-id-clause-printed
@@ -26,8 +28,8 @@ returns-in_err-id-clause-printed g c =
     let steps = c.args.request.now.steps in
     let ns = shown c.in_ok-namespace.namespace in
     let r = c.from_residual-in_err-id.result in
-    after_load word arguments steps c.args.table.now ns _ _ r c.in_ok-namespace.ensures
-    (given_fault (Finds ns word) (λ found. Then (Gives (ReadsBody ns found.0 found.1)) (EvaluatesBody ns found word arguments steps))
+    after_load word arguments steps (tables_of c.args.inputs.now) ns _ _ r c.in_ok-namespace.ensures
+    (given_fault (Finds ns word) (λ found. Then (Gives (ReadsBody ns found.0 found.1)) (EvaluatesBody ns found arguments steps))
     tt _ _ r c.from_residual-in_err-id.ensures.1 c.in_err-id.ensures.none)
 
 pub returns-in-Err-NoMemory-clause-printed : goal.returns-in-Err-NoMemory-clause-printed
@@ -35,16 +37,16 @@ returns-in-Err-NoMemory-clause-printed g c =
     let word = c.args.request.now.method.now in
     let ns = shown c.in_ok-namespace.namespace in
     let m = c.in_ok-id.method in
-    after_find word c.args.arguments.now c.args.request.now.steps c.args.table.now ns _ m _ _ (Err (Faulty fault.NoMemory)) c.in_ok-namespace.ensures c.in_ok-id.ensures.found
-    (given_fault (ReadsBody ns c.in_ok-id.id.0 m) (EvaluatesBody ns (c.in_ok-id.id.0, m) word c.args.arguments.now c.args.request.now.steps) tt _ fault.NoMemory (Err (Faulty fault.NoMemory)) refl refl)
+    after_find word c.args.arguments.now c.args.request.now.steps (tables_of c.args.inputs.now) ns _ m _ _ (Err (Faulty fault.NoMemory)) c.in_ok-namespace.ensures c.in_ok-id.ensures.found
+    (given_fault (ReadsBody ns c.in_ok-id.id.0 m) (EvaluatesBody ns (c.in_ok-id.id.0, m) c.args.arguments.now c.args.request.now.steps) tt _ fault.NoMemory (Err (Faulty fault.NoMemory)) refl refl)
 
 pub returns-in-Err-Refused-clause-printed : goal.returns-in-Err-Refused-clause-printed
 returns-in-Err-Refused-clause-printed g c =
     let ns = shown c.in_ok-namespace.namespace in
     let m = c.in_ok-id.method in
     let refused = rw c.in-Err-Refused.field-0-is at (c.in-Err-Refused.ensures m c.in_ok-id.ensures.found.1) in
-    after_body c.args.request.now.method.now c.args.arguments.now c.args.request.now.steps c.args.table.now ns _ m (Err c.in-Err-Refused.refusal) _ _ _
-    c.in_ok-namespace.ensures c.in_ok-id.ensures.found refused (rw c.in-Err-Refused.field-0-is at c.tell_refusal.ensures.printed)
+    after_body c.args.request.now.method.now c.args.arguments.now c.args.request.now.steps (tables_of c.args.inputs.now) ns _ m (Err c.in-Err-Refused.refusal) _ _ _
+    c.in_ok-namespace.ensures c.in_ok-id.ensures.found refused c.tell_refusal.ensures.printed
 
 pub returns-then-not-fits-clause-printed : goal.returns-then-not-fits-clause-printed
 returns-then-not-fits-clause-printed g c =
@@ -58,7 +60,7 @@ returns-then-not-fits-clause-printed g c =
     let refuses : Takes ns m arguments → ⊥ =
     λ takes. let fits : c.fits.result ≡ true = c.fits.ensures.1 takes in absurd (cc (fits, c.if-not-fits.true)) in
     let r : Result ℕ Stop = Err (Faulty fault.ArgsDontFit) in
-    after_body word arguments steps c.args.table.now ns _ m (Ok ts) _ _ r c.in_ok-namespace.ensures c.in_ok-id.ensures.found body
+    after_body word arguments steps (tables_of c.args.inputs.now) ns _ m (Ok ts) _ _ r c.in_ok-namespace.ensures c.in_ok-id.ensures.found body
     (given_fault (Fit ns m arguments) (λ _. Then (Gives (IsMeant ns c.in_ok-id.id.0 m ts arguments steps)) (λ o. Tells (outcome_line o) (outcome_status o)))
     (tt {0}) _ fault.ArgsDontFit r refl (refuses, refl))
 
@@ -75,6 +77,6 @@ returns-clause-printed g c =
     let body = c.in-Ok.ensures m c.in_ok-id.ensures.found.1 in
     let outcome = c.evaluate_terms-outcome.result in
     let meant = rw c.deref.ensures.value at (c.evaluate_terms-outcome.ensures m c.in_ok-id.ensures.found.1) in
-    after_outcome c.args.request.now.method.now c.args.arguments.now c.args.request.now.steps c.args.table.now ns _ m (map view c.in-Ok.body.items) outcome _ _ _
+    after_outcome c.args.request.now.method.now c.args.arguments.now c.args.request.now.steps (tables_of c.args.inputs.now) ns _ m (map view c.in-Ok.body.items) outcome _ _ _
     c.in_ok-namespace.ensures c.in_ok-id.ensures.found body (c.fits.ensures.0 c.if-not-fits.false) meant
     c.tell_outcome.ensures.printed

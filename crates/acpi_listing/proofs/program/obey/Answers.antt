@@ -1,0 +1,30 @@
+use Rattle.std.proofs.Common.{Bor, List, ℕ, map, subst}
+use Rattle.acpi_listing.specs.Files.{ListsFiles}
+use Rattle.acpi_listing.specs.Steps.{Writes}
+use Rattle.acpi_listing.specs.declared.words.Request.TheVariants.{Tables, Names, Eval}
+use Rattle.acpi_listing.proofs.Telling.{obeyed}
+use Rattle.acpi_listing.proofs.program.obey.Goals as goal
+
+pub returns-in-Tables-clause-printed : goal.returns-in-Tables-clause-printed
+returns-in-Tables-clause-printed g c =
+    let answers = g.F.Source.answers in
+    let old = c.args.files.now in
+    let new = c.list_files.new.files in
+    let held = g.W.Write.contents c.args.out.now in
+    let holds = g.W.Write.contents c.list_files.new.out in
+    let now = λ (name : Bor (List ℕ)). name.now in
+    obeyed answers (map g.S.AsStr.text c.args.words.now) old new held holds (Tables c.in-Tables.names) c.list_files.result
+    (rw c.in-Tables.is at c.in_ok-names.ensures)
+    (subst (λ names. Writes (ListsFiles answers 0 (map now names)) old new held holds c.list_files.result) c.as_slice.ensures.value c.list_files.ensures.printed)
+
+pub returns-in-Names-clause-printed : goal.returns-in-Names-clause-printed
+returns-in-Names-clause-printed g c =
+    obeyed g.F.Source.answers (map g.S.AsStr.text c.args.words.now) c.args.files.now c.list_names_of.new.files
+    (g.W.Write.contents c.args.out.now) (g.W.Write.contents c.list_names_of.new.out) (Names c.in-Names.inputs) c.list_names_of.result
+    (rw c.in-Names.is at c.in_ok-names.ensures) c.list_names_of.ensures.printed
+
+pub returns-in-Eval-clause-printed : goal.returns-in-Eval-clause-printed
+returns-in-Eval-clause-printed g c =
+    obeyed g.F.Source.answers (map g.S.AsStr.text c.args.words.now) c.args.files.now c.evaluate.new.files
+    (g.W.Write.contents c.args.out.now) (g.W.Write.contents c.evaluate.new.out) (Eval c.in-Eval.request) c.evaluate.result
+    (rw c.in-Eval.is at c.in_ok-names.ensures) c.evaluate.ensures.printed

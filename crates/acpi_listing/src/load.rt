@@ -1,0 +1,45 @@
+// The namespace of the tables that a command has read.
+
+ghost use Rattle.std.specs.Prelude.{◌≡◌, IfOk, length, map, vec_items};
+ghost use Rattle.acpi_listing.specs.Inputs.{tables_of};
+ghost use Rattle.acpi_listing.specs.Loading.{FailsToLoad, os_name};
+ghost use Rattle.acpi_listing.specs.Steps.{Tries};
+ghost use Rattle.aml_namespace.specs.Load.{IsLoaded};
+ghost use Rattle.aml_namespace.specs.Shows.{bytes_in, shown};
+
+use crate::fault::Fault;
+use crate::inputs::Inputs;
+use aml_namespace::{Host, Namespace};
+use std::alloc::{AllocError, Global};
+
+/// The text of `_OS_`.
+const OS_NAME: &[u8] = b"acpicheck";
+
+/// Loads the tables that were read, each with its number in the order of the files.
+///
+/// Faults: E101 to E104, E201 to E209, E301 to E304, with table and place; E524.
+pub fn load<'a>(alloc: Global, inputs: &'a Inputs) -> Result<Namespace<'a>, Fault>
+    ensures { let tables = tables_of inputs.now in
+        Tries (λ ns. IsLoaded tables os_name (shown ns)) (FailsToLoad tables) result }
+{
+    let tables = slices_of(alloc, inputs.files.as_slice())?;
+    let host = Host {
+        os: OS_NAME,
+        osi: &[],
+    };
+    match Namespace::load(alloc, tables.as_slice(), host) {
+        Ok(namespace) => Ok(namespace),
+        Err(fault) => Err(Fault::from(fault)),
+    }
+}
+
+fn slices_of(alloc: Global, files: &[Vec<u8>]) -> Result<Vec<&[u8]>, AllocError>
+    ensures same { IfOk result (λ slices. bytes_in slices.items ≡ map vec_items files.now) }
+    ensures count { IfOk result (λ slices. length slices.items ≡ length files.now) }
+{
+    let mut slices = Vec::new(alloc);
+    for file in files {
+        slices.push(file.as_slice())?;
+    }
+    Ok(slices)
+}

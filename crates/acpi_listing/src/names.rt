@@ -1,0 +1,30 @@
+// The command `names`.
+
+ghost use Rattle.std.specs.Prelude.{◌≤◌, IfOk};
+ghost use Rattle.acpi_listing.specs.Commands.{ListsNames};
+ghost use Rattle.acpi_listing.specs.Steps.{Writes};
+
+use crate::fault::Stop;
+use crate::inputs::{InputNames, Inputs};
+use crate::load::load;
+use crate::source::Source;
+use acpi_text::list_names;
+use std::alloc::Global;
+use std::io::Write;
+
+/// Prints the names of a DSDT and its SSDTs.
+pub fn list_names_of<F: Source, W: Write>(
+    alloc: Global,
+    names: &InputNames<'_>,
+    files: &mut F,
+    out: &mut W,
+) -> Result<u8, Stop>
+    ensures status { IfOk result (λ status. status ≤ 3) }
+    ensures printed { Writes (ListsNames F.answers names.now)
+        files.old files.new (W.contents out.old) (W.contents out.new) result }
+{
+    let inputs = Inputs::read(alloc, names, files)?;
+    let namespace = load(alloc, &inputs)?;
+    list_names(alloc, out, &namespace)?;
+    Ok(0)
+}

@@ -1,0 +1,43 @@
+// Paths of a namespace, as they are printed.
+
+ghost use Rattle.std.specs.Prelude.{◌≡◌, ◌++◌, OnOk};
+ghost use Rattle.acpi_text.specs.Names.{path_of, path_text};
+ghost use Rattle.aml_namespace.specs.Shows.{shown};
+ghost use Rattle.aml_namespace.specs.Steps.{path_seen};
+
+use crate::writing::RunFault;
+use aml_lex::NameSeg;
+use aml_namespace::{Namespace, ObjectId};
+use std::alloc::{AllocError, Global};
+
+/// Adds the path with this number; the root's behind the last.
+pub fn push_path(
+    alloc: Global,
+    line: &mut Vec<u8>,
+    namespace: &Namespace<'_>,
+    id: ObjectId,
+) -> Result<(), RunFault>
+    ensures { OnOk result (line.new.items
+        ≡ line.old.items ++ path_text (path_of (shown namespace.now).entries id.0)) }
+{
+    match namespace.path(alloc, id)? {
+        Some(path) => push_segments(line, path.as_slice())?,
+        None => push_segments(line, &[])?,
+    }
+    Ok(())
+}
+
+// Adds the path of these segments.
+#[tactic(auto, unfolding(crate::specs::Names::path_text))]
+fn push_segments(line: &mut Vec<u8>, path: &[NameSeg]) -> Result<(), AllocError>
+    ensures { OnOk result (line.new.items ≡ line.old.items ++ path_text (path_seen path.now)) }
+{
+    line.push(b'\\')?;
+    for (i, segment) in path.iter().enumerate() {
+        if i > 0 {
+            line.push(b'.')?;
+        }
+        line.extend_from_slice(&segment.bytes)?;
+    }
+    Ok(())
+}
