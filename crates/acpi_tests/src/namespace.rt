@@ -1,6 +1,7 @@
 // Tables and names whose answers were worked out by hand from the layouts.
 
 mod definitions;
+mod externals;
 mod faults;
 mod names;
 mod tables;

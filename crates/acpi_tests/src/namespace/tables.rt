@@ -76,6 +76,20 @@ fn paths(rt: HostRuntime) -> Result<(), Fail> {
     Ok(())
 }
 
+/// The same paths, each with the number of its object.
+#[test]
+fn all_paths(rt: HostRuntime) -> Result<(), Fail> {
+    let (first, second) = (dsdt_of(rt.alloc(), FIRST)?, ssdt_of(rt.alloc(), SECOND)?);
+    let ns = Namespace::load(rt.alloc(), &[&first, &second], HOST)?;
+    let paths = ns.paths(rt.alloc())?;
+    for (number, path, target) in PATHS {
+        let owned = paths.get(*number).map(|(path, id)| (path.as_slice(), id.0));
+        assert_eq!(rt; owned, Some((*path, target.unwrap_or(*number))));
+    }
+    assert_eq!(rt; (paths.len(), ns.methods()), (17, &[ObjectId(16)][..]));
+    Ok(())
+}
+
 #[test]
 fn look_ups(rt: HostRuntime) -> Result<(), Fail> {
     let (first, second) = (dsdt_of(rt.alloc(), FIRST)?, ssdt_of(rt.alloc(), SECOND)?);
