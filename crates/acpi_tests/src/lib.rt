@@ -5,6 +5,8 @@
 #[cfg(test)]
 mod contents;
 #[cfg(test)]
+mod fields;
+#[cfg(test)]
 mod flow;
 #[cfg(test)]
 mod kinds;
