@@ -7,7 +7,7 @@ ghost use Rattle.aml_operators.specs.Tree.{Tree, trees, views};
 ghost use Rattle.aml_namespace.specs.declared.object.Method.{Method};
 ghost use Rattle.aml_namespace.specs.Shows.{shown};
 ghost use Rattle.aml_namespace.specs.Names.{method_at, IsBodyOf};
-ghost use Rattle.aml_plain.specs.Methods.{Evaluates};
+ghost use Rattle.aml_plain.specs.Methods.{Evaluates, Parses};
 
 use crate::body::{Outcome, evaluate_body};
 use crate::halt::Setting;
@@ -51,8 +51,7 @@ pub fn evaluate_plain(
     fuel: u64,
 ) -> Result<Outcome, NoMemory>
     requires known { IsSome (method_at (shown namespace.now) method.0) }
-    requires parses { let ns = shown namespace.now in
-        (m : Method) → method_at ns method.0 ≡ Some m → (ts : List Tree) × IsBodyOf ns method.0 m ts }
+    requires parses { Parses (shown namespace.now) method.0 }
     ensures { let ns = shown namespace.now in IfOk result (λ outcome.
         (m : Method) → method_at ns method.0 ≡ Some m → (ts : List Tree) → IsBodyOf ns method.0 m ts →
         Evaluates ns method.0 m (trees ts) arguments.now fuel outcome) }

@@ -6,7 +6,7 @@ use Rattle.aml_plain.proofs.method.evaluate_plain.Goals as goal
 pub unreachable-requires : goal.unreachable-requires
 unreachable-requires c =
     let m = there (shown c.args.namespace.now) c.args.method.0 c.requires.known in
-    let body = c.requires.parses m.0 m.1 in
+    let body = c.requires.parses.tree m.0 m.1 in
     let refused = rw c.in-Err-Refused.field-0-is at (c.in-Err-Refused.ensures m.0 m.1) in
     refused.1 body.0 body.1
 
