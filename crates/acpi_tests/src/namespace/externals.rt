@@ -4,7 +4,7 @@ use super::{dsdt_of, ssdt_of};
 use crate::made::HOST;
 use aml_namespace::{NamePlace, Namespace, Object, ObjectId, Reference, Scope, Through};
 use aml_tree::TreeFault;
-use std::alloc::Global;
+use std::alloc::{AllocError, Global};
 use std::test::Fail;
 
 /// External (FOO1, MethodObj, 2), External (FOO1, MethodObj, 1), External (BAR1, DeviceObj, 3),
@@ -49,10 +49,17 @@ fn declared_counts(rt: HostRuntime) -> Result<(), Fail> {
     Ok(())
 }
 
+/// Both tables.
+fn callers(alloc: Global) -> Result<(Vec<u8>, Vec<u8>), AllocError> {
+    Ok((dsdt_of(alloc, CALLERS)?, ssdt_of(alloc, DECLARED_LATER)?))
+}
+
 #[test]
 fn want_of_memory_for_declarations(rt: HostRuntime) -> Result<(), Fail> {
-    let first = dsdt_of(rt.alloc(), CALLERS)?;
-    let second = ssdt_of(rt.alloc(), DECLARED_LATER)?;
+    let (first, second) = match callers(rt.alloc()) {
+        Ok(tables) => tables,
+        Err(AllocError) => callers(rt.alloc())?,
+    };
     let tables: &[&[u8]] = &[&first, &second];
     let ns = match Namespace::load(rt.alloc(), tables, HOST) {
         Ok(ns) => ns,
