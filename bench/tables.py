@@ -17,6 +17,8 @@
 | fields | a region, and COUNT field lists of one field each |
 | deep_names | COUNT names in a scope that is 10,000 segments deep |
 | searched | COUNT aliases of MAIN, which is at the root, in a scope that is 1,000 segments deep |
+| externals | COUNT Externals of methods of one argument at the root, and a body that calls each |
+| deep_externals | COUNT such Externals in a scope that is 10,000 segments deep |
 
 The names of the last three are those that whoever writes a table would choose against a reader that keeps names in a
 hash map of the kit: its default hasher has a fixed seed, and these names all begin their search in the same part of
@@ -175,6 +177,11 @@ def body_of(kind, count):
         return MAIN + deep(10_000, zeros(count))
     if kind == "searched":
         return MAIN + deep(1_000, b"".join(b"\x06MAIN" + name for name in other_names(count)))
+    if kind == "externals":
+        names = other_names(count)
+        return b"".join(b"\x15" + name + b"\x08\x01" for name in names) + method(b"MAIN", b"".join(name + b"\x01" for name in names))
+    if kind == "deep_externals":
+        return MAIN + deep(10_000, b"".join(b"\x15" + name + b"\x08\x01" for name in other_names(count)))
     raise ValueError(kind)
 
 
