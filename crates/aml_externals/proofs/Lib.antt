@@ -1,0 +1,10 @@
+pub mod Turns
+pub mod DeadTurns
+pub mod Changes
+pub mod TableLaws
+pub mod Scopes
+pub mod Seen
+pub mod Again
+pub mod Twice
+pub mod Complete
+pub mod Left
