@@ -30,13 +30,13 @@ both_tied Greater u e = absurd cc
 
 same_step : (s t : Step) → is_at (step_order s) t ≡ true → s ≡ t
 same_step s t e =
-    let tied = both_tied (nat_cmp s.parent t.parent) (segment_order s.segment t.segment) e in
-    let parents = nat_tied s.parent t.parent tied.0 in
-    let bytes : s.segment.bytes ≡ t.segment.bytes = (bytes_decides s.segment.bytes t.segment.bytes).0 (texts_ties s.segment.bytes t.segment.bytes ∙ tied.1) in
+    let tied = both_tied (segment_order s.segment t.segment) (nat_cmp s.parent t.parent) e in
+    let bytes : s.segment.bytes ≡ t.segment.bytes = (bytes_decides s.segment.bytes t.segment.bytes).0 (texts_ties s.segment.bytes t.segment.bytes ∙ tied.0) in
+    let parents = nat_tied s.parent t.parent tied.1 in
     λ i. record { parent = parents i; segment = record { bytes = bytes i } }
 
 itself : (s : Step) → is_at (step_order s) s ≡ true
-itself s = ap is_eq (ap (λ (o : Ordering). ordering_then o (segment_order s.segment s.segment)) (tied_itself nat_cmp_total s.parent) ∙ tied_itself nat_list_cmp_total s.segment.bytes)
+itself s = ap is_eq (ap (λ (o : Ordering). ordering_then o (nat_cmp s.parent s.parent)) (tied_itself nat_list_cmp_total s.segment.bytes) ∙ tied_itself nat_cmp_total s.parent)
 
 below_past : (paths : List Path) (at : ℕ) (segments : Path) → slice_get paths at ≡ None → number_below paths at segments ≡ None
 below_past paths at segments is = ap (option_and_then (λ (p : Path). path_number paths (p ++ segments))) is

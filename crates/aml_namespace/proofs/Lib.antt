@@ -6,6 +6,8 @@ pub mod Ways
 pub mod Scopes
 pub mod Seen
 pub mod Upward
+pub mod Fronts
+pub mod Parents
 pub mod Kept
 pub mod Spelled
 pub mod Entering
@@ -23,3 +25,5 @@ pub mod Distinct
 pub mod Settling
 pub mod Copies
 pub mod Telling
+pub mod OwnFirsts
+pub mod OwnsRead

@@ -1,19 +1,17 @@
 -- The upward search, from path to path.
-use Rattle.std.proofs.Common.{◌≡◌, ℕ, zero, suc, ◌<◌, ◌≤◌, List, [], ◌∷◌, ◌++◌, length, take, slice_get, Option, Some, None, sym, ap, ◌∙◌, arith}
+use Rattle.std.proofs.Common.{◌≡◌, ℕ, zero, suc, ◌<◌, ◌≤◌, List, [], ◌∷◌, ◌++◌, length, take, Option, Some, None, sym, ap, ◌∙◌, arith}
 use Rattle.std.specs.Option.{option_or}
 use Rattle.std.proofs.lemmas.List.{length_push, take_all, take-append-le}
-use Rattle.aml_namespace.specs.declared.paths.Step.{Step}
-use Rattle.aml_namespace.specs.Paths.{Path, root, path_at, path_number, number_below}
+use Rattle.aml_namespace.specs.Paths.{Path, path_at, path_number, number_below}
 use Rattle.aml_namespace.specs.Resolve.{greatest, upward_search}
-use Rattle.aml_namespace.specs.Trie.{path_of}
-use Rattle.aml_namespace.proofs.PathNumbers.{path_at_is, path_at_there, number_below_at}
+use Rattle.aml_namespace.proofs.PathNumbers.{path_at_there, number_below_at}
 
 module _ {X : Type 0} where
   greatest_here : (find : ℕ → Option X) (n : ℕ) (x : X) → find n ≡ Some x → greatest find n ≡ Some x
   greatest_here find zero x is = is
   greatest_here find (suc n) x is = ap (λ (o : Option X). option_or o (greatest find n)) is
 
-  greatest_same : (f g : ℕ → Option X) (n : ℕ) → ((k : ℕ) → k ≤ n → f k ≡ g k) → greatest f n ≡ greatest g n
+  pub greatest_same : (f g : ℕ → Option X) (n : ℕ) → ((k : ℕ) → k ≤ n → f k ≡ g k) → greatest f n ≡ greatest g n
   greatest_same f g zero same = same zero (omega arith)
   greatest_same f g (suc n) same =
       ap (λ (o : Option X). option_or o (greatest f n)) (same (suc n) (omega arith))
@@ -49,14 +47,3 @@ module _ (paths : List Path) (segment : List ℕ) where
 
   pub nearest_here : (at n : ℕ) → at < length paths → number_below paths at (segment ∷ []) ≡ Some n → search_from at ≡ Some n
   nearest_here at n there is = found_here (path_number paths) segment (path_at paths at) n (sym (right_below at there) ∙ is)
-
-  pub nearest_above : (at : ℕ) (step : Step) → at < length paths → slice_get paths at ≡ Some (path_of paths step) → number_below paths at (segment ∷ []) ≡ None → search_from at ≡ search_from step.parent
-  nearest_above at step there is none =
-      let path = path_at_is paths at (path_of paths step) is in
-      let missing = sym (ap (λ (p : Path). path_number paths (p ++ segment ∷ [])) path) ∙ sym (right_below at there) ∙ none in
-      ap (λ (p : Path). upward_search (path_number paths) p segment) path ∙ found_above (path_number paths) segment (path_at paths step.parent) step.segment.bytes missing
-
-  pub nearest_nowhere : (at : ℕ) → at < length paths → path_at paths at ≡ root → number_below paths at (segment ∷ []) ≡ None → search_from at ≡ None
-  nearest_nowhere at there is none =
-      ap (λ (p : Path). upward_search (path_number paths) p segment) is
-      ∙ sym (ap (λ (p : Path). path_number paths (p ++ segment ∷ [])) is) ∙ sym (right_below at there) ∙ none

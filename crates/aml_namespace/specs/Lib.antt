@@ -4,6 +4,7 @@ pub mod Causes
 pub mod Paths
 pub mod Trie
 pub mod Steps
+pub mod Fronts
 pub mod Entries
 pub mod Resolve
 pub mod Enter
@@ -21,6 +22,8 @@ pub mod Told
 pub mod Counted
 pub mod Load
 pub mod Loads
+pub mod OwnNames
+pub mod OwnNamesSeen
 pub mod Names
 pub mod Shows
 pub mod Printed

@@ -11,10 +11,12 @@ use Rattle.aml_namespace.specs.declared.object.Method.{Method}
 use Rattle.aml_namespace.specs.declared.object.Object.{Object}
 use Rattle.aml_namespace.specs.declared.object.Object.TheVariants as object
 use Rattle.aml_namespace.specs.declared.object.Scope.TheVariants.{At}
+use Rattle.aml_namespace.specs.declared.own_names.OwnName.{OwnName}
 use Rattle.aml_namespace.specs.Bodies.{bytes_of}
 use Rattle.aml_namespace.specs.Entries.{Entries, number_of, object_at, object_number, paths_in}
 use Rattle.aml_namespace.specs.Load.{Shown}
 use Rattle.aml_namespace.specs.LookUp.{looked_up, scope_path}
+use Rattle.aml_namespace.specs.OwnNames.{own_at}
 use Rattle.aml_namespace.specs.Paths.{Path}
 use Rattle.aml_namespace.specs.Resolve.{resolve}
 use Rattle.aml_namespace.specs.Told.{first_told}
@@ -72,9 +74,22 @@ abbrev pub linked : Entries → Option ℕ → Link
 linked entries None = link.Missing
 linked entries (Some i) = link_of i (object_at entries i)
 
--- what the name at a place of these bytes means in the body of a method with a number
+-- what the name of a package element names at a place of these bytes, in the body of a method with a number: never an own name
+abbrev pub element_at : Entries → ℕ → List ℕ → ℕ → Option ℕ
+element_at entries id bytes at = option_and_then (named_within entries id) (name_there bytes at)
+
+-- what any other name there means, own names apart
 abbrev pub link_at : Entries → ℕ → List ℕ → ℕ → Link
-link_at entries id bytes at = linked entries (option_and_then (named_within entries id) (name_there bytes at))
+link_at entries id bytes at = linked entries (element_at entries id bytes at)
+
+abbrev pub own_or : Option ℕ → Link → Link
+own_or None l = l
+own_or (Some i) l = link.Own i
+
+-- what it means in a body with these own names: a lone segment is the own name that stands there, and else what it names in the
+-- namespace
+abbrev pub link_with_owns : Entries → ℕ → List ℕ → List OwnName → ℕ → Link
+link_with_owns entries id bytes owns at = own_or (own_at bytes owns at) (link_at entries id bytes at)
 
 -- the bytes in which a method's body stands, up to its end
 abbrev pub body_bytes : Shown → Method → List ℕ

@@ -8,9 +8,9 @@ use Rattle.aml_tree.specs.Owns.{segment_order}
 use Rattle.aml_namespace.specs.declared.paths.Step.{Step}
 use Rattle.aml_namespace.specs.Paths.{Path, root, path_at, number_below, AreDistinct}
 
--- by the parent's number, and then by the segment
+-- by the segment, and then by the parent's number
 abbrev pub step_order : Step → Step → Ordering
-step_order a b = ordering_then (nat_cmp a.parent b.parent) (segment_order a.segment b.segment)
+step_order a b = ordering_then (segment_order a.segment b.segment) (nat_cmp a.parent b.parent)
 
 -- the path to which a step leads
 abbrev pub path_of : List Path → Step → Path

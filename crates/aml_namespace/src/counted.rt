@@ -131,14 +131,6 @@ impl Counted {
         self.counts.get(&number).copied()
     }
 
-    /// What is told of the path that is one segment below the path with this number.
-    fn count_below(&self, at: usize, segment: NameSeg) -> Option<u8>
-        requires { at < length (all_paths self.now) }
-        ensures { result ≡ told self.now (path_at (all_paths self.now) at ++ segment.bytes ∷ []) }
-    {
-        self.count_at(self.paths.child(at, segment)?)
-    }
-
     /// What is told of the path of this segment below the longest prefix of the path with this number,
     /// the path itself among them, of which something is told.
     fn nearest_count(&self, at: usize, segment: NameSeg) -> Option<u8>
@@ -148,7 +140,12 @@ impl Counted {
     {
         let mut number = at;
         'up: loop {
-            if let Some(count) = self.count_below(number, segment) {
+            let (parent, found) = self.paths.last_parent(number, segment)?;
+            number = self.paths.front(number, parent);
+            if number != parent {
+                continue;
+            }
+            if let Some(count) = self.count_at(found) {
                 return Some(count);
             }
             if number == ROOT {

@@ -18,6 +18,7 @@ mod memory;
 mod namespace;
 mod object;
 mod objects;
+mod own_names;
 mod parts;
 mod paths;
 mod predefined;
@@ -26,8 +27,12 @@ mod resolve;
 mod settle;
 mod width;
 
+pub use aml_externals::{is_dead_if, open_dead_externals};
 pub use fault::{LoadCause, LoadFault, LoadRefusal};
-pub use law::{definitions_stay, faults_stand_within, paths_are_distinct, printed_paths_are_read};
+pub use law::{
+    definitions_stay, faults_stand_within, own_names_are_the_grammars, paths_are_distinct,
+    printed_paths_are_read,
+};
 pub use link::Link;
 pub use memory::NoMemory;
 pub use namespace::{Host, Namespace};
@@ -35,4 +40,5 @@ pub use object::{
     AccessType, BufferField, BufferFieldSize, Content, DataName, Entry, Field, FieldRule, Method,
     NamePlace, Object, ObjectId, Reference, Region, Scope, Source, Through, UpdateRule,
 };
+pub use own_names::{OwnName, OwnNames};
 pub use width::Width;

@@ -17,6 +17,8 @@ pub enum Link {
     BufferField(ObjectId),
     /// Any other object: a scope, a device and its kin, a region, a mutex, an event.
     Object(ObjectId),
+    /// A name that the body makes itself, by its number in order of definition.
+    Own(usize),
     /// Nothing has the name, or no name stands there.
     Missing,
 }

@@ -17,8 +17,9 @@ use crate::here::name_at;
 use crate::link::Link;
 use crate::load::load_tables;
 use crate::memory::NoMemory;
-use crate::object::{Entry, Method, Object, ObjectId, Scope};
+use crate::object::{Entry, Method, NamePlace, Object, ObjectId, Scope};
 use crate::objects::Objects;
+use crate::own_names::OwnNames;
 use crate::paths::ROOT;
 use crate::predefined::predefined;
 use crate::width::Width;
@@ -60,9 +61,11 @@ impl<'a> Namespace<'a> {
     ghost use Rattle.std.specs.Option.{option_map};
     ghost use Rattle.aml_tree.specs.Body.{trees_read};
     ghost use Rattle.aml_namespace.specs.LookUp.{looked_up};
-    ghost use Rattle.aml_namespace.specs.Names.{ReadsBodyOf, body_bytes, link_at, method_at, told_within};
+    ghost use Rattle.aml_namespace.specs.Names.{ReadsBodyOf, body_bytes, element_at, link_at, link_with_owns, method_at, told_within};
     ghost use Rattle.aml_namespace.specs.Entries.{entry_numbered, object_at, path_numbered};
+    ghost use Rattle.aml_namespace.specs.OwnNamesSeen.{owns_seen};
     ghost use Rattle.aml_namespace.specs.Printed.{printed_object};
+    ghost use Rattle.aml_namespace.specs.Settled.{named_at};
     ghost use Rattle.aml_namespace.specs.Shows.{Loads, bytes_in, shown};
 
     /// Loads a DSDT and any number of SSDTs behind it. Of each table: its header, then its whole module,
@@ -192,16 +195,37 @@ impl<'a> Namespace<'a> {
         }
     }
 
-    /// What the name at a place of these bytes means in the body of the method with this number.
+    /// The number of the object that the name of a package element names at a place of these bytes, in
+    /// the body of the method with this number. It is never an own name of the body.
+    pub fn element(&self, id: ObjectId, bytes: &[u8], at: usize) -> Option<ObjectId>
+        ensures { option_map (λ id. id.0) result
+            ≡ element_at (shown self.now).entries id.0 bytes.now at }
+    {
+        let name = name_at(bytes, at)?;
+        self.lookup(Scope::At(id), &name)
+    }
+
+    /// What the name at a place of these bytes means in the body of the method with this number, its
+    /// own names apart.
     pub fn link(&self, id: ObjectId, bytes: &[u8], at: usize) -> Link
         ensures { result ≡ link_at (shown self.now).entries id.0 bytes.now at }
     {
-        let Some(name) = name_at(bytes, at) else {
-            return Link::Missing;
-        };
-        match self.objects.look_up(Scope::At(id), &name) {
-            Some(number) => link_of(number, self.objects.object(number)),
+        match self.element(id, bytes, at) {
+            Some(named) => link_of(named.0, self.object(named)),
             None => Link::Missing,
+        }
+    }
+
+    /// What the name at a place of these bytes, which is no package element, means in the body of the
+    /// method with this number: one segment without prefix is the own name of the body that stands
+    /// there, and any other name what it names in the namespace.
+    pub fn link_with_owns(&self, id: ObjectId, bytes: &[u8], owns: &OwnNames, at: usize) -> Link
+        ensures { result
+            ≡ link_with_owns (shown self.now).entries id.0 bytes.now (owns_seen owns.now) at }
+    {
+        match owns.own_at(bytes, at) {
+            Some(number) => Link::Own(number),
+            None => self.link(id, bytes, at),
         }
     }
 
@@ -211,6 +235,32 @@ impl<'a> Namespace<'a> {
         ensures { result.now ≡ bytes_of (shown self.now).tables number }
     {
         self.tables[number]
+    }
+
+    /// The bytes of the table with this number, in the order of loading; none past the last.
+    pub fn table_bytes(&self, number: usize) -> &[u8]
+        ensures { result.now ≡ bytes_of (shown self.now).tables number }
+    {
+        if number < self.tables.len() {
+            self.table(number)
+        } else {
+            &[]
+        }
+    }
+
+    /// The text of `_OS_`.
+    pub fn os_name(&self) -> &[u8]
+        ensures { result.now ≡ (shown self.now).os }
+    {
+        self.host.os
+    }
+
+    /// The number of the object that the name at a place of a table names, from the scope in which it
+    /// stands; None where nothing has the name, and where no name stands there.
+    pub fn named_at(&self, name: NamePlace) -> Option<ObjectId>
+        ensures { let ns = shown self.now in result ≡ named_at ns.tables ns.entries name }
+    {
+        self.objects.named_at(&self.tables, name)
     }
 
     /// The bytes in which a method's body stands, up to its end.

@@ -2,6 +2,7 @@
 
 ghost use Rattle.std.specs.Prelude.{◌≡◌, ◌<◌, ◌≤◌, ◌++◌, ◌∷◌, [], length, take, slice_get, Some, None, OnOk, OnErr, IfOk};
 ghost use Rattle.aml_lex.specs.Names.{name_of};
+ghost use Rattle.aml_namespace.specs.Fronts.{IsFront, IsLastParent};
 ghost use Rattle.aml_namespace.specs.Paths.{root, path_at, path_number, number_above, number_below};
 ghost use Rattle.aml_namespace.specs.Resolve.{upward_search};
 ghost use Rattle.aml_namespace.specs.Trie.{AreNumbered, path_of};
@@ -13,12 +14,13 @@ use std::collections::BTreeMap;
 /// The number of the root's path.
 pub(crate) const ROOT: usize = 0;
 
-/// A path as one segment below another.
+/// A path as one segment below another. In the order of steps those of one segment stand together, so
+/// that a search for it need not ask each path on its way up.
 #[derive(Clone, Copy, Debug, PartialEq, Eq, PartialOrd, Ord)]
 pub(crate) struct Step {
+    pub segment: NameSeg,
     /// The other path's number.
     pub parent: usize,
-    pub segment: NameSeg,
 }
 
 /// Absolute paths, each under a number: the root's is 0. With a path stand all that begin it, and
@@ -108,6 +110,35 @@ impl Paths {
         Some(number)
     }
 
+    /// The last path, of those up to this number, right below which this segment stands, and the number of
+    /// the path there.
+    pub(crate) fn last_parent(&self, last: usize, segment: NameSeg) -> Option<(usize, usize)>
+        ensures { IsLastParent (paths_seen self.now) segment.bytes last result }
+    {
+        let least = Step { segment, parent: 0 };
+        let greatest = Step {
+            segment,
+            parent: last,
+        };
+        let (step, number) = self.numbers.range(least..=greatest).next_back()?;
+        Some((step.parent, *number))
+    }
+
+    /// The number of the longest path that begins the path with this number, the path itself among them,
+    /// of those whose numbers are not above another.
+    pub(crate) fn front(&self, at: usize, most: usize) -> usize
+        requires { at < length (paths_seen self.now) }
+        ensures is { IsFront (paths_seen self.now) at most result }
+        ensures within { result ≤ most }
+        ensures before { result ≤ at }
+    {
+        let mut number = at;
+        while number > most {
+            number = self.last_step(number).parent;
+        }
+        number
+    }
+
     /// The number of the path of this segment below the longest prefix of the path with this number,
     /// the path itself among them, below which it stands.
     pub(crate) fn nearest(&self, at: usize, segment: NameSeg) -> Option<usize>
@@ -117,13 +148,11 @@ impl Paths {
     {
         let mut number = at;
         'up: loop {
-            if let Some(found) = self.child(number, segment) {
+            let (parent, found) = self.last_parent(number, segment)?;
+            number = self.front(number, parent);
+            if number == parent {
                 return Some(found);
             }
-            if number == ROOT {
-                return None;
-            }
-            number = self.last_step(number).parent;
         }
     }
 

@@ -13,7 +13,7 @@ impl Objects {
     ghost use Rattle.aml_namespace.specs.Kept.{entries_seen};
 
     /// The object that the name at a place names, from the scope in which it stands.
-    fn named_at(&self, tables: &[&[u8]], name: NamePlace) -> Option<ObjectId>
+    pub(crate) fn named_at(&self, tables: &[&[u8]], name: NamePlace) -> Option<ObjectId>
         ensures { result ≡ named_at (map (λ t. t.now) tables.now) (entries_seen self.now) name }
     {
         let spelled = name_at(tables.get(name.table)?, name.at)?;
