@@ -1,6 +1,9 @@
 pub mod BelongLaws
 pub mod ContentLaws
 pub mod Elements
+pub mod FirstData
+pub mod FirstNames
+pub mod FirstValues
 pub mod JoinLaws
 pub mod KindsBy
 pub mod Lengths

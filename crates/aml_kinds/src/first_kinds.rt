@@ -119,7 +119,7 @@ fn within_width(width: Width, value: Value) -> Value
 }
 
 /// A number modulo 2 to the width.
-fn modulo(width: Width, number: u64) -> u64
+pub(crate) fn modulo(width: Width, number: u64) -> u64
     ensures { result ≡ number % 2 ^ bits_of width }
 {
     match width {

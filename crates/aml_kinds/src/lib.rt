@@ -3,8 +3,11 @@
 
 mod bytes;
 mod copies;
+mod first_contents;
+mod first_data;
 mod first_kinds;
 mod fitting;
+mod initial;
 mod joins;
 mod kind;
 mod kind_copies;
@@ -14,6 +17,7 @@ mod package;
 mod same_kinds;
 mod same_values;
 mod shape;
+mod told;
 mod value;
 
 pub use bytes::Bytes;

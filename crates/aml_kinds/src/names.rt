@@ -62,7 +62,12 @@ impl Names {
     }
 
     /// Adds what the object with the next number holds first.
-    fn add(&mut self, alloc: Global, width: Width, held: Option<Value>) -> Result<(), AllocError>
+    pub(crate) fn add(
+        &mut self,
+        alloc: Global,
+        width: Width,
+        held: Option<Value>,
+    ) -> Result<(), AllocError>
         ensures held { OnOk result
             (contents self.new ≡ contents self.old ++ held_first width (content held) ∷ []) }
         ensures kinds { OnOk result (content_kinds self.new ≡

@@ -89,6 +89,21 @@ module _ (arity : NameString → ℕ → ℕ) (bytes : List ℕ) where
     λ ts h. let x = body_full (length bytes) [] [] at ts h.0 h.1 (omega arith) in cc (x, e),
   )
 
+  -- reading finds the statements of a body
+  pub body_found : (at : ℕ) (ts : List Tree) → IsBody arity bytes at ts → body_until arity bytes (length bytes) [] [] at ≡ Ok ts
+  body_found at ts h = body_full (length bytes) [] [] at ts h.0 h.1 (omega arith)
+
+  -- what reading finds is a body
+  pub found_body : (at : ℕ) → at ≤ length bytes → (ts : List Tree) → body_until arity bytes (length bytes) [] [] at ≡ Ok ts → IsBody arity bytes at ts
+  found_body at le ts e =
+      let h = of_ok _ _ _ _ (body_right (length bytes) [] [] at (omega arith) le) e in
+      (h.1, subst (λ (x : List Tree). AreStatements arity [] bytes at x (length bytes) h.1) (sym h.2) h.3)
+
+  -- a body begins within the bytes
+  pub body_within : (at : ℕ) (ts : List Tree) → IsBody arity bytes at ts → at ≤ length bytes
+  body_within at [] h = omega (arith, h.1.0)
+  body_within at (t ∷ ts) h = let w = statement_in [] at t h.1.0 in omega (arith, w)
+
 -- the definitions that came
 abbrev Defined : List ℕ → List Tree × ℕ → Type 0
 Defined bytes r = (ts : List Tree) × (r.0 ≡ [] ++ ts) × AreTerms no_arguments (IsTerm code.Module no_arguments greatest_depth) module_start spot.Statement bytes module_start r.1 ts × (r.1 ≡ length bytes)

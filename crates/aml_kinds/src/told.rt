@@ -1,0 +1,90 @@
+// What the data of a term is told to be, by its operator and its parts (ACPI 6.5, 19.6, Buffer and
+// Package).
+
+ghost use Rattle.std.specs.Prelude.{◌≡◌};
+ghost use Rattle.aml_operators.specs.Tree.{view, views};
+ghost use Rattle.aml_namespace.specs.Made.{buffer_content, content_of, literal, number_in, package_content, size_in, sized_package_content, string_content};
+
+use aml_namespace::Content;
+use aml_operators::{Op, Term, literal_of};
+
+/// An integer literal, which a module's sizes and counts are.
+pub(crate) fn literal(term: &Term) -> u64
+    ensures { result ≡ literal (view term.now) }
+{
+    literal_of(term).unwrap_or(0)
+}
+
+/// The number that stands beside an opcode.
+#[tactic(auto, using(aml_operators::proofs::Views::view_out))]
+fn number_in(term: &Term) -> u64
+    ensures { result ≡ number_in (view term.now) }
+{
+    match term.op {
+        Op::Number(number) => number,
+        _ => 0,
+    }
+}
+
+/// The number of bytes of a part.
+#[tactic(auto, using(aml_operators::proofs::Views::view_out))]
+fn size_in(term: &Term) -> u64
+    ensures { result ≡ size_in (view term.now) }
+{
+    term.end.saturating_sub(term.at) as u64
+}
+
+/// What a buffer is, by its parts.
+#[tactic(auto, using(crate::proofs::FirstValues::no_buffer))]
+fn buffer_content(parts: &[Term]) -> Content
+    ensures { result ≡ buffer_content (views parts.now) }
+{
+    match parts {
+        [size, initialiser] => Content::Buffer(literal(size).max(size_in(initialiser))),
+        _ => Content::Buffer(0),
+    }
+}
+
+/// What a string is, by its parts.
+fn string_content(parts: &[Term]) -> Content
+    ensures { result ≡ string_content (views parts.now) }
+{
+    match parts {
+        [text, ..] => Content::String(size_in(text).saturating_sub(1)),
+        [] => Content::String(0),
+    }
+}
+
+/// What a package is, by its parts.
+fn package_content(parts: &[Term]) -> Content
+    ensures { result ≡ package_content (views parts.now) }
+{
+    match parts {
+        [size, ..] => Content::Package(number_in(size)),
+        [] => Content::Package(0),
+    }
+}
+
+/// What a package with a term as its count is, by its parts.
+fn sized_package_content(parts: &[Term]) -> Content
+    ensures { result ≡ sized_package_content (views parts.now) }
+{
+    match parts {
+        [size, ..] => Content::Package(literal(size)),
+        [] => Content::Package(0),
+    }
+}
+
+/// What a term of a package is.
+#[tactic(auto, using(aml_operators::proofs::Views::view_out))]
+pub(crate) fn content_of(term: &Term) -> Content
+    ensures { result ≡ content_of (view term.now) }
+{
+    match term.op {
+        Op::Buffer => buffer_content(&term.parts),
+        Op::String => string_content(&term.parts),
+        Op::Package => package_content(&term.parts),
+        Op::VarPackage => sized_package_content(&term.parts),
+        _ => Content::Integer,
+    }
+}
