@@ -1,7 +1,8 @@
 #!/usr/bin/env python3
-"""Prints the rows of crates/acpi_tests/src/fields.rt: reads and writes of fields, worked out bit by bit.
+"""Prints the rows of crates/aml_fields_tests/src/fields.rt: reads and writes of fields, worked out bit by bit.
 
 fields.py registers   the register file that every row begins with
+fields.py sums STEP   the rows of crates/aml_fields_tests/src/field_sums.rt at its STEP, by four processes; with 1 some minutes
 fields.py rows        a row for each case: units' width, the other bits, first bit, bits, limit, and what is told
 
 What is told of a row, its numbers in hex: whether the field was written within the limit; the events of the write, each
@@ -9,8 +10,13 @@ What is told of a row, its numbers in hex: whether the field was written within 
 read without limit gives then; and in decimal the numbers of events of one read and of one write. A field of more than 64
 bits is given the bytes 37 i + 11 modulo 256 and read as bytes, of which the sum of (i + 1) times byte i is told.
 
+A sum takes in each field of 1 to 130 bits at each STEP-th first bit from 0 to 130, read and written as an integer where it has no
+more than 64 bits, and as bytes; each event's kind, address, width and value, each value and each number of events. There
+the world answers a unit's read by its address alone.
+
 Nothing here has a mask or a shift over more than one bit: a unit is a list of its bits.
 """
+import multiprocessing
 import sys
 
 PLACE = 0x10
@@ -118,6 +124,72 @@ def cases():
     yield 32, "DWord", "Preserve", 5, 64, 3
     yield 8, "Byte", "Preserve", 1, 65, NO_LIMIT
     yield 64, "QWord", "Preserve", 130, 130, NO_LIMIT
+    yield 8, "Byte", "Preserve", 5, 2048, NO_LIMIT
+    yield 64, "QWord", "Ones", 70, 2048, NO_LIMIT
+
+
+SPREAD = 0x9E3779B97F4A7C15
+WIDTHS = {"Byte": 8, "Word": 16, "DWord": 32, "QWord": 64}
+
+
+def mixed(total, part):
+    return (total * 0x100000001B3 + part) % 2**64
+
+
+class Answering:
+    """Answers a unit's read by the highest bits of its address, spread; keeps the sum of all events."""
+
+    def __init__(self):
+        self.sum, self.made = 0, 0
+
+    def event(self, kind, address, width, value):
+        for part in (kind, address, width, value):
+            self.sum = mixed(self.sum, part)
+        self.made += 1
+
+    def read(self, unit, width):
+        address = PLACE + unit * (width // 8)
+        spread = bits_of(address * SPREAD % 2**64, 64)[64 - width:]
+        self.event(1, address, width, number_of(spread))
+        return spread
+
+    def write(self, unit, width, bits):
+        self.event(2, PLACE + unit * (width // 8), width, number_of(bits))
+        return True
+
+
+def read_bits(world, width, at, count):
+    answers = {unit: world.read(unit, width) for unit in touched(width, at, count)}
+    return [answers[bit // width][bit % width] for bit in range(at, at + count)]
+
+
+def field_sum(width, others, at, count):
+    world, integer = Answering(), 0
+    if count <= 64:
+        integer = number_of(read_bits(world, width, at, count))
+        write(world, width, others, at, count, bits_of(VALUE, 64))
+    before = world.made
+    bits = read_bits(world, width, at, count)
+    reads, bits = world.made - before, bits + [0] * (-count % 8)
+    wide = 0
+    for first in range(0, len(bits), 8):
+        wide = mixed(wide, number_of(bits[first:first + 8]))
+    before = world.made
+    write(world, width, others, at, count, [bit for i in range((count + 7) // 8) for bit in bits_of((37 * i + 11) % 256, 8)])
+    wide = mixed(mixed(wide, reads), world.made - before)
+    return mixed(mixed(integer, wide), world.sum)
+
+
+def sum_row(row):
+    name, others, step = row
+    total = 0
+    for at in range(0, 131, step):
+        place = 0
+        for count in range(1, 131):
+            place = mixed(place, field_sum(WIDTHS[name], others, at, count))
+        total = mixed(total, place)
+    digits = f"{total:016x}"
+    return f"    ({name}, {others}, 0x{'_'.join(digits[i:i + 4] for i in range(0, 16, 4))}),"
 
 
 def main(words):
@@ -127,6 +199,10 @@ def main(words):
         for width, name, others, at, count, limit in cases():
             what = told(width, others, at, count, limit)
             print(f'    ({name}, {others}, {at}, {count}, {limit}, "{what}"),')
+    elif len(words) == 2 and words[0] == "sums":
+        with multiprocessing.Pool(4) as pool:
+            rows = [(name, others, int(words[1])) for name in WIDTHS for others in ("Preserve", "Ones", "Zeros")]
+            print("\n".join(pool.map(sum_row, rows, 1)))
     else:
         print(__doc__, end="", file=sys.stderr)
         return 2

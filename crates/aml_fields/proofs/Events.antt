@@ -1,13 +1,12 @@
 -- Runs of single events.
-use Rattle.std.proofs.Common.{◌≡◌, ℕ, zero, suc, ◌+◌, ◌<◌, ◌≤◌, ◌^◌, List, [], ◌∷◌, ◌++◌, Option, Some, Ok, Err, refl, sym, ap, ◌∙◌, subst, arith, length, true}
+use Rattle.std.proofs.Common.{◌≡◌, ℕ, zero, suc, ◌+◌, ◌<◌, ◌≤◌, ◌^◌, List, [], ◌∷◌, ◌++◌, Some, Ok, Err, refl, sym, ap, ◌∙◌, subst, arith, length, true}
 use Rattle.std.specs.Prelude.{slice_get, ◌==◌}
 use Rattle.std.proofs.lemmas.Bool.Decides.{nat_tests}
-use Rattle.aml_kinds.specs.Values.{Value}
 use Rattle.aml_regions.specs.declared.access.Access.{Access}
 use Rattle.aml_regions.specs.declared.event.Event.{Event}
 use Rattle.aml_regions.specs.declared.event.Event.TheVariants.{Read, Written}
 use Rattle.aml_regions.specs.Events.{AreWords, same_access}
-use Rattle.aml_meaning.specs.State.{State, Frame, with_steps, Goes, NoAnswer}
+use Rattle.aml_meaning.specs.State.{State, Frame, Names, with_steps, Goes, NoAnswer}
 use Rattle.aml_meaning.specs.Parts.{M, answer, make_event, read_unit, with_event}
 use Rattle.aml_meaning.specs.Runs.{Halt, NoMemory, OutOfSteps, IsPrefix, state, Runs}
 use Rattle.aml_meaning.proofs.Runs.{runs_paid, runs_unpaid, runs_no_memory_at}
@@ -44,7 +43,7 @@ same access = grind (arith, nat_tests)
 answered : (access : Access) (value : ℕ) (s : State) → answer access (Some (Read access value)) s ≡ Goes value (with_event s (Read access value))
 answered access value s = rw (same access) refl
 
-module _ (frame : Frame) (names : List (Option Value)) (access : Access) (value : ℕ) where
+module _ (frame : Frame) (names : Names) (access : Access) (value : ℕ) where
   pub runs_read : (steps left : ℕ) (log log1 : List Event) → steps ≡ suc left → value < 2 ^ access.width → log1 ≡ log ++ Read access value ∷ [] → Runs (Ok value) (read_unit access) (state frame names steps log) (state frame names left log1)
   unfolding read_unit
   runs_read steps left log log1 e lt is = rw is (runs_paid _ frame frame names names value steps left log _ e (record { growth = _; is = refl }) (words_more log access value lt)
@@ -64,7 +63,7 @@ module _ (frame : Frame) (names : List (Option Value)) (access : Access) (value 
   runs_no_write steps left log e f = runs_unpaid _ frame names steps left log e f
 
 -- want of memory, with fewer steps counted as left
-pub runs_refused : {V : Type 0} (m : M V) (frame : Frame) (names : List (Option Value)) (steps left : ℕ) (log log1 : List Event) → log1 ≡ log → left ≤ steps → Runs {V = V} (Err NoMemory) m (state frame names steps log) (state frame names left log1)
+pub runs_refused : {V : Type 0} (m : M V) (frame : Frame) (names : Names) (steps left : ℕ) (log log1 : List Event) → log1 ≡ log → left ≤ steps → Runs {V = V} (Err NoMemory) m (state frame names steps log) (state frame names left log1)
 runs_refused m frame names steps left log log1 e n = runs_no_memory_at m _ _ refl e n
 
 -- want of memory says nothing of the steps that are left

@@ -1,9 +1,12 @@
 pub mod BytesBits
 pub mod Events
+pub mod Made
 pub mod Masks
 pub mod Numbers
 pub mod Places
+pub mod Plans
 pub mod Reading
 pub mod Tests
+pub mod Values
 pub mod WideBytes
 pub mod Writing

@@ -1,7 +1,7 @@
 -- Where a field's bits lie in its units.
 use Rattle.std.proofs.Common.{◌≡◌, ℕ, ◌+◌, ◌-◌, ◌*◌, ◌/◌, ◌%◌, ◌^◌, ◌<◌, ◌≤◌, min, ◌⊎◌, inl, inr, refl, ap, ◌∙◌, subst, arith}
 use Rattle.std.proofs.lemmas.Nat.{div_below, mod-mul-add, mod_below, mul-le, shl_below}
-use Rattle.std.proofs.Math.Nat.{lt_of_lt_of_le, pow-le-pow_right}
+use Rattle.std.proofs.Math.Nat.{add-mul, lt-div-mul-add, lt_of_lt_of_le, pow-le-pow_right}
 use Rattle.aml_regions.specs.Worlds.{IsUnit}
 use Rattle.aml_regions.specs.declared.field.FieldLayout.{FieldLayout}
 use Rattle.aml_regions.specs.declared.field.RegionField.{RegionField}
@@ -141,3 +141,20 @@ unit_small f u sound low high =
     let t = touched_unit f u sound low high in
     let lt = unit_eighth f.width u (f.at + f.bits) t.high in
     omega (arith, lt, sound.bits)
+
+-- each unit has a bit of the field
+pub count_most : (f : FieldLayout) → IsLaidOut f → end f - first f ≤ f.bits
+unfolding first end
+count_most f sound =
+    let a = bits_of f.width in
+    let wide = bits_some f.width in
+    let some = sound.some in
+    let q = f.at / a in
+    let m = f.bits - 1 in
+    let n : f.bits ≡ m + 1 = omega (arith, some) in
+    let below : f.at < q * a + a = lt-div-mul-add wide in
+    let all : (q + f.bits) * a ≡ q * a + f.bits * a = add-mul q f.bits a in
+    let more : f.bits * a ≡ m * a + 1 * a = ap (λ x. x * a) n ∙ add-mul m 1 a in
+    let least : m * 1 ≤ m * a = mul-le m 1 m a (omega arith) wide in
+    let last : (f.at + f.bits - 1) / a < q + f.bits = div_below (f.at + f.bits - 1) a (q + f.bits) wide (omega (arith, below, all, more, least, n)) in
+    omega (arith, last)

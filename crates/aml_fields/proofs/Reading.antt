@@ -8,13 +8,13 @@ use Rattle.aml_regions.specs.Bits.{number}
 use Rattle.aml_fields.proofs.Numbers.{number-add, number-lt, number_same}
 use Rattle.aml_kinds.specs.Values.{Value}
 use Rattle.aml_regions.specs.declared.event.Event.{Event}
-use Rattle.aml_meaning.specs.Fields.{read_from}
+use Rattle.aml_meaning.specs.Fields.{UnitPlan, bytes_in, bytes_read, integer_read, plan_reads, read_from}
 use Rattle.aml_meaning.specs.Parts.{M}
 use Rattle.aml_meaning.specs.State.{Frame, State}
 use Rattle.aml_meaning.specs.Runs.{Halt, Runs, state}
 use Rattle.aml_meaning.proofs.Runs.{runs_then, runs_stop, runs_give}
 use Rattle.aml_regions.specs.declared.field.FieldLayout.{FieldLayout}
-use Rattle.aml_regions.specs.Fields.{bits_of, first, field_bit}
+use Rattle.aml_regions.specs.Fields.{bits_of, count, end, first, field_bit, integer_of}
 use Rattle.aml_fields.proofs.Places.{Places, bits_some, first_below}
 
 -- bit i of the field, where its unit and its place there are known
@@ -66,5 +66,23 @@ module _ {V : Type 0} (read : ℕ → M ℕ) (value : List ℕ → V) (xs : List
   read_stops u n k s0 s1 halt more first = rw more (runs_stop _ first)
 
   -- no unit is left
-  pub read_all : (u n left after : ℕ) (frame : Frame) (names : List (Option Value)) (log : List Event) → n ≡ 0 → after ≡ left → Runs (Ok (value xs)) (read_from read value n u xs) (state frame names left log) (state frame names after log)
-  read_all u n left after frame names log none e = rw (none, e) (runs_give (value xs) (state frame names left log))
+  pub read_all : (u n : ℕ) (s : State) → n ≡ 0 → Runs (Ok (value xs)) (read_from read value n u xs) s s
+  read_all u n s none = rw none (runs_give (value xs) s)
+
+-- the parts of a plan
+module _ (p : UnitPlan) (f : FieldLayout) (u : ℕ) (e : f ≡ p.layout) (low : u ≡ first f) where
+  pub plan_integer : (r : Result ℕ Halt) (s0 s1 : State) → Runs r (read_from p.read (integer_of f) (end f - u) u []) s0 s1 → Runs r (integer_read p) s0 s1
+  unfolding integer_read count
+  plan_integer r s0 s1 runs = subst (λ g. Runs r (read_from p.read (integer_of g) (end g - first g) (first g) []) s0 s1) e (subst (λ v. Runs r (read_from p.read (integer_of f) (end f - v) v []) s0 s1) low runs)
+
+  pub plan_bytes : (r : Result (List ℕ) Halt) (s0 s1 : State) → Runs r (read_from p.read (bytes_in f) (end f - u) u []) s0 s1 → Runs r (bytes_read p) s0 s1
+  unfolding bytes_read count
+  plan_bytes r s0 s1 runs = subst (λ g. Runs r (read_from p.read (bytes_in g) (end g - first g) (first g) []) s0 s1) e (subst (λ v. Runs r (read_from p.read (bytes_in f) (end f - v) v []) s0 s1) low runs)
+
+  pub plan_reads_left : (left : ℕ) → left - (end f - u) * p.read_events ≡ left - plan_reads p
+  unfolding plan_reads count
+  plan_reads_left left = ap (λ v. left - (end f - v) * p.read_events) low ∙ ap (λ g. left - (end g - first g) * p.read_events) e
+
+-- the units that are left have one read more
+pub reads_more : (n k reads : ℕ) → n ≡ suc k → n * reads ≡ reads + k * reads
+reads_more n k reads more = rw more (omega arith)

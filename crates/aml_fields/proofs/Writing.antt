@@ -1,5 +1,5 @@
 -- What the units of a field are written with.
-use Rattle.std.proofs.Common.{◌≡◌, ℕ, suc, ◌+◌, ◌-◌, ◌*◌, ◌/◌, ◌%◌, ◌^◌, ◌<◌, ◌≤◌, Bool, true, false, min, List, [], ◌∷◌, ◌++◌, Option, Result, Ok, Err, ⊎_elim, sym, ap, ◌∙◌, subst, arith}
+use Rattle.std.proofs.Common.{◌≡◌, ℕ, suc, ◌+◌, ◌-◌, ◌*◌, ◌/◌, ◌%◌, ◌^◌, ◌<◌, ◌≤◌, Bool, true, false, min, List, [], ◌∷◌, ◌++◌, Option, Result, Ok, Err, ⊎_elim, refl, sym, ap, ◌∙◌, subst, arith}
 use Rattle.std.proofs.lemmas.Bool.{cases_lt}
 use Rattle.std.proofs.Math.Nat.{mod-eq_of_lt}
 use Rattle.std.specs.Prelude.{nat_eq, if◌then◌else◌}
@@ -9,7 +9,7 @@ use Rattle.aml_regions.specs.Bits.{number}
 use Rattle.aml_fields.proofs.Numbers.{number_put, number_same, number-lt, number-bit_at}
 use Rattle.aml_kinds.specs.Values.{Value}
 use Rattle.aml_regions.specs.declared.event.Event.{Event}
-use Rattle.aml_meaning.specs.Fields.{cost_from, others_cost, others_of, write_from}
+use Rattle.aml_meaning.specs.Fields.{UnitPlan, bits_written, cost_from, others_cost, others_of, plan_writes, write_from}
 use Rattle.aml_meaning.specs.Parts.{M}
 use Rattle.aml_meaning.specs.State.{Frame, State}
 use Rattle.aml_meaning.specs.Runs.{Halt, Runs, state}
@@ -17,7 +17,7 @@ use Rattle.aml_meaning.proofs.Runs.{runs_then, runs_stop, runs_give}
 use Rattle.aml_regions.specs.declared.field.FieldLayout.{FieldLayout}
 use Rattle.aml_regions.specs.declared.field.OtherBits.{OtherBits}
 use Rattle.aml_regions.specs.declared.field.OtherBits.TheVariants.{Preserve, Ones, Zeros}
-use Rattle.aml_regions.specs.Fields.{IsLaidOut, bits_of, first, end, covers, has, mixed}
+use Rattle.aml_regions.specs.Fields.{IsLaidOut, bits_of, first, count, end, covers, has, mixed}
 use Rattle.aml_fields.proofs.Places.{Places, places_in}
 use Rattle.aml_fields.proofs.Tests.{within_le, below_le, past_le, within_lt, below_lt, past_lt, eq_true, eq_false}
 
@@ -76,23 +76,23 @@ mixed_same f bit u done skip take other part result p lt is put =
     omega (arith, whole, put_)
 
 -- one turn of the loop over the units
-pub record Turn (f : FieldLayout) (u done skip take : ℕ) (whole : Bool) : Type 0 where
+pub record Turn (f : FieldLayout) (reads writes u done skip take : ℕ) (whole : Bool) : Type 0 where
   pub places : Places (bits_of f.width) f.at f.bits u done skip take
   pub wholly : covers f u ≡ whole
   pub more : end f - u ≡ suc (end f - (u + 1))
-  pub cost : cost_from f (end f - u) u ≡ others_cost whole f.others + 1 + cost_from f (end f - (u + 1)) (u + 1)
+  pub cost : cost_from f reads writes (end f - u) u ≡ others_cost whole f.others reads + writes + cost_from f reads writes (end f - (u + 1)) (u + 1)
 
-pub cost_more : (f : FieldLayout) (u v k n : ℕ) (whole : Bool) → n ≡ suc k → v ≡ suc u → covers f u ≡ whole → cost_from f n u ≡ others_cost whole f.others + 1 + cost_from f k v
-cost_more f u v k n whole more next e = rw (more, next) (ap (λ w. others_cost w f.others + 1 + cost_from f k (suc u)) e)
+pub cost_more : (f : FieldLayout) (reads writes u v k n : ℕ) (whole : Bool) → n ≡ suc k → v ≡ suc u → covers f u ≡ whole → cost_from f reads writes n u ≡ others_cost whole f.others reads + writes + cost_from f reads writes k v
+cost_more f reads writes u v k n whole more next e = rw (more, next) (ap (λ w. others_cost w f.others reads + writes + cost_from f reads writes k (suc u)) e)
 
-pub turn : (f : FieldLayout) (width u done take : ℕ) → IsLaidOut f → width ≡ bits_of f.width → first f ≤ u → u < end f → done ≡ min f.bits (u * bits_of f.width - f.at) → take ≡ min (width - (f.at + done) % width) (f.bits - done) → Turn f u done ((f.at + done) % width) take (nat_eq take width)
-turn f width u done take sound is low high before is_take =
+pub turn : (f : FieldLayout) (reads writes width u done take : ℕ) → IsLaidOut f → width ≡ bits_of f.width → first f ≤ u → u < end f → done ≡ min f.bits (u * bits_of f.width - f.at) → take ≡ min (width - (f.at + done) % width) (f.bits - done) → Turn f reads writes u done ((f.at + done) % width) take (nat_eq take width)
+turn f reads writes width u done take sound is low high before is_take =
     let p = places_in f width u done take sound is low high before is_take in
     let wholly : covers f u ≡ nat_eq take width = covers_is f u done _ take p ∙ ap (nat_eq take) (sym is) in
     let more : end f - u ≡ suc (end f - (u + 1)) = omega arith in
-    record { places = p; wholly = wholly; more = more; cost = cost_more f u (u + 1) (end f - (u + 1)) (end f - u) _ more (omega arith) wholly }
+    record { places = p; wholly = wholly; more = more; cost = cost_more f reads writes u (u + 1) (end f - (u + 1)) (end f - u) _ more (omega arith) wholly }
 
-module _ (f : FieldLayout) (read : ℕ → M ℕ) (write : ℕ → ℕ → M (Unit {0})) (bit : ℕ → ℕ) (u done skip take : ℕ) (whole : Bool) (t : Turn f u done skip take whole) where
+module _ (f : FieldLayout) (read : ℕ → M ℕ) (write : ℕ → ℕ → M (Unit {0})) (bit : ℕ → ℕ) (reads writes u done skip take : ℕ) (whole : Bool) (t : Turn f reads writes u done skip take whole) where
   covered : (r : Result ℕ Halt) (s0 s1 : State) → Runs r (others_of whole f.others (bits_of f.width) (read u)) s0 s1 → Runs r (others_of (covers f u) f.others (bits_of f.width) (read u)) s0 s1
   covered r s0 s1 runs = subst (λ w. Runs r (others_of w f.others (bits_of f.width) (read u)) s0 s1) (sym t.wholly) runs
 
@@ -111,16 +111,41 @@ module _ (f : FieldLayout) (read : ℕ → M ℕ) (write : ℕ → ℕ → M (Un
     pub write_ends : (s2 : State) (halt : Halt) → Runs (Err halt) (write u value) s1 s2 → Runs (Err halt) (write_from f read write bit (end f - u) u) s0 s2
     write_ends s2 halt first = rw t.more (runs_then _ (covered _ _ _ before) (runs_stop _ (rw is at first)))
 
-pub write_all : (f : FieldLayout) (read : ℕ → M ℕ) (write : ℕ → ℕ → M (Unit {0})) (bit : ℕ → ℕ) (u n left after : ℕ) (frame : Frame) (names : List (Option Value)) (log : List Event) → n ≡ 0 → after ≡ left → Runs (Ok tt) (write_from f read write bit n u) (state frame names left log) (state frame names after log)
-write_all f read write bit u n left after frame names log none e = rw (none, e) (runs_give tt (state frame names left log))
+pub write_all : (f : FieldLayout) (read : ℕ → M ℕ) (write : ℕ → ℕ → M (Unit {0})) (bit : ℕ → ℕ) (u n : ℕ) (s : State) → n ≡ 0 → Runs (Ok tt) (write_from f read write bit n u) s s
+write_all f read write bit u n s none = rw none (runs_give tt s)
 
--- what stands there is read
-pub others_kept : (others : OtherBits) (whole : Bool) (width : ℕ) (read : M ℕ) (r : Result ℕ Halt) (s0 s1 : State) → others ≡ Preserve → whole ≡ false → Runs r read s0 s1 → Runs r (others_of whole others width read) s0 s1
-others_kept others whole width read r s0 s1 e f runs = rw (e, f) runs
+-- the parts of a plan
+pub plan_write : (p : UnitPlan) (f : FieldLayout) (bit : ℕ → ℕ) (u : ℕ) (r : Result (Unit {0}) Halt) (s0 s1 : State) → f ≡ p.layout → u ≡ first f → Runs r (write_from f p.read p.write bit (end f - u) u) s0 s1 → Runs r (bits_written p bit) s0 s1
+unfolding bits_written count
+plan_write p f bit u r s0 s1 e low runs = subst (λ g. Runs r (write_from g p.read p.write bit (end g - first g) (first g)) s0 s1) e (subst (λ v. Runs r (write_from f p.read p.write bit (end f - v) v) s0 s1) low runs)
 
--- the bits beside a field cost one event at most
-pub others_least : (whole : Bool) (others : OtherBits) → others_cost whole others ≤ 1
-others_least true others = omega arith
-others_least false Preserve = omega arith
-others_least false Ones = omega arith
-others_least false Zeros = omega arith
+pub plan_cost : (p : UnitPlan) (f : FieldLayout) (u left : ℕ) → f ≡ p.layout → u ≡ first f → left - cost_from f p.read_events p.write_events (end f - u) u ≡ left - plan_writes p
+unfolding plan_writes count
+plan_cost p f u left e low = ap (λ v. left - cost_from f p.read_events p.write_events (end f - v) v) low ∙ ap (λ g. left - cost_from g p.read_events p.write_events (end g - first g) (first g)) e
+
+-- what stands there is read, or ones or zeros are given
+module _ (others : OtherBits) (whole : Bool) (width : ℕ) (read : M ℕ) (beside : whole ≡ false) where
+  pub others_kept : (r : Result ℕ Halt) (s0 s1 : State) → others ≡ Preserve → Runs r read s0 s1 → Runs r (others_of whole others width read) s0 s1
+  others_kept r s0 s1 e runs = rw (e, beside) runs
+
+  pub others_ones : (value : ℕ) (s : State) → others ≡ Ones → value ≡ 2 ^ width - 1 → Runs (Ok value) (others_of whole others width read) s s
+  others_ones value s e is = rw (e, beside, is) (runs_give _ s)
+
+  pub others_zeros : (s : State) → others ≡ Zeros → Runs (Ok 0) (others_of whole others width read) s s
+  others_zeros s e = rw (e, beside) (runs_give 0 s)
+
+pub kept_cost : (others : OtherBits) (whole : Bool) (reads : ℕ) → whole ≡ false → others ≡ Preserve → others_cost whole others reads ≡ reads
+kept_cost others whole reads beside e = rw (beside, e) refl
+
+pub ones_cost : (others : OtherBits) (whole : Bool) (reads : ℕ) → whole ≡ false → others ≡ Ones → others_cost whole others reads ≡ 0
+ones_cost others whole reads beside e = rw (beside, e) refl
+
+pub zeros_cost : (others : OtherBits) (whole : Bool) (reads : ℕ) → whole ≡ false → others ≡ Zeros → others_cost whole others reads ≡ 0
+zeros_cost others whole reads beside e = rw (beside, e) refl
+
+-- the bits beside a field cost one read of the unit at most
+pub others_least : (whole : Bool) (others : OtherBits) (reads : ℕ) → others_cost whole others reads ≤ reads
+others_least true others reads = omega arith
+others_least false Preserve reads = omega arith
+others_least false Ones reads = omega arith
+others_least false Zeros reads = omega arith

@@ -1,19 +1,32 @@
 //! Reads and writes of fields, over any world (ACPI 6.5, 5.5.2.4 and 19.6).
 #![tactic(auto)]
 
+mod any;
+mod bank;
 mod buffer;
 mod bytes;
+mod count;
+mod index;
 mod kernel;
+mod law;
+mod reach;
 mod read;
+mod region;
+mod soundness;
 mod source;
 mod units;
+mod value;
 mod wide;
 mod write;
 
 pub use buffer::{read_buffer_field, write_buffer_field};
 pub use bytes::BitBytes;
+pub use count::{read_count, write_count};
+pub use law::events_are_made;
+pub use reach::field_in;
 pub use read::read_integer_field;
+pub use soundness::sound;
 pub use source::Bits;
-pub use units::{read_count, sound, write_count};
+pub use value::read_field;
 pub use wide::read_wide_field;
 pub use write::write_field;

@@ -3,7 +3,11 @@ use Rattle.std.specs.Prelude.{◌≡◌, ℕ, ◌+◌, ◌-◌, ◌*◌, ◌/◌
 use Rattle.std.specs.Int.{bit_at}
 use Rattle.aml_regions.specs.Bits.{number}
 use Rattle.aml_regions.specs.declared.access.Access.{Access}
+use Rattle.aml_regions.specs.declared.field.AnyField.{AnyField}
+use Rattle.aml_regions.specs.declared.field.AnyField.TheVariants.{Plain, Banked, Indexed}
+use Rattle.aml_regions.specs.declared.field.BankedField.{BankedField}
 use Rattle.aml_regions.specs.declared.field.FieldLayout.{FieldLayout}
+use Rattle.aml_regions.specs.declared.field.IndexedField.{IndexedField}
 use Rattle.aml_regions.specs.declared.field.OtherBits.{OtherBits}
 use Rattle.aml_regions.specs.declared.field.OtherBits.TheVariants.{Preserve, Ones, Zeros}
 use Rattle.aml_regions.specs.declared.field.RegionField.{RegionField}
@@ -72,3 +76,27 @@ pub record IsSound (r : RegionField) : Type 0 where
   pub layout : IsLaidOut r.layout
   pub units : unit_place r.layout (end r.layout) ≤ r.length
   pub region : r.place + r.length ≤ 2 ^ 64
+
+-- a field behind a bank field: both are sound
+pub record IsSoundBanked (b : BankedField) : Type 0 where
+  pub field : IsSound b.field
+  pub bank : IsSound b.bank
+
+-- a field behind an index field and a data field: both are sound, and the data field is just as wide as a unit
+pub record IsSoundIndexed (x : IndexedField) : Type 0 where
+  pub layout : IsLaidOut x.layout
+  pub index_field : IsSound x.index_field
+  pub data_field : IsSound x.data_field
+  pub wide : x.data_field.layout.bits ≡ bits_of x.layout.width
+
+-- a field that can be read and written, however its units are reached
+abbrev pub IsSoundField : AnyField → Type 0
+IsSoundField (Plain r) = IsSound r
+IsSoundField (Banked b) = IsSoundBanked b
+IsSoundField (Indexed x) = IsSoundIndexed x
+
+-- where its bits stand in its units
+abbrev pub layout_of : AnyField → FieldLayout
+layout_of (Plain r) = r.layout
+layout_of (Banked b) = b.field.layout
+layout_of (Indexed x) = x.layout

@@ -1,7 +1,7 @@
 // Where the bits of a field stand: plain data.
 
 ghost use Rattle.std.specs.Prelude.{◌≡◌, ◌-◌, ◌^◌};
-ghost use Rattle.aml_regions.specs.Fields.{bits_of};
+ghost use Rattle.aml_regions.specs.Fields.{bits_of, layout_of};
 
 /// How many bits a unit has: 8, 16, 32 or 64 (ACPI 6.5, 19.6, Field: the access type).
 #[derive(Clone, Copy, Debug, PartialEq, Eq)]
@@ -43,6 +43,47 @@ pub struct RegionField {
     /// The region's number of bytes.
     pub length: u64,
     pub layout: FieldLayout,
+}
+
+/// A field behind a bank field (ACPI 6.5, 19.6, BankField): before each access of a unit the bank field
+/// is given a value.
+#[derive(Clone, Copy, Debug, PartialEq, Eq)]
+pub struct BankedField {
+    pub field: RegionField,
+    pub bank: RegionField,
+    /// What the bank field is given.
+    pub value: u64,
+}
+
+/// A field behind an index field and a data field (ACPI 6.5, 19.6, IndexField): before each access of a
+/// unit the index field is given the number of the byte at which the unit begins, and then the data
+/// field is the unit.
+#[derive(Clone, Copy, Debug, PartialEq, Eq)]
+pub struct IndexedField {
+    pub layout: FieldLayout,
+    pub index_field: RegionField,
+    pub data_field: RegionField,
+}
+
+/// A field, by how its units are reached.
+#[derive(Clone, Copy, Debug, PartialEq, Eq)]
+pub enum AnyField {
+    Plain(RegionField),
+    Banked(BankedField),
+    Indexed(IndexedField),
+}
+
+impl AnyField {
+    /// Where its bits stand in its units.
+    pub fn layout(&self) -> FieldLayout
+        ensures { result ≡ layout_of self.now }
+    {
+        match self {
+            AnyField::Plain(field) => field.layout,
+            AnyField::Banked(banked) => banked.field.layout,
+            AnyField::Indexed(indexed) => indexed.layout,
+        }
+    }
 }
 
 impl UnitWidth {

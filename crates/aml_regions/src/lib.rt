@@ -15,7 +15,9 @@ mod world;
 pub use access::Access;
 pub use event::Event;
 pub use fault::RegistersFault;
-pub use field::{FieldLayout, OtherBits, RegionField, UnitWidth};
+pub use field::{
+    AnyField, BankedField, FieldLayout, IndexedField, OtherBits, RegionField, UnitWidth,
+};
 pub use law::reads_what_was_written;
 pub use registers::RegisterFile;
 pub use world::World;

@@ -1,0 +1,13 @@
+-- What an answer with a value tells.
+use Rattle.std.specs.Prelude.{Option, Some, None, Result, Ok, Err}
+use Rattle.aml_kinds.specs.declared.value.Value as code
+use Rattle.aml_kinds.specs.Values.{Value}
+use Rattle.aml_kinds.specs.Views.{view}
+use Rattle.aml_namespace.specs.declared.memory.NoMemory.{NoMemory}
+use Rattle.aml_meaning.specs.Runs as runs
+
+-- an answer that may have met its limit
+abbrev pub told_value : Result (Option code.Value) NoMemory → Result Value runs.Halt
+told_value (Ok (Some v)) = Ok (view v)
+told_value (Ok None) = Err runs.OutOfSteps
+told_value (Err e) = Err runs.NoMemory
