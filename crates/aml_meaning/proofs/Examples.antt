@@ -1,23 +1,24 @@
 -- Bodies and what they come to, computed.
 use Rattle.std.proofs.Common.{◌≡◌, ℕ, ◌-◌, ◌^◌, [], ◌∷◌, Some, refl, None}
-use Rattle.aml_operators.specs.declared.op.Op.TheVariants.{Return, Add, Subtract, Arg0, One, NullName, Local0, Timer, Store, Invocation, NameString, While, Decrement, Break, If, Else}
+use Rattle.aml_operators.specs.declared.op.Op.TheVariants.{Return, Add, Subtract, Arg0, One, NullName, Local0, Timer, Store, Invocation, NameString, While, Decrement, Break, If, Else, Sleep, Notify}
 use Rattle.aml_operators.specs.Tree.{Trees, Node, none, more}
 use Rattle.aml_kinds.specs.Values.{Int}
 use Rattle.aml_namespace.specs.declared.link.Link.TheVariants.{Missing}
 use Rattle.aml_meaning.specs.declared.error.AmlCause.TheVariants as cause
 use Rattle.aml_meaning.specs.State.{State, Goes, Halts, Spent, error}
-use Rattle.aml_meaning.specs.Parts.{◌>>=◌, give, stop_with, tick, paid, get_local, get_arg, set_local, set_arg}
+use Rattle.aml_regions.specs.declared.event.Event.TheVariants.{Slept}
+use Rattle.aml_meaning.specs.Parts.{◌>>=◌, give, stop_with, tick, paid, get_local, get_arg, set_local, set_arg, make_event}
 use Rattle.aml_meaning.specs.Loops.{loop, spent, turned}
 use Rattle.aml_meaning.specs.Calls.{framed}
 use Rattle.aml_meaning.specs.Meaning.{Setting}
 use Rattle.aml_meaning.specs.Whole.{before, evaluated}
 
 abbrev of_width : ℕ → Setting
-of_width bits = record { table = 0; width = bits; link = λ at. Missing }
+of_width bits = record { table = 0; width = bits; link = λ at. Missing; object = λ id. None; call = λ p k values. stop_with (error cause.Outside p.table p.at) }
 
 -- so many steps, and nothing else
 abbrev steps : ℕ → State
-steps n = before [] n []
+steps n = before (record { contents = []; kinds = [] }) n []
 
 -- Return (Add (Arg0, One))
 abbrev sum_of_two : Trees
@@ -142,3 +143,25 @@ its_own_block = refl
 its_else : evaluated (of_width 64) either (Int 0 ∷ []) [] (steps 4) ≡ Goes (Some (Int 0)) (steps 0)
 unfolding framed ◌>>=◌ give stop_with tick paid get_arg
 its_else = refl
+
+-- Sleep (One): a step for each term and one for the event
+abbrev asleep : Trees
+asleep = more (Node Sleep 0 3 (more (Node One 2 3 none) none)) none
+
+a_sleep : evaluated (of_width 64) asleep [] [] (steps 3) ≡ Goes None (before (record { contents = []; kinds = [] }) 0 (Slept 1 ∷ []))
+unfolding framed ◌>>=◌ give stop_with tick paid make_event
+a_sleep = refl
+
+no_sleep : evaluated (of_width 64) asleep [] [] (steps 2) ≡ Spent (steps 0)
+unfolding framed ◌>>=◌ give stop_with tick paid make_event
+no_sleep = refl
+
+-- Notify (FOO_, Local0), where nothing has that name: the value is not looked at
+no_notice : evaluated (of_width 64) (more (Node Notify 0 6 (more (Node NameString 1 5 none) (more (Node Local0 5 6 none) none))) none) [] [] (steps 1) ≡ Halts (error cause.Missing 0 1) (steps 0)
+unfolding framed ◌>>=◌ give stop_with tick paid
+no_notice = refl
+
+-- Notify (Local0, One): the value first, and then what is notified
+a_local_is_not_notified : evaluated (of_width 64) (more (Node Notify 0 3 (more (Node Local0 1 2 none) (more (Node One 2 3 none) none))) none) [] [] (steps 2) ≡ Halts (error cause.Kind 0 1) (steps 0)
+unfolding framed ◌>>=◌ give stop_with tick paid
+a_local_is_not_notified = refl

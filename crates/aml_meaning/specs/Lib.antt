@@ -3,8 +3,15 @@ pub mod Parts
 pub mod Loops
 pub mod Calls
 pub mod Rules
+pub mod Conversions
+pub mod Buffers
+pub mod Elements
+pub mod Literals
+pub mod Notices
 pub mod Actions
 pub mod Meaning
+pub mod Within
+pub mod Methods
 pub mod Runs
 pub mod Whole
 pub mod Causes

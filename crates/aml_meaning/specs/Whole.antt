@@ -9,13 +9,13 @@ use Rattle.aml_regions.specs.declared.event.Event.TheVariants.{Read}
 use Rattle.aml_meaning.specs.declared.error.AmlError.{AmlError}
 use Rattle.aml_meaning.specs.declared.action.Bitwise.TheVariants as bitwise
 use Rattle.aml_meaning.specs.Rules.{transform}
-use Rattle.aml_meaning.specs.State.{State, with_steps, entered, Error, Out, Goes, Halts, NoAnswer}
+use Rattle.aml_meaning.specs.State.{State, Names, with_steps, entered, Error, Out, Goes, Halts, NoAnswer}
 use Rattle.aml_meaning.specs.Parts.{read_unit, with_event}
 use Rattle.aml_meaning.specs.Calls.{framed}
 use Rattle.aml_meaning.specs.Meaning.{Setting, mean_all}
 
--- before a method begins: the contents of names, so many steps, and the events so far
-abbrev pub before : List (Option Value) → ℕ → List Event → State
+-- before a method begins: what names hold, so many steps, and the events so far
+abbrev pub before : Names → ℕ → List Event → State
 before names n log = record { frame = entered []; names = names; steps = n; log = log }
 
 -- a method's evaluation where its body stands, with its arguments, fed with a script of answers, from a state

@@ -1,7 +1,7 @@
 // What kind of meaning an operator has.
 
 ghost use Rattle.std.specs.Prelude.{◌≡◌};
-ghost use Rattle.aml_meaning.specs.Actions.{action};
+ghost use Rattle.aml_meaning.specs.Actions.{action, action_over_data, told_action};
 
 use aml_operators::Op;
 
@@ -29,6 +29,13 @@ pub enum Bitwise {
     FindSetRightBit,
 }
 
+/// An operator that makes a value one of another kind, and leaves one that has that kind already.
+#[derive(Clone, Copy, Debug, PartialEq, Eq)]
+pub enum Conversion {
+    ToBuffer,
+    ToInteger,
+}
+
 /// An operator that says of two values whether something holds.
 #[derive(Clone, Copy, Debug, PartialEq, Eq)]
 pub enum Comparison {
@@ -37,6 +44,13 @@ pub enum Comparison {
     LEqual,
     LGreater,
     LLess,
+}
+
+/// A pause that a method asks for.
+#[derive(Clone, Copy, Debug, PartialEq, Eq)]
+pub enum Pause {
+    Sleep,
+    Stall,
 }
 
 /// What kind of meaning an operator has, as a term and as a target.
@@ -63,6 +77,20 @@ pub enum Action {
     /// An integer divided by another: the remainder and the quotient each have a target
     /// (19.6, Divide).
     Divide,
+    /// A value as one of another kind, which is stored into a target (19.6, ToBuffer, ToInteger).
+    Convert(Conversion),
+    /// Two buffers or two strings give a third, which is stored into a target (19.6, Concatenate).
+    Concatenate,
+    /// How large a value is (19.6, SizeOf).
+    SizeOf,
+    /// What an Index leads to is read (19.6, DerefOf).
+    Dereference,
+    /// A byte or an element of a value (19.6, Index).
+    Index,
+    /// Whether something has a name (19.6, CondRefOf).
+    CondRefOf,
+    /// The debugger, which takes every value (19.6, Debug).
+    Debug,
     /// A value is stored into a target (19.6, Store).
     Store,
     /// The method ends with a value (19.6, Return).
@@ -79,6 +107,10 @@ pub enum Action {
     Nothing,
     /// A name as a term, with its arguments (20.2.5, MethodInvocation).
     Invoke,
+    /// An object is notified with a value (19.6, Notify).
+    Notify,
+    /// A pause of so many units of time (19.6, Sleep, Stall).
+    Pause(Pause),
     /// No target: nothing is stored.
     NoTarget,
     /// No meaning: an error after one step.
@@ -145,6 +177,35 @@ pub fn action_of(op: Op) -> Action
         Op::Invocation => Action::Invoke,
         Op::NameString => Action::Name,
         Op::NullName => Action::NoTarget,
+        _ => action_over_data(op),
+    }
+}
+
+/// That of an operator over buffers, strings and packages.
+fn action_over_data(op: Op) -> Action
+    ensures { result ≡ action_over_data op }
+{
+    match op {
+        Op::ToBuffer => Action::Convert(Conversion::ToBuffer),
+        Op::ToInteger => Action::Convert(Conversion::ToInteger),
+        Op::Concatenate => Action::Concatenate,
+        Op::SizeOf => Action::SizeOf,
+        Op::DerefOf => Action::Dereference,
+        Op::Index => Action::Index,
+        Op::CondRefOf => Action::CondRefOf,
+        Op::Debug => Action::Debug,
+        _ => told_action(op),
+    }
+}
+
+/// That of an operator of which the world is told.
+fn told_action(op: Op) -> Action
+    ensures { result ≡ told_action op }
+{
+    match op {
+        Op::Notify => Action::Notify,
+        Op::Sleep => Action::Pause(Pause::Sleep),
+        Op::Stall => Action::Pause(Pause::Stall),
         _ => Action::Unwritten,
     }
 }

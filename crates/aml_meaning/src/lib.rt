@@ -9,6 +9,6 @@ mod action;
 mod error;
 mod law;
 
-pub use action::{Action, Arithmetic, Bitwise, Comparison, action_of};
+pub use action::{Action, Arithmetic, Bitwise, Comparison, Conversion, Pause, action_of};
 pub use error::{AmlCause, AmlError};
 pub use law::{done_is_stable, reads_are_answered, set_bits_are_found};

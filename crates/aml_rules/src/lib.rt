@@ -1,0 +1,19 @@
+//! What operators make of buffers, strings and packages (ACPI 6.5, 19.6), each as its rule says. The
+//! rules stand in `specs/` of aml_meaning.
+#![tactic(auto)]
+
+mod buffers;
+mod conversions;
+mod elements;
+mod equality;
+mod law;
+mod literals;
+mod place;
+
+pub use buffers::{concatenated, size_of};
+pub use conversions::{to_buffer, to_integer};
+pub use elements::{ByteStore, byte_stored, element_at};
+pub use equality::equal;
+pub use law::integers_are_given_back;
+pub use literals::{buffer_of, package_of, string_of};
+pub use place::{Place, RuleFault};
