@@ -1,4 +1,4 @@
-.PHONY: run test cases growths edits check fmt
+.PHONY: run test cases growths edits bench check fmt
 
 # Builds acpicheck, proofs included, and evaluates the method of the stored run.
 run:
@@ -20,6 +20,10 @@ growths:
 # The further edits that must be refused: of every crate, or with CRATE=name of one, and with EDIT=name one of them.
 edits:
 	@python3 bench/edits.py $(CRATE) $(EDIT)
+
+# Loops timed beside ACPICA's acpiexec (apt-get install acpica-tools), by the program that `make run` builds.
+bench:
+	@python3 bench/speed.py
 
 # Every crate, over what earlier checks kept.
 check:

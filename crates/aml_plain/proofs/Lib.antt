@@ -6,3 +6,4 @@ pub mod Shifts
 pub mod Ruled
 pub mod Turns
 pub mod Branches
+pub mod Around

@@ -1,22 +1,29 @@
 // A method's body, from its beginning to its end.
 
-ghost use Rattle.std.specs.Prelude.{◌≡◌};
+ghost use Rattle.std.specs.Prelude.{◌≡◌, map};
+ghost use Rattle.aml_kinds.specs.Views as values;
 ghost use Rattle.aml_operators.specs.declared.row.Code.TheVariants as code;
 ghost use Rattle.aml_operators.specs.Shape.{AreShaped};
 ghost use Rattle.aml_operators.specs.Tree.{views};
-ghost use Rattle.aml_plain.specs.Tells.{EvaluatesBody, outcome_of, setting_of};
+ghost use Rattle.aml_plain.specs.Tells.{EvaluatesBody, names_of, outcome_of, setting_of};
 
 use crate::eval::eval_all;
 use crate::frame::Frame;
 use crate::halt::{Halt, Setting};
+use crate::machine::Machine;
+use aml_kinds::{Names, Value};
 use aml_meaning::{AmlCause, AmlError};
+use aml_namespace::NoMemory;
 use aml_operators::Term;
+use aml_regions::World;
+use std::alloc::Global;
+use std::mem;
 
 /// How an evaluation ends.
-#[derive(Clone, Copy, Debug, PartialEq, Eq)]
+#[derive(Drop)]
 pub enum Outcome {
     /// The body ended: with a Return's value, or without.
-    Done(Option<u64>),
+    Done(Option<Value>),
     AmlError(AmlError),
     OutOfSteps,
 }
@@ -24,29 +31,45 @@ pub enum Outcome {
 /// Evaluates a body where it stands, with its arguments and at most so many steps.
 ///
 /// An error's place is a term's. Arguments behind the seventh are not looked at.
-pub fn evaluate_body(here: Setting<'_>, body: &[Term], arguments: &[u64], fuel: u64) -> Outcome
+pub fn evaluate_body<W: World>(
+    alloc: Global,
+    here: Setting<'_>,
+    body: &[Term],
+    arguments: Vec<Value>,
+    names: &mut Names,
+    world: &mut W,
+    fuel: u64,
+) -> Result<Outcome, NoMemory>
     requires { AreShaped code.Body (views body.now) }
-    ensures { EvaluatesBody (setting_of here.entry) (views body.now) arguments.now fuel result }
+    ensures { (around : _) → EvaluatesBody (setting_of here.entry around) (views body.now)
+        (map values.view arguments.items) fuel (names_of names.old) (W.log world.old)
+        result (names_of names.new) (W.log world.new) }
 {
-    let mut frame = Frame::new(arguments);
-    let mut steps = fuel;
-    outcome_of(here.table, eval_all(here, body, &mut frame, &mut steps))
+    let mut machine = Machine {
+        frame: Frame::new(arguments),
+        names: mem::replace(names, Names::new(alloc)),
+        steps: fuel,
+    };
+    let ended = eval_all(alloc, here, body, &mut machine, world);
+    *names = machine.names;
+    outcome_of(here.table, ended)
 }
 
 /// How a method of a table ends whose statements ended so. A6 at a Break or Continue outside any
 /// While.
-fn outcome_of(table: usize, ended: Result<(), Halt>) -> Outcome
+fn outcome_of(table: usize, ended: Result<(), Halt>) -> Result<Outcome, NoMemory>
     ensures { result ≡ outcome_of table ended }
 {
     match ended {
-        Ok(()) => Outcome::Done(None),
-        Err(Halt::Returned(value)) => Outcome::Done(Some(value)),
-        Err(Halt::Error(error)) => Outcome::AmlError(error),
-        Err(Halt::Broke(at) | Halt::Continued(at)) => Outcome::AmlError(AmlError {
+        Ok(()) => Ok(Outcome::Done(None)),
+        Err(Halt::Returned(value)) => Ok(Outcome::Done(Some(value))),
+        Err(Halt::Error(error)) => Ok(Outcome::AmlError(error)),
+        Err(Halt::Broke(at) | Halt::Continued(at)) => Ok(Outcome::AmlError(AmlError {
             table,
             at,
             cause: AmlCause::Outside,
-        }),
-        Err(Halt::OutOfSteps) => Outcome::OutOfSteps,
+        })),
+        Err(Halt::OutOfSteps) => Ok(Outcome::OutOfSteps),
+        Err(Halt::NoMemory) => Err(NoMemory),
     }
 }

@@ -1,54 +1,83 @@
 // What a running method has of its own.
 
 ghost use Rattle.std.specs.Prelude.{◌≡◌, map, slice_get, slice_set, Some};
-ghost use Rattle.aml_kinds.specs.Values.{Int};
+ghost use Rattle.aml_kinds.specs.Views.{view};
 ghost use Rattle.aml_meaning.specs.State.{entered};
 ghost use Rattle.aml_meaning.specs.Runs.{content};
-ghost use Rattle.aml_plain.specs.Tells.{frame_of, value_of, told};
+ghost use Rattle.aml_plain.specs.Tells.{IsOrNoMemory, frame_of, told, value_of};
 
 use crate::halt::{Halt, Setting, fails};
+use aml_kinds::{Value, copy};
 use aml_meaning::AmlCause;
+use std::alloc::Global;
 
 /// Locals and arguments, unset or with a value.
-#[derive(Debug, Drop)]
+#[derive(Drop)]
 pub struct Frame {
-    pub locals: [Option<u64>; 8],
-    pub args: [Option<u64>; 7],
+    pub locals: [Option<Value>; 8],
+    pub args: [Option<Value>; 7],
 }
 
 impl Frame {
-    /// A method's frame as it begins, with its arguments.
-    pub fn new(arguments: &[u64]) -> Self
-        ensures { frame_of result ≡ entered (map Int arguments.now) }
+    /// A method's frame as it begins, with its arguments; those behind the seventh are not looked at.
+    pub fn new(arguments: Vec<Value>) -> Self
+        ensures { frame_of result ≡ entered (map view arguments.items) }
     {
+        let mut given = arguments.into_iter();
         Frame {
-            locals: [None; 8],
+            locals: [None, None, None, None, None, None, None, None],
             args: [
-                arguments.first().copied(),
-                arguments.get(1).copied(),
-                arguments.get(2).copied(),
-                arguments.get(3).copied(),
-                arguments.get(4).copied(),
-                arguments.get(5).copied(),
-                arguments.get(6).copied(),
+                given.next(),
+                given.next(),
+                given.next(),
+                given.next(),
+                given.next(),
+                given.next(),
+                given.next(),
             ],
         }
     }
 }
 
-/// What a local or an argument holds. A1 at the term's place where it is unset.
-pub fn held(here: Setting<'_>, at: usize, slots: &[Option<u64>], k: u8) -> Result<u64, Halt>
-    ensures { told Int result ≡ content here.entry.table at (slice_get (map value_of slots.now) k) }
+/// What a local or an argument holds, where it stands. A1 at the term's place where it is unset.
+pub fn seen<'a>(
+    here: Setting<'_>,
+    at: usize,
+    slots: &'a [Option<Value>],
+    k: u8,
+) -> Result<&'a Value, Halt>
+    ensures { told (λ v. view v.now) result
+        ≡ content here.entry.table at (slice_get (map value_of slots.now) k) }
 {
     match slots.get(usize::from(k)) {
-        Some(Some(value)) => Ok(*value),
+        Some(Some(value)) => Ok(value),
+        _ => Err(fails(AmlCause::Unset, here, at)),
+    }
+}
+
+/// A copy of what a local or an argument holds. A1 at the term's place where it is unset.
+pub fn held(
+    alloc: Global,
+    here: Setting<'_>,
+    at: usize,
+    slots: &[Option<Value>],
+    k: u8,
+) -> Result<Value, Halt>
+    ensures { IsOrNoMemory (told view result)
+        (content here.entry.table at (slice_get (map value_of slots.now) k)) }
+{
+    match slots.get(usize::from(k)) {
+        Some(Some(value)) => {
+            let copied = copy(alloc, value)?;
+            Ok(copied)
+        }
         _ => Err(fails(AmlCause::Unset, here, at)),
     }
 }
 
 /// Puts a value into a local or an argument.
-pub fn hold(slots: &mut [Option<u64>], k: u8, value: u64)
-    ensures { map value_of slots.new ≡ slice_set (map value_of slots.old) k (Some (Int value)) }
+pub fn hold(slots: &mut [Option<Value>], k: u8, value: Value)
+    ensures { map value_of slots.new ≡ slice_set (map value_of slots.old) k (Some (view value)) }
 {
     let place = usize::from(k);
     if place < slots.len() {

@@ -1,16 +1,15 @@
 // Where a body stands, and why an evaluation ends before its end.
 
-ghost use Rattle.std.specs.Prelude.{◌≡◌, suc, OnOk, List, Option};
-ghost use Rattle.aml_kinds.specs.Values.{Value};
-ghost use Rattle.aml_regions.specs.declared.event.Event.{Event};
+ghost use Rattle.std.specs.Prelude.{◌≡◌};
 ghost use Rattle.aml_meaning.specs.declared.error.AmlCause.TheVariants as cause;
-ghost use Rattle.aml_meaning.specs.Parts.{tick};
-ghost use Rattle.aml_meaning.specs.Runs.{By, Runs, state};
+ghost use Rattle.aml_meaning.specs.Runs.{By};
 ghost use Rattle.aml_meaning.specs.State.{error};
-ghost use Rattle.aml_plain.specs.Tells.{halted, went};
+ghost use Rattle.aml_plain.specs.Tells.{halted};
 
+use aml_kinds::Value;
 use aml_meaning::{AmlCause, AmlError};
-use aml_namespace::{Namespace, ObjectId, Width};
+use aml_namespace::{Namespace, NoMemory, ObjectId, Width};
+use std::alloc::AllocFailed;
 
 /// Where a body stands.
 #[derive(Clone, Copy)]
@@ -25,18 +24,41 @@ pub struct Setting<'a> {
     pub method: ObjectId,
     /// The table's bytes up to the body's end, in which its names stand.
     pub bytes: &'a [u8],
+    /// How many methods more may be active in it.
+    pub depth: u8,
 }
 
 /// Why an evaluation ends before its end.
-#[derive(Clone, Copy, Debug, PartialEq, Eq)]
+#[derive(Drop)]
 pub enum Halt {
+    NoMemory,
     OutOfSteps,
     Error(AmlError),
-    Returned(u64),
+    Returned(Value),
     /// A Break, at its place.
     Broke(usize),
     /// A Continue, at its place.
     Continued(usize),
+}
+
+impl From<NoMemory> for Halt {
+    ghost use Rattle.aml_plain.specs.declared.halt.Halt.TheVariants as halt;
+
+    ghost from_gives = { λ _ given. given ≡ halt.NoMemory };
+
+    fn from(_error: NoMemory) -> Halt {
+        Halt::NoMemory
+    }
+}
+
+impl<T: Drop> From<AllocFailed<T>> for Halt {
+    ghost use Rattle.aml_plain.specs.declared.halt.Halt.TheVariants as halt;
+
+    ghost from_gives = { λ _ given. given ≡ halt.NoMemory };
+
+    fn from(_error: AllocFailed<T>) -> Halt {
+        Halt::NoMemory
+    }
 }
 
 /// An error at a place of the body's table.
@@ -48,18 +70,4 @@ pub fn fails(cause: AmlCause, here: Setting<'_>, at: usize) -> Halt
         at,
         cause,
     })
-}
-
-/// Takes a step, where one is left.
-pub fn take_step(steps: &mut u64) -> Result<(), Halt>
-    ensures means { (frame : _) (names : List (Option Value)) (log : List Event) →
-        Runs (went result) tick (state frame names steps.old log)
-        (state frame names steps.new log) }
-    ensures takes { OnOk result (steps.old ≡ suc steps.new) }
-{
-    if *steps == 0 {
-        return Err(Halt::OutOfSteps);
-    }
-    *steps -= 1;
-    Ok(())
 }

@@ -1,15 +1,12 @@
 // Integers modulo 2 to the width.
 
-ghost use Rattle.std.specs.Prelude.{◌≡◌, ◌<◌, ◌-◌, ◌*◌, ◌/◌, ◌%◌, ◌^◌, if◌then◌else◌};
+ghost use Rattle.std.specs.Prelude.{◌≡◌, ◌<◌, ◌*◌, ◌/◌, ◌%◌, ◌^◌};
 ghost use Rattle.aml_kinds.specs.Values.{Int};
 ghost use Rattle.aml_meaning.specs.declared.action.Arithmetic.TheVariants as operation;
-ghost use Rattle.aml_meaning.specs.Rules.{Place, apply, combined, divided, holds, transform, truth};
-ghost use Rattle.aml_meaning.specs.Runs.{ruled};
+ghost use Rattle.aml_meaning.specs.Rules.{apply, holds, transform, truth};
 ghost use Rattle.aml_namespace.specs.Widths.{bits_of};
-ghost use Rattle.aml_plain.specs.Tells.{division_of, told};
 
-use crate::halt::{Halt, Setting, fails};
-use aml_meaning::{AmlCause, Arithmetic, Bitwise, Comparison};
+use aml_meaning::{Arithmetic, Bitwise, Comparison};
 use aml_namespace::Width;
 
 /// An integer, modulo 2 to the width.
@@ -37,7 +34,7 @@ fn shifted_right(n: u64, count: u64) -> u64
 }
 
 /// Two integers joined, modulo 2 to the width; a divisor is not zero.
-fn joined(width: Width, arithmetic: Arithmetic, x: u64, y: u64) -> u64
+pub fn joined(width: Width, arithmetic: Arithmetic, x: u64, y: u64) -> u64
     requires { arithmetic ≡ operation.Mod → 0 < y }
     ensures { result ≡ apply arithmetic x y % 2 ^ bits_of width }
 {
@@ -57,25 +54,8 @@ fn joined(width: Width, arithmetic: Arithmetic, x: u64, y: u64) -> u64
     wrapped(width, joined)
 }
 
-/// Two integers joined, modulo 2 to the width. A3 at the place of a divisor that is zero.
-pub fn combined(
-    here: Setting<'_>,
-    arithmetic: Arithmetic,
-    x: u64,
-    at: usize,
-    y: u64,
-) -> Result<u64, Halt>
-    ensures { (p : Place) → told Int result ≡ ruled (combined (bits_of here.entry.width) arithmetic
-        p (Int x) (record { table = here.entry.table; at = at }) (Int y)) }
-{
-    if y == 0 && matches!(arithmetic, Arithmetic::Mod) {
-        return Err(fails(AmlCause::Divisor, here, at));
-    }
-    Ok(joined(here.width, arithmetic, x, y))
-}
-
 /// What one integer gives, modulo 2 to the width.
-pub fn transformed(width: Width, operation: Bitwise, n: u64) -> u64
+pub fn transformed_bits(width: Width, operation: Bitwise, n: u64) -> u64
     ensures { result ≡ transform operation n % 2 ^ bits_of width }
 {
     let bits = match operation {
@@ -110,25 +90,4 @@ pub fn truth(width: Width, holds: bool) -> u64
     ensures { Int result ≡ truth (bits_of width) holds }
 {
     if holds { wrapped(width, u64::MAX) } else { 0 }
-}
-
-/// How often a divisor goes into an integer, and what is left.
-#[derive(Clone, Copy, Debug)]
-pub struct Division {
-    pub quotient: u64,
-    pub remainder: u64,
-}
-
-/// An integer divided by another. A3 at the other's place where it is zero.
-pub fn divided(here: Setting<'_>, x: u64, at: usize, y: u64) -> Result<Division, Halt>
-    ensures { (p : Place) → told division_of result ≡ ruled (divided
-        p (Int x) (record { table = here.entry.table; at = at }) (Int y)) }
-{
-    if y == 0 {
-        return Err(fails(AmlCause::Divisor, here, at));
-    }
-    Ok(Division {
-        quotient: x / y,
-        remainder: x % y,
-    })
 }

@@ -7,7 +7,14 @@ mod form;
 mod frame;
 mod halt;
 mod integer;
+mod law;
+mod machine;
 mod method;
+mod notice;
+mod operand;
+mod rules;
+mod target;
 
 pub use body::Outcome;
+pub use law::bodies_are_there;
 pub use method::{evaluate_plain, evaluate_terms};

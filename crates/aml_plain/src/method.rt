@@ -1,6 +1,7 @@
 // A method's evaluation, from the bytes of its table.
 
-ghost use Rattle.std.specs.Prelude.{◌≡◌, List, Some, IfOk, IsSome};
+ghost use Rattle.std.specs.Prelude.{◌≡◌, List, Some, IsSome, map};
+ghost use Rattle.aml_kinds.specs.Views as values;
 ghost use Rattle.aml_operators.specs.declared.row.Code.TheVariants as code;
 ghost use Rattle.aml_operators.specs.Shape.{AreShaped};
 ghost use Rattle.aml_operators.specs.Tree.{Tree, trees, views};
@@ -8,26 +9,40 @@ ghost use Rattle.aml_namespace.specs.declared.object.Method.{Method};
 ghost use Rattle.aml_namespace.specs.Shows.{shown};
 ghost use Rattle.aml_namespace.specs.Names.{method_at, IsBodyOf};
 ghost use Rattle.aml_plain.specs.Methods.{Evaluates, Parses};
+ghost use Rattle.aml_plain.specs.Tells.{names_of};
 
 use crate::body::{Outcome, evaluate_body};
 use crate::halt::Setting;
+use aml_kinds::{Names, Value};
 use aml_namespace::{Namespace, NoMemory, ObjectId};
+use aml_regions::World;
 use aml_tree::{Term, TreeFault};
 use std::alloc::Global;
 
+/// How many methods may be active within the first.
+const MOST_WITHIN: u8 = 63;
+
 /// Evaluates a method whose body is these terms, as `Namespace::tree` reads them, with its arguments
-/// and at most so many steps.
-pub fn evaluate_terms(
+/// and at most so many steps, over what names hold and a world.
+///
+/// After an AML error, at the end of the steps and for want of memory, names and world are as the
+/// steps so far left them.
+pub fn evaluate_terms<W: World>(
+    alloc: Global,
     namespace: &Namespace<'_>,
+    names: &mut Names,
     method: ObjectId,
     body: &[Term],
-    arguments: &[u64],
+    arguments: Vec<Value>,
+    world: &mut W,
     fuel: u64,
-) -> Outcome
+) -> Result<Outcome, NoMemory>
     requires known { IsSome (method_at (shown namespace.now) method.0) }
     requires shaped { AreShaped code.Body (views body.now) }
     ensures { let ns = shown namespace.now in (m : Method) → method_at ns method.0 ≡ Some m →
-        Evaluates ns method.0 m (views body.now) arguments.now fuel result }
+        Evaluates ns method.0 m (views body.now) (map values.view arguments.items) fuel
+        (names_of names.old) (W.log world.old)
+        result (names_of names.new) (W.log world.new) }
 {
     let here = Setting {
         table: namespace.method(method).unwrap().table,
@@ -35,29 +50,39 @@ pub fn evaluate_terms(
         namespace,
         method,
         bytes: namespace.body_bytes(method),
+        depth: MOST_WITHIN,
     };
-    evaluate_body(here, body, arguments, fuel)
+    evaluate_body(alloc, here, body, arguments, names, world, fuel)
 }
 
-/// Evaluates a method from the bytes of its table, with its arguments and at most so many steps.
+/// Evaluates a method from the bytes of its table, with its arguments and at most so many steps, over
+/// what names hold and a world.
 ///
 /// The outcome is the definition's of the tree that the grammar ties to those bytes: its value or none,
-/// its error at its table and place, or out of steps. The caller knows that the body parses.
-pub fn evaluate_plain(
+/// its error at its table and place, or out of steps; and so are what names hold afterwards and the
+/// events that the world gained. The caller knows that the body parses. Want of memory may come
+/// anywhere: names and events are then those of the definition with fewer steps.
+pub fn evaluate_plain<W: World>(
     alloc: Global,
     namespace: &Namespace<'_>,
+    names: &mut Names,
     method: ObjectId,
-    arguments: &[u64],
+    arguments: Vec<Value>,
+    world: &mut W,
     fuel: u64,
 ) -> Result<Outcome, NoMemory>
     requires known { IsSome (method_at (shown namespace.now) method.0) }
     requires parses { Parses (shown namespace.now) method.0 }
-    ensures { let ns = shown namespace.now in IfOk result (λ outcome.
+    ensures { let ns = shown namespace.now in
         (m : Method) → method_at ns method.0 ≡ Some m → (ts : List Tree) → IsBodyOf ns method.0 m ts →
-        Evaluates ns method.0 m (trees ts) arguments.now fuel outcome) }
+        Evaluates ns method.0 m (trees ts) (map values.view arguments.items) fuel
+        (names_of names.old) (W.log world.old)
+        result (names_of names.new) (W.log world.new) }
 {
     match namespace.tree(alloc, method) {
-        Ok(body) => Ok(evaluate_terms(namespace, method, &body, arguments, fuel)),
+        Ok(body) => evaluate_terms(
+            alloc, namespace, names, method, &body, arguments, world, fuel,
+        ),
         Err(TreeFault::NoMemory) => Err(NoMemory),
         Err(TreeFault::Refused(_)) => unreachable!(),
     }

@@ -1,7 +1,10 @@
 use Rattle.aml_namespace.specs.Shows.{shown}
-use Rattle.aml_plain.proofs.Methods.{evaluated_at, same_method}
+use Rattle.aml_operators.specs.Tree.{views}
+use Rattle.aml_plain.proofs.Methods.{same_method, stands}
 use Rattle.aml_plain.proofs.method.evaluate_terms.Goals as goal
 
 pub returns : goal.returns
-returns c = λ m is.
-    evaluated_at (shown c.args.namespace.now) c.args.method.0 m c.unwrap.result c.body_bytes.result.now _ _ _ _ (same_method _ _ m c.unwrap.result is c.method.ensures c.unwrap.ensures) (c.body_bytes.ensures m is) (rw c.width.ensures at c.evaluate_body.ensures)
+returns g c = λ m is around.
+    let one = same_method _ _ m c.unwrap.result is c.method.ensures c.unwrap.ensures in
+    let place = stands (shown c.args.namespace.now) around.bodies 63 c.args.method.0 m c.unwrap.result c.width.result c.body_bytes.result.now (views c.args.body.now) one c.width.ensures (c.body_bytes.ensures m is) in
+    rw place at (c.evaluate_body.ensures around)

@@ -1,0 +1,162 @@
+#!/usr/bin/env python3
+"""Times acpicheck beside ACPICA's acpiexec on loops: speed.py [ACPICHECK] [LOOP ..].
+
+`iasl` and `acpiexec` are of Debian's acpica-tools (apt-get install acpica-tools). One DSDT has a method for each loop, whose argument
+is the number of turns. Each is run at two sizes, the second twice the first, the better of three runs; what a turn costs is the
+difference of both over the difference of the turns, so that starting, loading and reading are left out. Both must give the same value.
+"""
+import re
+import shutil
+import subprocess
+import sys
+import tempfile
+import time
+from pathlib import Path
+
+ACPICHECK = Path(__file__).resolve().parent.parent / "crates/acpicheck/out/acpicheck"
+STEPS = str(2**64 - 1)
+RUNS = 3
+
+# the turns of the first size, here and there
+LOOPS = {
+    "ARIT": (2_000_000, 100_000),
+    "BUFF": (1_000_000, 50_000),
+    "CALL": (1_000_000, 50_000),
+    "DEEP": (30_000, 1_000),
+    "PACK": (1_000_000, 50_000),
+    "CRCS": (300, 10),
+    "TEXT": (10_000, 10_000),
+}
+
+
+def crc_table():
+    for n in range(256):
+        for _ in range(8):
+            n = n >> 1 ^ (0xEDB88320 if n & 1 else 0)
+        yield n
+
+
+def source():
+    """The ASL of the loops."""
+    integers = ", ".join(str(n * 7) for n in range(1000))
+    table = ", ".join(hex(n) for n in crc_table())
+    deep = "".join(
+        f"Method (D{n:03}, 1) {{ Return ({f'D{n + 1:03} (Arg0)' if n < 59 else 'Add (Arg0, 1)'}) }}\n" for n in reversed(range(60)))
+    return f"""
+DefinitionBlock ("", "DSDT", 2, "ACPICK", "SPEED", 1) {{
+Name (BUF0, Buffer (65536) {{}})
+Name (PKG0, Package (1000) {{ {integers} }})
+Name (CRC0, Package (256) {{ {table} }})
+Name (DAT0, Buffer (4096) {{ 1, 2, 3, 4, 5, 6, 7, 8 }})
+Method (ARIT, 1) {{
+  Store (Zero, Local0)
+  Store (One, Local1)
+  While (LLess (Local0, Arg0)) {{ And (Add (Multiply (Local1, 3), 7), 0xFFFF, Local1) Increment (Local0) }}
+  Return (Local1)
+}}
+Method (BUFF, 1) {{
+  Store (Zero, Local0)
+  While (LLess (Local0, Arg0)) {{
+    And (Local0, 0xFFFF, Local1)
+    Add (DerefOf (Index (BUF0, Local1)), 3, Index (BUF0, Local1))
+    Increment (Local0)
+  }}
+  Return (DerefOf (Index (BUF0, 7)))
+}}
+Method (SUM3, 3) {{ Return (And (Add (Add (Arg0, Arg1), Arg2), 0xFFFFFF)) }}
+Method (CALL, 1) {{
+  Store (Zero, Local0)
+  Store (Zero, Local1)
+  While (LLess (Local0, Arg0)) {{ Store (SUM3 (Local0, Local1, 5), Local1) Increment (Local0) }}
+  Return (Local1)
+}}
+{deep}
+Method (DEEP, 1) {{
+  Store (Zero, Local0)
+  Store (Zero, Local1)
+  While (LLess (Local0, Arg0)) {{ Store (D000 (Local1), Local1) Increment (Local0) }}
+  Return (Local1)
+}}
+Method (PACK, 1) {{
+  Store (Zero, Local0)
+  Store (Zero, Local1)
+  While (LLess (Local0, Arg0)) {{
+    Add (Local1, DerefOf (Index (PKG0, Mod (Local0, 1000))), Local1)
+    Increment (Local0)
+  }}
+  Return (Local1)
+}}
+Method (CRCS, 1) {{
+  Store (Zero, Local0)
+  While (LLess (Local0, Arg0)) {{
+    Store (0xFFFFFFFF, Local1)
+    Store (Zero, Local2)
+    While (LLess (Local2, 4096)) {{
+      XOr (ShiftRight (Local1, 8), DerefOf (Index (CRC0, And (XOr (Local1, DerefOf (Index (DAT0, Local2))), 0xFF))), Local1)
+      Increment (Local2)
+    }}
+    Increment (Local0)
+  }}
+  Return (Local1)
+}}
+Method (TEXT, 1) {{
+  Store (Zero, Local0)
+  Store ("", Local1)
+  While (LLess (Local0, Arg0)) {{ Concatenate (Local1, "ab", Local1) Increment (Local0) }}
+  Return (SizeOf (Local1))
+}}
+}}
+"""
+
+
+def best(command):
+    """The least time of some runs, and what the last one printed."""
+    least, said = None, ""
+    for _ in range(RUNS):
+        start = time.monotonic()
+        said = subprocess.run(command, capture_output=True, text=True, check=False).stdout
+        took = time.monotonic() - start
+        least = took if least is None else min(least, took)
+    return least, said
+
+
+def value(said):
+    """The integer that a program printed, or its last line."""
+    found = re.search(r"^result (0x[0-9a-f]+)$|\[Integer\] = ([0-9A-F]+)", said, re.M)
+    if not found:
+        return said.strip().splitlines()[-1] if said.strip() else "nothing"
+    return int(found[1] or found[2], 16)
+
+
+def ours(program, table, loop, turns):
+    return best([program, "eval", "--plain", STEPS, "--method", "\\" + loop, "--args", str(turns), table])
+
+
+def theirs(table, loop, turns):
+    return best(["acpiexec", "-di", "-b", f"execute {loop} {turns:#x}", table])
+
+
+def main(words):
+    program = words[0] if words else str(ACPICHECK)
+    for tool in ("iasl", "acpiexec"):
+        if not shutil.which(tool):
+            sys.exit(f"{tool} is missing: apt-get install acpica-tools")
+    with tempfile.TemporaryDirectory() as folder:
+        asl = Path(folder) / "speed.asl"
+        asl.write_text(source())
+        subprocess.run(["iasl", "-oa", "-p", folder + "/speed", asl], capture_output=True, check=True)
+        table = folder + "/speed.aml"
+        print("loop   turns      here         a turn     turns      acpiexec     a turn     times")
+        for loop in words[1:] or LOOPS:
+            mine, other = LOOPS[loop]
+            (first, _), (second, said) = (ours(program, table, loop, n) for n in (mine, 2 * mine))
+            (before, _), (behind, told) = (theirs(table, loop, n) for n in (other, 2 * other))
+            here, there = (second - first) / mine, (behind - before) / other
+            _, small = ours(program, table, loop, 2 * other)
+            same = "" if value(small) == value(told) else f"  here {value(small)}, there {value(told)}"
+            print(f"{loop} {2 * mine:9} {first:6.3f} {second:6.3f} s {here * 1e9:8.0f} ns"
+                  f" {2 * other:9} {before:6.3f} {behind:6.3f} s {there * 1e9:8.0f} ns {there / here:8.1f}{same}")
+
+
+if __name__ == "__main__":
+    main(sys.argv[1:])

@@ -1,0 +1,13 @@
+use Rattle.aml_meaning.proofs.Runs.{runs_get_name, runs_stop_with}
+use Rattle.aml_plain.proofs.Forms.{seen_elsewhere}
+use Rattle.aml_plain.proofs.Ruled.{runs_as}
+use Rattle.aml_plain.specs.Tells.{now, setting_of}
+use Rattle.aml_plain.proofs.operand.named_seen.Goals as goal
+
+pub returns-in-Data : goal.returns-in-Data
+returns-in-Data c = λ around log.
+    rw (← c.in-Data.ensures) (runs_as (c.seen.ensures log) (runs_get_name _ _ _ (now c.args.machine.now log)))
+
+pub returns-in_default : goal.returns-in_default
+returns-in_default c = λ around log.
+    rw (← c.link.ensures, seen_elsewhere (setting_of c.args.here around) _ _ c.in_default.not-Data, ← c.sizeless.ensures, c.fails.ensures) (runs_stop_with _ _)

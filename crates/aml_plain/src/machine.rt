@@ -1,0 +1,126 @@
+// What a running evaluation changes.
+
+ghost use Rattle.std.specs.Prelude.{◌≡◌, ◌≤◌, suc, List, OnOk, Some};
+ghost use Rattle.aml_kinds.specs.Contents.{content_at};
+ghost use Rattle.aml_kinds.specs.Views.{view};
+ghost use Rattle.aml_regions.specs.declared.event.Event.{Event};
+ghost use Rattle.aml_meaning.specs.Parts.{set_name, tick, with_arg, with_local};
+ghost use Rattle.aml_meaning.specs.Runs.{Runs, content};
+ghost use Rattle.aml_plain.specs.Tells.{IsOrNoMemory, is_package, now, told, went};
+
+use crate::frame::{Frame, hold};
+use crate::halt::{Halt, Setting, fails};
+use aml_kinds::{Names, Value, copy};
+use aml_meaning::AmlCause;
+use aml_namespace::ObjectId;
+use std::alloc::Global;
+
+/// The running method's frame, what data names hold, and the steps that are left.
+#[derive(Drop)]
+pub struct Machine {
+    pub frame: Frame,
+    pub names: Names,
+    pub steps: u64,
+}
+
+impl Machine {
+    /// Takes a step, where one is left.
+    pub fn take_step(&mut self) -> Result<(), Halt>
+        ensures means { (log : List Event) →
+            Runs (went result) tick (now self.old log) (now self.new log) }
+        ensures takes { OnOk result (self.old.steps ≡ suc self.new.steps) }
+        ensures falls { self.new.steps ≤ self.old.steps }
+    {
+        if self.steps == 0 {
+            return Err(Halt::OutOfSteps);
+        }
+        self.steps -= 1;
+        Ok(())
+    }
+
+    /// Puts a value into a local.
+    pub fn set_local(&mut self, k: u8, value: Value)
+        ensures holds { (log : List Event) →
+            now self.new log ≡ with_local (now self.old log) k (view value) }
+        ensures steps { self.new.steps ≡ self.old.steps }
+    {
+        hold(&mut self.frame.locals, k, value);
+    }
+
+    /// Puts a value into an argument.
+    pub fn set_argument(&mut self, k: u8, value: Value)
+        ensures holds { (log : List Event) →
+            now self.new log ≡ with_arg (now self.old log) k (view value) }
+        ensures steps { self.new.steps ≡ self.old.steps }
+    {
+        hold(&mut self.frame.args, k, value);
+    }
+
+    /// What a data name holds, where it stands. A1 at the term's place where it holds nothing.
+    pub fn seen(&self, here: Setting<'_>, at: usize, id: ObjectId) -> Result<&Value, Halt>
+        ensures { (log : List Event) → told (λ v. view v.now) result
+            ≡ content here.entry.table at (Some (content_at (now self.now log).names.contents id.0)) }
+    {
+        match self.names.get(id) {
+            Some(value) => Ok(value),
+            None => Err(fails(AmlCause::Unset, here, at)),
+        }
+    }
+
+    /// A copy of what a data name holds. A1 at the term's place where it holds nothing.
+    pub fn content(
+        &self,
+        alloc: Global,
+        here: Setting<'_>,
+        at: usize,
+        id: ObjectId,
+    ) -> Result<Value, Halt>
+        ensures { (log : List Event) → IsOrNoMemory (told view result)
+            (content here.entry.table at (Some (content_at (now self.now log).names.contents id.0))) }
+    {
+        match self.names.get(id) {
+            Some(value) => {
+                let copied = copy(alloc, value)?;
+                Ok(copied)
+            }
+            None => Err(fails(AmlCause::Unset, here, at)),
+        }
+    }
+
+    /// Makes a data name hold a value of its kind, with a step. A2 at the target's place for a package
+    /// and a value of another kind.
+    pub fn set_name(
+        &mut self,
+        here: Setting<'_>,
+        at: usize,
+        id: ObjectId,
+        value: Value,
+    ) -> Result<(), Halt>
+        ensures means { (log : List Event) → Runs (went result)
+            (set_name here.entry.table at id.0 (view value)) (now self.old log) (now self.new log) }
+        ensures falls { self.new.steps ≤ self.old.steps }
+    {
+        if self.steps == 0 {
+            return Err(Halt::OutOfSteps);
+        }
+        self.steps -= 1;
+        if is_package(&value) {
+            return Err(fails(AmlCause::Kind, here, at));
+        }
+        if self.names.set(id, value).is_ok() {
+            Ok(())
+        } else {
+            Err(fails(AmlCause::Kind, here, at))
+        }
+    }
+}
+
+/// Whether a value is a package.
+fn is_package(value: &Value) -> bool
+    ensures { result ≡ is_package (view value.now) }
+{
+    match value {
+        Value::Pkg(_) => true,
+        _ => false,
+    }
+}

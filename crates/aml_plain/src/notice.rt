@@ -1,0 +1,119 @@
+// What a world is told: Notify, Sleep and Stall (ACPI 6.5, 19.6).
+
+ghost use Rattle.std.specs.Prelude.{◌≡◌, ◌≤◌, List};
+ghost use Rattle.aml_namespace.specs.declared.object.ObjectId.{ObjectId};
+ghost use Rattle.aml_regions.specs.declared.event.Event.{Event};
+ghost use Rattle.aml_regions.specs.declared.event.Event.TheVariants.{Notified};
+ghost use Rattle.aml_meaning.specs.Meaning.{notified, notified_name};
+ghost use Rattle.aml_meaning.specs.Notices.{is_notifiable, notice, pause_event};
+ghost use Rattle.aml_meaning.specs.Parts.{make_event};
+ghost use Rattle.aml_meaning.specs.Runs.{Runs, ruled};
+ghost use Rattle.aml_plain.specs.Tells.{itself, now, place_in, setting_of, told, went};
+
+use crate::halt::{Halt, Setting, fails};
+use crate::machine::Machine;
+use aml_meaning::{Action, AmlCause, Pause};
+use aml_namespace::{Link, Object, ObjectId};
+use aml_regions::World;
+
+/// Whether an object can be notified.
+fn is_notifiable(object: Option<Object>) -> bool
+    ensures { result ≡ is_notifiable object }
+{
+    match object {
+        Some(Object::Device | Object::Processor | Object::ThermalZone) => true,
+        _ => false,
+    }
+}
+
+/// The object that a name names, where it can be notified. A5 at the name where it names nothing.
+fn notified_name(here: Setting<'_>, at: usize) -> Result<Option<ObjectId>, Halt>
+    ensures { (around : _) (s : _) → let inside = setting_of here.entry around in
+        Runs (told itself result) (notified_name inside (inside.link at) at) s s }
+{
+    match here.namespace.link(here.method, here.bytes, at) {
+        Link::Missing => Err(fails(AmlCause::Missing, here, at)),
+        Link::Object(id) => {
+            if is_notifiable(here.namespace.object(id)) {
+                Ok(Some(id))
+            } else {
+                Ok(None)
+            }
+        }
+        _ => Ok(None),
+    }
+}
+
+/// The object that a Notify is of, where it can be notified.
+pub fn notified(
+    here: Setting<'_>,
+    action: Action,
+    at: usize,
+    machine: &mut Machine,
+) -> Result<Option<ObjectId>, Halt>
+    ensures means { (around : _) (log : List Event) → Runs (told itself result)
+        (notified (setting_of here.entry around) action at)
+        (now machine.old log) (now machine.new log) }
+    ensures falls { machine.new.steps ≤ machine.old.steps }
+{
+    match action {
+        Action::Name => notified_name(here, at),
+        Action::Local(_) => Ok(None),
+        Action::Argument(_) => Ok(None),
+        _ => {
+            machine.take_step()?;
+            Err(fails(AmlCause::Outside, here, at))
+        }
+    }
+}
+
+/// The object that is notified. A2 at the place of what cannot be.
+pub fn notice(here: Setting<'_>, at: usize, object: Option<ObjectId>) -> Result<ObjectId, Halt>
+    ensures { told itself result ≡ ruled (notice (place_in here.entry at) object) }
+{
+    match object {
+        Some(id) => Ok(id),
+        None => Err(fails(AmlCause::Kind, here, at)),
+    }
+}
+
+/// Tells a world of a Notify, with a step.
+pub fn notify<W: World>(
+    object: ObjectId,
+    value: u64,
+    machine: &mut Machine,
+    world: &mut W,
+) -> Result<(), Halt>
+    ensures means { Runs (went result) (make_event (Notified object value))
+        (now machine.old (W.log world.old)) (now machine.new (W.log world.new)) }
+    ensures falls { machine.new.steps ≤ machine.old.steps }
+{
+    if machine.steps == 0 {
+        return Err(Halt::OutOfSteps);
+    }
+    machine.steps -= 1;
+    world.notify(object, value)?;
+    Ok(())
+}
+
+/// Tells a world of a pause, with a step.
+pub fn pause<W: World>(
+    pause: Pause,
+    value: u64,
+    machine: &mut Machine,
+    world: &mut W,
+) -> Result<(), Halt>
+    ensures means { Runs (went result) (make_event (pause_event pause value))
+        (now machine.old (W.log world.old)) (now machine.new (W.log world.new)) }
+    ensures falls { machine.new.steps ≤ machine.old.steps }
+{
+    if machine.steps == 0 {
+        return Err(Halt::OutOfSteps);
+    }
+    machine.steps -= 1;
+    match pause {
+        Pause::Sleep => world.sleep(value)?,
+        Pause::Stall => world.stall(value)?,
+    }
+    Ok(())
+}

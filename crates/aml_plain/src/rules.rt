@@ -1,0 +1,259 @@
+// What operators make of values, each at its term's place.
+
+ghost use Rattle.std.specs.Prelude.{◌≡◌, Result};
+ghost use Rattle.aml_kinds.specs.Values.{Int};
+ghost use Rattle.aml_kinds.specs.Views.{view};
+ghost use Rattle.aml_meaning.specs.Rules.{Place, combined, compared, divided, divisor, equal, integer, negated, second, transformed};
+ghost use Rattle.aml_meaning.specs.Runs.{ruled};
+ghost use Rattle.aml_namespace.specs.Widths.{bits_of};
+ghost use Rattle.aml_meaning.specs.Buffers.{concatenated, size_of};
+ghost use Rattle.aml_meaning.specs.Elements.{element_at};
+ghost use Rattle.aml_meaning.specs.Conversions.{converted};
+ghost use Rattle.aml_meaning.specs.declared.error.AmlError.{AmlError};
+ghost use Rattle.aml_rules.specs.Tells.{Obeys, place_of};
+ghost use Rattle.aml_rules.specs.Tells as rules;
+ghost use Rattle.aml_plain.specs.Tells.{IsOrNoMemory, division_of, itself, place_in, told};
+
+use crate::halt::{Halt, Setting, fails};
+use crate::integer::{holds, joined, transformed_bits, truth};
+use aml_kinds::Value;
+use aml_meaning::{AmlCause, AmlError, Arithmetic, Bitwise, Comparison, Conversion};
+use aml_rules::{Place, RuleFault};
+use std::alloc::Global;
+
+/// An integer. A2 at the place of what is none.
+pub fn integer(here: Setting<'_>, at: usize, value: &Value) -> Result<u64, Halt>
+    ensures { told itself result ≡ ruled (integer (place_in here.entry at) (view value.now)) }
+{
+    match value {
+        Value::Int(number) => Ok(*number),
+        _ => Err(fails(AmlCause::Kind, here, at)),
+    }
+}
+
+/// An integer that is not zero. A2 at the place of what is no integer, A3 at that of zero.
+pub fn divisor(here: Setting<'_>, at: usize, value: &Value) -> Result<u64, Halt>
+    ensures { told itself result ≡ ruled (divisor (place_in here.entry at) (view value.now)) }
+{
+    let number = integer(here, at, value)?;
+    if number == 0 {
+        return Err(fails(AmlCause::Divisor, here, at));
+    }
+    Ok(number)
+}
+
+/// The second of two operands: of Mod a divisor, else an integer.
+fn second(here: Setting<'_>, arithmetic: Arithmetic, at: usize, value: &Value) -> Result<u64, Halt>
+    ensures { told itself result
+        ≡ ruled (second arithmetic (place_in here.entry at) (view value.now)) }
+{
+    match arithmetic {
+        Arithmetic::Mod => divisor(here, at, value),
+        _ => integer(here, at, value),
+    }
+}
+
+/// Two integers joined, modulo 2 to the width.
+pub fn combined(
+    here: Setting<'_>,
+    arithmetic: Arithmetic,
+    x_at: usize,
+    x: &Value,
+    y_at: usize,
+    y: &Value,
+) -> Result<u64, Halt>
+    ensures { told Int result ≡ ruled (combined (bits_of here.entry.width) arithmetic
+        (place_in here.entry x_at) (view x.now) (place_in here.entry y_at) (view y.now)) }
+{
+    let first = integer(here, x_at, x)?;
+    let second = second(here, arithmetic, y_at, y)?;
+    Ok(joined(here.width, arithmetic, first, second))
+}
+
+/// How often a divisor goes into an integer, and what is left.
+#[derive(Clone, Copy, Debug)]
+pub struct Division {
+    pub quotient: u64,
+    pub remainder: u64,
+}
+
+/// An integer divided by another.
+pub fn divided(
+    here: Setting<'_>,
+    x_at: usize,
+    x: &Value,
+    y_at: usize,
+    y: &Value,
+) -> Result<Division, Halt>
+    ensures { told division_of result ≡ ruled (divided
+        (place_in here.entry x_at) (view x.now) (place_in here.entry y_at) (view y.now)) }
+{
+    let first = integer(here, x_at, x)?;
+    let second = divisor(here, y_at, y)?;
+    Ok(Division {
+        quotient: first / second,
+        remainder: first % second,
+    })
+}
+
+/// What one integer gives, modulo 2 to the width.
+pub fn transformed(
+    here: Setting<'_>,
+    operation: Bitwise,
+    x_at: usize,
+    x: &Value,
+) -> Result<u64, Halt>
+    ensures { told Int result ≡ ruled (transformed (bits_of here.entry.width) operation
+        (place_in here.entry x_at) (view x.now)) }
+{
+    let number = integer(here, x_at, x)?;
+    Ok(transformed_bits(here.width, operation, number))
+}
+
+/// Whether two values of one kind are equal. A2 at the second's place where it is of another kind, and
+/// at the first's where that is a package.
+fn equal(here: Setting<'_>, x_at: usize, x: &Value, y_at: usize, y: &Value) -> Result<bool, Halt>
+    ensures { told itself result ≡ ruled (equal
+        (place_in here.entry x_at) (view x.now) (place_in here.entry y_at) (view y.now)) }
+{
+    match (x, y) {
+        (Value::Int(m), Value::Int(n)) => Ok(m == n),
+        (Value::Buf(xs), Value::Buf(ys)) => Ok(xs.as_slice() == ys.as_slice()),
+        (Value::Str(xs), Value::Str(ys)) => Ok(xs.as_slice() == ys.as_slice()),
+        (Value::Pkg(_), _) => Err(fails(AmlCause::Kind, here, x_at)),
+        _ => Err(fails(AmlCause::Kind, here, y_at)),
+    }
+}
+
+/// What is said of two values: LEqual takes two of one kind, every other two integers.
+pub fn compared(
+    here: Setting<'_>,
+    comparison: Comparison,
+    x_at: usize,
+    x: &Value,
+    y_at: usize,
+    y: &Value,
+) -> Result<u64, Halt>
+    ensures { told Int result ≡ ruled (compared (bits_of here.entry.width) comparison
+        (place_in here.entry x_at) (view x.now) (place_in here.entry y_at) (view y.now)) }
+{
+    match comparison {
+        Comparison::LEqual => {
+            let same = equal(here, x_at, x, y_at, y)?;
+            Ok(truth(here.width, same))
+        }
+        _ => {
+            let first = integer(here, x_at, x)?;
+            let second = integer(here, y_at, y)?;
+            Ok(truth(here.width, holds(comparison, first, second)))
+        }
+    }
+}
+
+/// Whether an integer is zero.
+pub fn negated(here: Setting<'_>, x_at: usize, x: &Value) -> Result<u64, Halt>
+    ensures { told Int result ≡ ruled (negated (bits_of here.entry.width)
+        (place_in here.entry x_at) (view x.now)) }
+{
+    let number = integer(here, x_at, x)?;
+    Ok(truth(here.width, number == 0))
+}
+
+/// A place in the body's table.
+fn place(here: Setting<'_>, at: usize) -> Place
+    ensures { place_of result ≡ place_in here.entry at }
+{
+    Place {
+        table: here.table,
+        at,
+    }
+}
+
+/// What a rule gives that may want memory.
+fn obeyed(answer: Result<Value, RuleFault>) -> Result<Value, Halt>
+    ensures { (rule : Result _ AmlError) → Obeys view answer rule →
+        IsOrNoMemory (told view result) (ruled rule) }
+{
+    match answer {
+        Ok(given) => Ok(given),
+        Err(RuleFault::Error(error)) => Err(Halt::Error(error)),
+        Err(RuleFault::NoMemory) => Err(Halt::NoMemory),
+    }
+}
+
+/// The integer that a rule gives.
+fn given_integer(answer: Result<u64, AmlError>) -> Result<Value, Halt>
+    ensures { told view result ≡ ruled (rules.told Int answer) }
+{
+    match answer {
+        Ok(number) => Ok(Value::Int(number)),
+        Err(error) => Err(Halt::Error(error)),
+    }
+}
+
+/// A value as one of another kind.
+pub fn converted(
+    alloc: Global,
+    here: Setting<'_>,
+    conversion: Conversion,
+    at: usize,
+    x_at: usize,
+    x: Value,
+) -> Result<Value, Halt>
+    ensures { IsOrNoMemory (told view result) (ruled (converted (bits_of here.entry.width) conversion
+        (place_in here.entry at) (place_in here.entry x_at) (view x))) }
+{
+    let operand = place(here, x_at);
+    match conversion {
+        Conversion::ToBuffer => obeyed(aml_rules::to_buffer(alloc, here.width, operand, x)),
+        Conversion::ToInteger => {
+            let operator = place(here, at);
+            given_integer(aml_rules::to_integer(here.width, operator, operand, &x))
+        }
+    }
+}
+
+/// Two buffers or two strings, the second behind the first.
+pub fn concatenated(
+    here: Setting<'_>,
+    at: usize,
+    x_at: usize,
+    x: Value,
+    y_at: usize,
+    y: &Value,
+) -> Result<Value, Halt>
+    ensures { IsOrNoMemory (told view result) (ruled (concatenated (place_in here.entry at)
+        (place_in here.entry x_at) (view x) (place_in here.entry y_at) (view y.now))) }
+{
+    let operator = place(here, at);
+    let first = place(here, x_at);
+    let second = place(here, y_at);
+    obeyed(aml_rules::concatenated(operator, first, x, second, y))
+}
+
+/// A byte or a copy of an element of a value.
+pub fn element_at(
+    alloc: Global,
+    here: Setting<'_>,
+    at: usize,
+    x_at: usize,
+    x: &Value,
+    i_at: usize,
+    i: &Value,
+) -> Result<Value, Halt>
+    ensures { IsOrNoMemory (told view result) (ruled (element_at (place_in here.entry at)
+        (place_in here.entry x_at) (view x.now) (place_in here.entry i_at) (view i.now))) }
+{
+    let operator = place(here, at);
+    let first = place(here, x_at);
+    let second = place(here, i_at);
+    obeyed(aml_rules::element_at(alloc, operator, first, x, second, i))
+}
+
+/// How large a value is.
+pub fn sized(here: Setting<'_>, at: usize, x: &Value) -> Result<Value, Halt>
+    ensures { told view result
+        ≡ ruled (size_of (bits_of here.entry.width) (place_in here.entry at) (view x.now)) }
+{
+    given_integer(aml_rules::size_of(here.width, place(here, at), x))
+}

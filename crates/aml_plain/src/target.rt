@@ -1,0 +1,136 @@
+// Names and targets: what is read by a name alone, and what a store does.
+
+ghost use Rattle.std.specs.Prelude.{◌≡◌, ◌≤◌, List};
+ghost use Rattle.aml_kinds.specs.Views as values;
+ghost use Rattle.aml_operators.specs.Tree.{view, views};
+ghost use Rattle.aml_regions.specs.declared.event.Event.{Event};
+ghost use Rattle.aml_meaning.specs.Meaning.{named, named_target, put, store, unwritable};
+ghost use Rattle.aml_meaning.specs.Runs.{Runs};
+ghost use Rattle.aml_plain.specs.Tells.{now, setting_of, told, value_of, went};
+
+use crate::halt::{Halt, Setting, fails};
+use crate::machine::Machine;
+use aml_kinds::{Value, copy};
+use aml_meaning::{Action, AmlCause, action_of};
+use aml_namespace::Link;
+use aml_operators::Term;
+use std::alloc::Global;
+
+/// Why a name alone cannot be read or written.
+fn unwritable(link: Link) -> AmlCause
+    ensures { result ≡ unwritable link }
+{
+    match link {
+        Link::Missing => AmlCause::Missing,
+        Link::Method(_) | Link::OsInterfaces | Link::Object(_) => AmlCause::Kind,
+        _ => AmlCause::Outside,
+    }
+}
+
+/// What a name alone means where it is read.
+pub fn named(
+    alloc: Global,
+    here: Setting<'_>,
+    at: usize,
+    machine: &Machine,
+) -> Result<Option<Value>, Halt>
+    ensures { (around : _) (log : List Event) → let s = setting_of here.entry around in
+        Runs (told value_of result) (named s (s.link at) at)
+        (now machine.now log) (now machine.now log) }
+{
+    match here.namespace.link(here.method, here.bytes, at) {
+        Link::Data(id) => {
+            let content = machine.content(alloc, here, at, id)?;
+            Ok(Some(content))
+        }
+        link => Err(fails(unwritable(link), here, at)),
+    }
+}
+
+/// What a target does.
+fn put(
+    alloc: Global,
+    here: Setting<'_>,
+    action: Action,
+    at: usize,
+    parts: &[Term],
+    stored: &Value,
+    machine: &mut Machine,
+) -> Result<(), Halt>
+    ensures means { (around : _) (log : List Event) → Runs (went result)
+        (put (setting_of here.entry around) action at (views parts.now) (values.view stored.now))
+        (now machine.old log) (now machine.new log) }
+    ensures falls { machine.new.steps ≤ machine.old.steps }
+{
+    match action {
+        Action::NoTarget => Ok(()),
+        Action::Local(k) => {
+            machine.take_step()?;
+            let copied = copy(alloc, stored)?;
+            machine.set_local(k, copied);
+            Ok(())
+        }
+        Action::Argument(k) => {
+            machine.take_step()?;
+            let copied = copy(alloc, stored)?;
+            machine.set_argument(k, copied);
+            Ok(())
+        }
+        Action::Debug => machine.take_step(),
+        Action::Name => put_name(alloc, here, at, stored, machine),
+        _ => {
+            machine.take_step()?;
+            Err(fails(AmlCause::Outside, here, at))
+        }
+    }
+}
+
+/// Stores into what a name means.
+fn put_name(
+    alloc: Global,
+    here: Setting<'_>,
+    at: usize,
+    stored: &Value,
+    machine: &mut Machine,
+) -> Result<(), Halt>
+    ensures means { (around : _) (log : List Event) → let s = setting_of here.entry around in
+        Runs (went result) (named_target s (s.link at) at (values.view stored.now))
+        (now machine.old log) (now machine.new log) }
+    ensures falls { machine.new.steps ≤ machine.old.steps }
+{
+    match here.namespace.link(here.method, here.bytes, at) {
+        Link::Data(id) => {
+            let copied = copy(alloc, stored)?;
+            machine.set_name(here, at, id, copied)
+        }
+        link => {
+            machine.take_step()?;
+            Err(fails(unwritable(link), here, at))
+        }
+    }
+}
+
+/// Stores into a target.
+pub fn store(
+    alloc: Global,
+    here: Setting<'_>,
+    target: &Term,
+    stored: &Value,
+    machine: &mut Machine,
+) -> Result<(), Halt>
+    ensures means { (around : _) (log : List Event) → Runs (went result)
+        (store (setting_of here.entry around) (view target.now) (values.view stored.now))
+        (now machine.old log) (now machine.new log) }
+    ensures falls { machine.new.steps ≤ machine.old.steps }
+{
+    let action = action_of(target.op);
+    put(
+        alloc,
+        here,
+        action,
+        target.at,
+        &target.parts,
+        stored,
+        machine,
+    )
+}
