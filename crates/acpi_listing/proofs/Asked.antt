@@ -7,7 +7,8 @@ use Rattle.acpi_listing.specs.CommandLine.{acpicheck_app}
 use Rattle.acpi_listing.specs.Steps.{Tries}
 use Rattle.acpi_listing.specs.Words.{AsksFor, AsksNothing, IsCount, IsRequest}
 use Rattle.acpi_listing.specs.declared.fault.Fault.{Fault}
-use Rattle.acpi_listing.specs.declared.fault.Fault.TheVariants as fault
+use Rattle.acpi_listing.specs.Faults.{nowhere}
+use Rattle.acpi_listing.specs.declared.fault.FaultCause.TheVariants as cause
 use Rattle.acpi_listing.specs.declared.words.Request.{Request}
 use Rattle.acpi_listing.specs.declared.words.Request.TheVariants.{Tables, Names, Eval}
 
@@ -67,8 +68,8 @@ steps_read G (Some t) n parses none value =
 -- the words ask for what the command that they name gave
 pub asked : (words : List Text) (found : Option (Text × List Row)) (r : Result Request Fault)
     → fault_of acpicheck_app words ≡ [] → found ≡ subcommand_of acpicheck_app words
-    → Tries (IsRequest found) (λ f. (f ≡ fault.CommandLine) × ((request : Request) → IsRequest found request → ⊥)) r
-    → Tries (AsksFor words) (λ f. (f ≡ fault.CommandLine) × AsksNothing words) r
+    → Tries (IsRequest found) (λ f. (f ≡ nowhere cause.CommandLine) × ((request : Request) → IsRequest found request → ⊥)) r
+    → Tries (AsksFor words) (λ f. (f ≡ nowhere cause.CommandLine) × AsksNothing words) r
 asked words found (Ok request) none same is = (none, subst (λ f. IsRequest f request) same is)
 asked words found (Err f) none same (inl memory) = inl memory
 asked words found (Err f) none same (inr (line, nothing)) =

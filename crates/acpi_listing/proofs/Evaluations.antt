@@ -5,17 +5,19 @@ use Rattle.aml_namespace.specs.declared.object.Method.{Method}
 use Rattle.aml_namespace.specs.Load.{Shown, IsLoaded}
 use Rattle.aml_namespace.specs.Names.{IsBodyOf}
 use Rattle.aml_operators.specs.Tree.{Tree, trees}
-use Rattle.aml_plain.specs.Methods.{Evaluates}
+use Rattle.aml_kinds.specs.Values.{Value}
 use Rattle.aml_plain.specs.declared.body.Outcome.{Outcome}
+use Rattle.aml_regions.specs.declared.event.Event.{Event}
 use Rattle.aml_tree.specs.declared.fault.Refusal.{Refusal}
 use Rattle.acpi_text.specs.Names.{names_text}
-use Rattle.acpi_text.specs.Outcome.{outcome_line}
 use Rattle.acpi_listing.specs.Arguments.{ListsArguments}
 use Rattle.acpi_listing.specs.Files.{Answers}
 use Rattle.acpi_listing.specs.Inputs.{OpensInputs, ReadsInputs, tables_of}
 use Rattle.acpi_listing.specs.Loading.{Loads, os_name}
+use Rattle.acpi_listing.specs.Registers.{OpensRegisters, ReadsRegisters}
+use Rattle.aml_regions.specs.declared.registers.RegisterFile.{RegisterFile}
 use Rattle.acpi_listing.specs.Steps.{Step, Then, Gives, Still, Tells, Writes}
-use Rattle.acpi_listing.specs.Commands.{EvaluatesBody, EvaluatesFiles, EvaluatesTables, Finds, Fit, IsMeant, IsMethodAt, ListsNames, ReadsArguments, ReadsBody, Takes, outcome_status}
+use Rattle.acpi_listing.specs.Commands.{EvaluatesBody, EvaluatesFiles, EvaluatesTables, Finds, Fit, IsMeant, IsMethodAt, ListsNames, ReadsArguments, ReadsBody, Takes, evaluation_text, outcome_status}
 use Rattle.acpi_listing.specs.declared.fault.Fault.{Fault}
 use Rattle.acpi_listing.specs.declared.fault.Stop.{Stop}
 use Rattle.acpi_listing.specs.declared.fault.Stop.TheVariants.{Fault as Faulty}
@@ -24,18 +26,18 @@ use Rattle.acpi_listing.specs.declared.inputs.Inputs.{Inputs}
 use Rattle.acpi_listing.proofs.Chains.{given, given_fault, quiet, quiet_fault, still}
 
 -- what stands behind the load
-abbrev behind_load : List ℕ → List ℕ → ℕ → Shown → Step (Unit {0}) ℕ
+abbrev behind_load : List ℕ → List Value → ℕ → Shown → Step (Unit {0}) ℕ
 behind_load word arguments steps ns =
     Then (Gives (Finds ns word)) (λ found. Then (Gives (ReadsBody ns found.0 found.1)) (EvaluatesBody ns found arguments steps))
 
 -- behind the load
-pub after_load : (word arguments : List ℕ) (steps : ℕ) (tables : List (List ℕ)) (ns : Shown) (held holds : Option (List ℕ)) (r : Result ℕ Stop)
+pub after_load : (word : List ℕ) (arguments : List Value) (steps : ℕ) (tables : List (List ℕ)) (ns : Shown) (held holds : Option (List ℕ)) (r : Result ℕ Stop)
     → IsLoaded tables os_name ns → Writes (behind_load word arguments steps ns) tt tt held holds r
     → Writes (EvaluatesTables word arguments steps tables) tt tt held holds r
 after_load word arguments steps tables ns held holds r loaded = given (Loads tables) (behind_load word arguments steps) tt tt held holds ns r loaded
 
 -- behind the method
-pub after_find : (word arguments : List ℕ) (steps : ℕ) (tables : List (List ℕ)) (ns : Shown) (id : ℕ) (m : Method) (held holds : Option (List ℕ)) (r : Result ℕ Stop)
+pub after_find : (word : List ℕ) (arguments : List Value) (steps : ℕ) (tables : List (List ℕ)) (ns : Shown) (id : ℕ) (m : Method) (held holds : Option (List ℕ)) (r : Result ℕ Stop)
     → IsLoaded tables os_name ns → IsMethodAt ns word id m
     → Writes (Then (Gives (ReadsBody ns id m)) (EvaluatesBody ns (id, m) arguments steps)) tt tt held holds r
     → Writes (EvaluatesTables word arguments steps tables) tt tt held holds r
@@ -44,7 +46,7 @@ after_find word arguments steps tables ns id m held holds r loaded names does =
     (given (Finds ns word) (λ found. Then (Gives (ReadsBody ns found.0 found.1)) (EvaluatesBody ns found arguments steps)) tt tt held holds (id, m) r names does)
 
 -- behind the body's reading
-pub after_body : (word arguments : List ℕ) (steps : ℕ) (tables : List (List ℕ)) (ns : Shown) (id : ℕ) (m : Method) (body : Result (List Tree) Refusal) (held holds : Option (List ℕ)) (r : Result ℕ Stop)
+pub after_body : (word : List ℕ) (arguments : List Value) (steps : ℕ) (tables : List (List ℕ)) (ns : Shown) (id : ℕ) (m : Method) (body : Result (List Tree) Refusal) (held holds : Option (List ℕ)) (r : Result ℕ Stop)
     → IsLoaded tables os_name ns → IsMethodAt ns word id m → ReadsBody ns id m (Ok body)
     → Writes (EvaluatesBody ns (id, m) arguments steps body) tt tt held holds r
     → Writes (EvaluatesTables word arguments steps tables) tt tt held holds r
@@ -53,43 +55,67 @@ after_body word arguments steps tables ns id m body held holds r loaded names re
     (given (ReadsBody ns id m) (EvaluatesBody ns (id, m) arguments steps) tt tt held holds body r reads does)
 
 -- behind the evaluation
-pub after_outcome : (word arguments : List ℕ) (steps : ℕ) (tables : List (List ℕ)) (ns : Shown) (id : ℕ) (m : Method) (ts : List Tree) (outcome : Outcome) (held holds : Option (List ℕ)) (r : Result ℕ Stop)
-    → IsLoaded tables os_name ns → IsMethodAt ns word id m → IsBodyOf ns id m ts → Takes ns m arguments → Evaluates ns id m (trees ts) arguments steps outcome
-    → Writes (Tells (outcome_line outcome) (outcome_status outcome)) (tt {0}) (tt {0}) held holds r
+pub after_outcome : (word : List ℕ) (arguments : List Value) (steps : ℕ) (tables : List (List ℕ)) (ns : Shown) (id : ℕ) (m : Method) (ts : List Tree) (outcome : Outcome × List Event) (held holds : Option (List ℕ)) (r : Result ℕ Stop)
+    → IsLoaded tables os_name ns → IsMethodAt ns word id m → IsBodyOf ns id m ts → Takes ns m arguments → IsMeant ns id m (trees ts) arguments steps (Ok outcome)
+    → Writes (Tells (evaluation_text ns.entries outcome) (outcome_status outcome.0)) (tt {0}) (tt {0}) held holds r
     → Writes (EvaluatesTables word arguments steps tables) tt tt held holds r
 after_outcome word arguments steps tables ns id m ts outcome held holds r loaded names body takes meant does =
     after_body word arguments steps tables ns id m (Ok ts) held holds r loaded names body
-    (given (Fit ns m arguments) (λ _. Then (Gives (IsMeant ns id m ts arguments steps)) (λ o. Tells (outcome_line o) (outcome_status o))) tt tt held holds tt r takes
-    (given (IsMeant ns id m ts arguments steps) (λ o. Tells (outcome_line o) (outcome_status o)) tt tt held holds outcome r meant does))
+    (given (Fit ns m arguments) (λ _. Then (Gives (IsMeant ns id m (trees ts) arguments steps)) (λ o. Tells (evaluation_text ns.entries o) (outcome_status o.0))) tt tt held holds tt r takes
+    (given (IsMeant ns id m (trees ts) arguments steps) (λ o. Tells (evaluation_text ns.entries o) (outcome_status o.0)) tt tt held holds outcome r meant does))
 
--- what stands behind the inputs, and behind the arguments
-abbrev behind_inputs : {F : Type 0} → List ℕ → List ℕ → ℕ → Inputs → Step F ℕ
+-- an evaluation that wants memory
+pub no_outcome : (word : List ℕ) (arguments : List Value) (steps : ℕ) (tables : List (List ℕ)) (ns : Shown) (id : ℕ) (m : Method) (ts : List Tree) (f : Fault) (held : Option (List ℕ)) (r : Result ℕ Stop)
+    → IsErrAnd r (λ s. s ≡ Faulty f) → IsLoaded tables os_name ns → IsMethodAt ns word id m → IsBodyOf ns id m ts → Takes ns m arguments → IsMeant ns id m (trees ts) arguments steps (Err f)
+    → Writes (EvaluatesTables word arguments steps tables) tt tt held held r
+no_outcome word arguments steps tables ns id m ts f held r is loaded names body takes meant =
+    after_body word arguments steps tables ns id m (Ok ts) held held r loaded names body
+    (given (Fit ns m arguments) (λ _. Then (Gives (IsMeant ns id m (trees ts) arguments steps)) (λ o. Tells (evaluation_text ns.entries o) (outcome_status o.0))) tt tt held held tt r takes
+    (given_fault (IsMeant ns id m (trees ts) arguments steps) (λ o. Tells (evaluation_text ns.entries o) (outcome_status o.0)) tt held f r is meant))
+
+-- what stands behind the inputs, behind the registers, and behind the arguments
+abbrev behind_inputs : {F : Type 0} → List ℕ → List Value → ℕ → Inputs → Step F ℕ
 behind_inputs word arguments steps inputs = Still (EvaluatesTables word arguments steps (tables_of inputs))
 
-abbrev behind_arguments : {F : Type 0} → Answers F → InputNames → List ℕ → ℕ → List ℕ → Step F ℕ
-behind_arguments answers names word steps arguments = Then (ReadsInputs answers names) (behind_inputs word arguments steps)
+abbrev behind_registers : {F : Type 0} → Answers F → InputNames → List ℕ → ℕ → List Value → RegisterFile → Step F ℕ
+behind_registers answers names word steps arguments registers = Then (ReadsInputs answers names) (behind_inputs word arguments steps)
+
+abbrev behind_arguments : {F : Type 0} → Answers F → InputNames → List ℕ → Option (List ℕ) → ℕ → List Value → Step F ℕ
+behind_arguments answers names word regs steps arguments =
+    Then (ReadsRegisters answers regs) (behind_registers answers names word steps arguments)
 
 -- arguments that cannot be read
-pub no_arguments : {F : Type 0} (answers : Answers F) (old : F) (names : InputNames) (word : List ℕ) (args : Option (List ℕ)) (steps : ℕ) (held : Option (List ℕ)) (f : Fault) (r : Result ℕ Stop)
-    → IsErrAnd r (λ s. s ≡ Faulty f) → ReadsArguments args (Err f) → Writes (EvaluatesFiles answers names word args steps) old old held held r
-no_arguments answers old names word args steps held f r is bad =
-    given_fault (ReadsArguments args) (behind_arguments answers names word steps) old held f r is bad
+pub no_arguments : {F : Type 0} (answers : Answers F) (old : F) (names : InputNames) (word : List ℕ) (args regs : Option (List ℕ)) (steps : ℕ) (held : Option (List ℕ)) (f : Fault) (r : Result ℕ Stop)
+    → IsErrAnd r (λ s. s ≡ Faulty f) → ReadsArguments args (Err f) → Writes (EvaluatesFiles answers names word args regs steps) old old held held r
+no_arguments answers old names word args regs steps held f r is bad =
+    given_fault (ReadsArguments args) (behind_arguments answers names word regs steps) old held f r is bad
+
+-- registers that cannot be set
+pub no_registers : {F : Type 0} (answers : Answers F) (old new : F) (names : InputNames) (word : List ℕ) (args regs : Option (List ℕ)) (arguments : List Value) (steps : ℕ) (held : Option (List ℕ)) (f : Fault) (r : Result ℕ Stop)
+    → IsErrAnd r (λ s. s ≡ Faulty f) → ListsArguments args arguments → OpensRegisters answers old regs (Err f) new → Writes (EvaluatesFiles answers names word args regs steps) old new held held r
+no_registers answers old new names word args regs arguments steps held f r is lists opens =
+    given (ReadsArguments args) (behind_arguments answers names word regs steps) old new held held arguments r lists
+    (quiet_fault (λ o x n. OpensRegisters answers o regs x n) (behind_registers answers names word steps arguments) old new held f r is opens)
 
 -- inputs that cannot be read
-pub no_inputs : {F : Type 0} (answers : Answers F) (old new : F) (names : InputNames) (word : List ℕ) (args : Option (List ℕ)) (arguments : List ℕ) (steps : ℕ) (held : Option (List ℕ)) (f : Fault) (r : Result ℕ Stop)
-    → IsErrAnd r (λ s. s ≡ Faulty f) → ListsArguments args arguments → OpensInputs answers old names (Err f) new → Writes (EvaluatesFiles answers names word args steps) old new held held r
-no_inputs answers old new names word args arguments steps held f r is lists opens =
-    given (ReadsArguments args) (behind_arguments answers names word steps) old new held held arguments r lists
-    (quiet_fault (λ o x n. OpensInputs answers o names x n) (behind_inputs word arguments steps) old new held f r is opens)
+pub no_inputs : {F : Type 0} (answers : Answers F) (old mid new : F) (names : InputNames) (word : List ℕ) (args regs : Option (List ℕ)) (arguments : List Value) (registers : RegisterFile) (steps : ℕ) (held : Option (List ℕ)) (f : Fault) (r : Result ℕ Stop)
+    → IsErrAnd r (λ s. s ≡ Faulty f) → ListsArguments args arguments → OpensRegisters answers old regs (Ok registers) mid → OpensInputs answers mid names (Err f) new
+    → Writes (EvaluatesFiles answers names word args regs steps) old new held held r
+no_inputs answers old mid new names word args regs arguments registers steps held f r is lists sets opens =
+    given (ReadsArguments args) (behind_arguments answers names word regs steps) old new held held arguments r lists
+    (quiet (λ o x n. OpensRegisters answers o regs x n) (behind_registers answers names word steps arguments) old mid new held held registers r sets
+    (quiet_fault (λ o x n. OpensInputs answers o names x n) (behind_inputs word arguments steps) mid new held f r is opens))
 
 -- inputs that were read
-pub inputs_evaluated : {F : Type 0} (answers : Answers F) (old new : F) (names : InputNames) (word : List ℕ) (args : Option (List ℕ)) (arguments : List ℕ) (inputs : Inputs) (steps : ℕ) (held holds : Option (List ℕ)) (r : Result ℕ Stop)
-    → ListsArguments args arguments → OpensInputs answers old names (Ok inputs) new → Writes (EvaluatesTables word arguments steps (tables_of inputs)) tt tt held holds r
-    → Writes (EvaluatesFiles answers names word args steps) old new held holds r
-inputs_evaluated answers old new names word args arguments inputs steps held holds r lists opens does =
-    given (ReadsArguments args) (behind_arguments answers names word steps) old new held holds arguments r lists
-    (quiet (λ o x n. OpensInputs answers o names x n) (behind_inputs word arguments steps) old new new held holds inputs r opens
-    (still (EvaluatesTables word arguments steps (tables_of inputs)) new held holds r does))
+pub inputs_evaluated : {F : Type 0} (answers : Answers F) (old mid new : F) (names : InputNames) (word : List ℕ) (args regs : Option (List ℕ)) (arguments : List Value) (registers : RegisterFile) (inputs : Inputs) (steps : ℕ) (held holds : Option (List ℕ)) (r : Result ℕ Stop)
+    → ListsArguments args arguments → OpensRegisters answers old regs (Ok registers) mid → OpensInputs answers mid names (Ok inputs) new
+    → Writes (EvaluatesTables word arguments steps (tables_of inputs)) tt tt held holds r
+    → Writes (EvaluatesFiles answers names word args regs steps) old new held holds r
+inputs_evaluated answers old mid new names word args regs arguments registers inputs steps held holds r lists sets opens does =
+    given (ReadsArguments args) (behind_arguments answers names word regs steps) old new held holds arguments r lists
+    (quiet (λ o x n. OpensRegisters answers o regs x n) (behind_registers answers names word steps arguments) old mid new held holds registers r sets
+    (quiet (λ o x n. OpensInputs answers o names x n) (behind_inputs word arguments steps) mid new new held holds inputs r opens
+    (still (EvaluatesTables word arguments steps (tables_of inputs)) new held holds r does)))
 
 -- what stands behind the inputs of `names`, and behind their load
 abbrev behind_tables : {F : Type 0} → Inputs → Step F ℕ

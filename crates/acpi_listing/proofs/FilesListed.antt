@@ -13,7 +13,8 @@ use Rattle.acpi_text.specs.Tables.{table_text}
 use Rattle.acpi_text.specs.declared.table.Table.{Table}
 use Rattle.acpi_text.specs.declared.writing.RunFault.{RunFault}
 use Rattle.acpi_listing.specs.declared.fault.Fault.{Fault}
-use Rattle.acpi_listing.specs.declared.fault.Fault.TheVariants as fault
+use Rattle.acpi_listing.specs.Faults.{in_table}
+use Rattle.acpi_listing.specs.declared.fault.FaultCause.TheVariants as cause
 use Rattle.acpi_listing.specs.declared.fault.Stop.{Stop}
 use Rattle.acpi_listing.specs.declared.fault.Stop.TheVariants.{Fault as Faulty, Run}
 
@@ -34,7 +35,7 @@ pub file_unread : {F : Type 0} (answers : Answers F) (number : ℕ) (name : List
 file_unread answers number name old new held f r is opens = quiet_fault (λ o x n. Opens answers o name x n) (behind_bytes number) old new held f r is opens
 
 pub file_faulty : {F : Type 0} (answers : Answers F) (number : ℕ) (name bytes lent : List ℕ) (t : TableFault) (old new : F) (held : Option (List ℕ)) (f : Fault)
-    → lent ≡ bytes → Opens answers old name (Ok bytes) new → first_fault (file_checks (file_kind lent) lent) ≡ Some t → f ≡ fault.Table t.cause number t.at
+    → lent ≡ bytes → Opens answers old name (Ok bytes) new → first_fault (file_checks (file_kind lent) lent) ≡ Some t → f ≡ in_table (cause.Table t.cause) number t.at
     → Writes (ListsFile answers number name) old new held held (Err (Faulty f))
 file_faulty answers number name bytes lent t old new held f same opens first is =
     quiet (λ o x n. Opens answers o name x n) (behind_bytes number) old new new held held bytes (Err (Faulty f)) opens

@@ -4,7 +4,8 @@ use Rattle.std.specs.Prelude.{IsErrAnd, Vec, vec_items}
 use Rattle.std.proofs.lemmas.List.{drop_all, map-append}
 use Rattle.acpi_listing.specs.Files.{Answers, Opens, OpensAll, files_of}
 use Rattle.acpi_listing.specs.declared.fault.Fault.{Fault}
-use Rattle.acpi_listing.specs.declared.fault.Fault.TheVariants as fault
+use Rattle.acpi_listing.specs.Faults.{nowhere}
+use Rattle.acpi_listing.specs.declared.fault.FaultCause.TheVariants as cause
 use Rattle.acpi_listing.proofs.FilesListed.{names_from}
 
 -- files behind others that were read
@@ -40,13 +41,13 @@ file_stops : {F : Type 0} (answers : Answers F) (old mid new : F) (names : List 
 file_stops answers old mid new names name left done f so opens = so (Err f) new (inr (inl opens))
 
 -- want of memory
-no_memory : {F : Type 0} (answers : Answers F) (mid : F) (left : List (List ℕ)) → OpensAll answers mid left (Err fault.NoMemory) mid
+no_memory : {F : Type 0} (answers : Answers F) (mid : F) (left : List (List ℕ)) → OpensAll answers mid left (Err (nowhere cause.NoMemory)) mid
 no_memory answers mid [] = (refl, refl)
 no_memory answers mid (name ∷ left) = inl (refl, refl)
 
 memory_stops : {F : Type 0} (answers : Answers F) (old mid : F) (names left done : List (List ℕ))
-    → AllLeft answers old names done mid left → OpensAll answers old names (Err fault.NoMemory) mid
-memory_stops answers old mid names left done so = so (Err fault.NoMemory) mid (no_memory answers mid left)
+    → AllLeft answers old names done mid left → OpensAll answers old names (Err (nowhere cause.NoMemory)) mid
+memory_stops answers old mid names left done so = so (Err (nowhere cause.NoMemory)) mid (no_memory answers mid left)
 
 files_end : {F : Type 0} (answers : Answers F) (old new : F) (names done : List (List ℕ))
     → AllLeft answers old names done new [] → OpensAll answers old names (Ok done) new
@@ -76,7 +77,7 @@ read_stops answers old mid new now xs i d done f (Err e) is below left opens =
 
 -- a file that was read, and no memory to keep it
 pub read_unkept : {F X B : Type 0} (answers : Answers F) (old mid next : F) (now : X → List ℕ) (xs : List X) (i : ℕ) (d : X) (done : List (List ℕ)) (bytes : List ℕ) (r : Result (Vec (Vec ℕ B) B) Fault)
-    → IsErrAnd r (λ e. e ≡ fault.NoMemory) → i < length xs → AllLeft answers old (map now xs) done mid (map now (drop i xs))
+    → IsErrAnd r (λ e. e ≡ nowhere cause.NoMemory) → i < length xs → AllLeft answers old (map now xs) done mid (map now (drop i xs))
     → Opens answers mid (now (get_or xs i d)) (Ok bytes) next → OpensAll answers old (map now xs) (files_of r) next
 read_unkept answers old mid next now xs i d done bytes (Ok v) is below left opens = absurd is
 read_unkept answers old mid next now xs i d done bytes (Err e) is below left opens =

@@ -3,7 +3,7 @@ use Rattle.std.specs.Prelude.{ℕ, List, true, Some, codes}
 use Rattle.clap.specs.Words.{App, Rule, new_app, new_rule, with_rule, with_subcommand}
 use Rattle.clap.specs.Lexer.{usize_max}
 use Rattle.clap.specs.Simple.{on_top}
-use Rattle.clap.specs.declared.builder.action.ArgAction.TheVariants.{Append, Set}
+use Rattle.clap.specs.declared.builder.action.ArgAction.TheVariants.{Append, Set, SetTrue}
 use Rattle.clap.specs.declared.builder.value_parser.ValueParser.TheVariants.{Unsigned}
 
 -- one file or more
@@ -18,11 +18,23 @@ files_rule = record (new_rule (codes "files")) {
 abbrev pub option_rule : List ℕ → Rule
 option_rule name = record (new_rule name) { long = Some name; action = Some Set }
 
+-- an option without a value
+abbrev pub flag_rule : List ℕ → Rule
+flag_rule name = record (new_rule name) { long = Some name; action = Some SetTrue }
+
+-- whether Externals in an If that never runs are read
+abbrev pub dead_externals_rule : Rule
+dead_externals_rule = flag_rule (codes "dead-externals")
+
 abbrev pub method_rule : Rule
 method_rule = record (option_rule (codes "method")) { required = true }
 
 abbrev pub args_rule : Rule
 args_rule = option_rule (codes "args")
+
+-- the file whose text sets registers
+abbrev pub regs_rule : Rule
+regs_rule = option_rule (codes "regs")
 
 -- a number below 2^64
 abbrev pub plain_rule : Rule
@@ -35,8 +47,15 @@ plain_rule = record (option_rule (codes "plain")) {
 abbrev pub files_app : List ℕ → App
 files_app name = with_rule (new_app name) files_rule
 
+abbrev pub names_app : App
+names_app = with_rule (with_rule (new_app (codes "names")) dead_externals_rule) files_rule
+
+-- `eval` without the options of its tables
+abbrev pub method_app : App
+method_app = with_rule (with_rule (with_rule (with_rule (new_app (codes "eval")) method_rule) args_rule) regs_rule) plain_rule
+
 abbrev pub eval_app : App
-eval_app = with_rule (with_rule (with_rule (with_rule (new_app (codes "eval")) method_rule) args_rule) plain_rule) files_rule
+eval_app = with_rule (with_rule method_app dead_externals_rule) files_rule
 
 -- the words have no program's name in front, and one of the commands is wanted
 abbrev pub commands_app : App
@@ -45,4 +64,4 @@ commands_app = on_top (λ s. record s { no_binary_name = true; subcommand_requir
 abbrev pub acpicheck_app : App
 acpicheck_app =
     with_subcommand (with_subcommand (with_subcommand commands_app
-    (files_app (codes "tables")).top) (files_app (codes "names")).top) eval_app.top
+    (files_app (codes "tables")).top) names_app.top) eval_app.top

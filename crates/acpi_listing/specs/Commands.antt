@@ -1,31 +1,40 @@
 -- What the commands do, from words that were read to what is printed.
-use Rattle.std.specs.Prelude.{◌≡◌, ◌≤◌, ◌⊎◌, ◌-◌, ◌^◌, ℕ, List, ◌++◌, All, Bool, option_and_then, length, Option, Some, None, Result, Ok, Err, IfOk, map, option_map, vec_items}
+use Rattle.std.specs.Prelude.{◌≡◌, ◌⊎◌, ◌&&◌, ℕ, List, [], ◌∷◌, ◌++◌, Bool, true, IsTrue, nat_le, option_and_then, length, Option, Some, None, Result, Ok, Err, IfOk, map, option_map, vec_items}
 use Rattle.std.specs.Io.KnownBytes.{Appends}
-use Rattle.aml_namespace.specs.Widths.{bits_of}
-use Rattle.aml_operators.specs.Tree.{Tree, trees}
+use Rattle.aml_namespace.specs.declared.width.Width.{Width}
+use Rattle.aml_operators.specs.Tree.{Tree, Trees, trees}
 use Rattle.aml_tree.specs.declared.fault.Refusal.{Refusal}
 use Rattle.aml_tree.specs.declared.fault.TreeFault.TheVariants.{Refused}
 use Rattle.aml_namespace.specs.declared.object.Method.{Method}
+use Rattle.aml_namespace.specs.Entries.{Entries}
 use Rattle.aml_namespace.specs.Load.{Shown}
 use Rattle.aml_namespace.specs.Names.{method_at, IsBodyOf, ReadsBodyOf}
-use Rattle.aml_namespace.specs.Printed.{printed_object}
+use Rattle.aml_namespace.specs.Printed.{path_text, printed_object}
+use Rattle.aml_kinds.specs.Belongs.{greatest_of}
+use Rattle.aml_kinds.specs.FirstContents.{first_contents, first_kinds}
+use Rattle.aml_kinds.specs.Values.{Value, Int}
+use Rattle.aml_meaning.specs.State as State
+use Rattle.aml_regions.specs.declared.event.Event.{Event}
 use Rattle.aml_plain.specs.Methods.{Evaluates}
 use Rattle.aml_plain.specs.declared.body.Outcome.{Outcome}
 use Rattle.aml_plain.specs.declared.body.Outcome.TheVariants.{Done, AmlError, OutOfSteps}
 use Rattle.acpi_listing.specs.Arguments.{ListsArguments, ListsBadArguments}
+use Rattle.acpi_text.specs.Events.{events_text}
 use Rattle.acpi_text.specs.Lists.{Lists}
-use Rattle.acpi_text.specs.Names.{names_text, path_of, path_text}
+use Rattle.acpi_text.specs.Names.{names_text, path_of}
 use Rattle.acpi_text.specs.Outcome.{outcome_line, refusal_line}
-use Rattle.acpi_listing.specs.Faults.{fault_line}
+use Rattle.acpi_listing.specs.Faults.{fault_line, nowhere}
 use Rattle.acpi_listing.specs.Files.{Answers, ListsFiles}
 use Rattle.acpi_listing.specs.Inputs.{ReadsInputs, tables_of}
 use Rattle.acpi_listing.specs.Loading.{Loads}
+use Rattle.acpi_listing.specs.Registers.{ReadsRegisters}
 use Rattle.acpi_listing.specs.Steps.{Step, Then, Gives, Still, Tells, Tries}
 use Rattle.acpi_listing.specs.FirstLine.{StartsWith, FailsToStart}
 use Rattle.acpi_listing.specs.Input.{IsRead, hex_answers}
 use Rattle.acpi_listing.specs.Words.{AsksFor, AsksNothing}
 use Rattle.acpi_listing.specs.declared.fault.Fault.{Fault}
-use Rattle.acpi_listing.specs.declared.fault.Fault.TheVariants as fault
+use Rattle.acpi_listing.specs.declared.fault.FaultCause.{FaultCause}
+use Rattle.acpi_listing.specs.declared.fault.FaultCause.TheVariants as cause
 use Rattle.acpi_listing.specs.declared.fault.Stop.{Stop}
 use Rattle.acpi_listing.specs.declared.fault.Stop.TheVariants.{Fault as Faulty, Run}
 use Rattle.acpi_listing.specs.declared.input.Input.{Input}
@@ -43,9 +52,19 @@ IsMethodAt ns word id m = (printed_object ns.entries word ≡ Some id) × (metho
 abbrev pub IsNoMethodAt : Shown → List ℕ → Type 0
 IsNoMethodAt ns word = option_and_then (method_at ns) (printed_object ns.entries word) ≡ None
 
--- a method takes arguments: as many as it has, each an integer of the namespace
-abbrev pub Takes : Shown → Method → List ℕ → Type 0
-Takes ns m arguments = (length arguments ≡ m.args) × All (λ n. n ≤ 2 ^ bits_of ns.width - 1) arguments
+-- a value is no integer above the greatest
+abbrev pub is_taken : ℕ → Value → Bool
+is_taken greatest (Int n) = nat_le n greatest
+is_taken greatest v = true
+
+-- the integers among these values are of a width
+abbrev pub are_taken : Width → List Value → Bool
+are_taken width [] = true
+are_taken width (v ∷ vs) = is_taken (greatest_of width) v && are_taken width vs
+
+-- a method takes arguments: as many as it has, and the integers among them are of the namespace's width
+abbrev pub Takes : Shown → Method → List Value → Type 0
+Takes ns m arguments = (length arguments ≡ m.args) × IsTrue (are_taken ns.width arguments)
 
 -- the status of an outcome
 abbrev pub outcome_status : Outcome → ℕ
@@ -54,29 +73,46 @@ outcome_status (AmlError _) = 3
 outcome_status OutOfSteps = 3
 
 -- the arguments, or the first fault of their text
-abbrev pub ReadsArguments : Option (List ℕ) → Result (List ℕ) Fault → Type 0
-ReadsArguments args = Tries (ListsArguments args) (λ f. (f ≡ fault.BadArgs) × ListsBadArguments args)
+abbrev pub ReadsArguments : Option (List ℕ) → Result (List Value) Fault → Type 0
+ReadsArguments args = Tries (ListsArguments args) (λ f. (f ≡ nowhere cause.BadArgs) × ListsBadArguments args)
 
 -- the method of that path
 abbrev pub Finds : Shown → List ℕ → Result (ℕ × Method) Fault → Type 0
 Finds ns word (Ok (id, m)) = IsMethodAt ns word id m
-Finds ns word (Err f) = IsNoMethodAt ns word × (f ≡ fault.NoSuchObject)
+Finds ns word (Err f) = IsNoMethodAt ns word × (f ≡ nowhere cause.NoSuchObject)
 
 -- the terms of a method's body, or why it cannot be read
 abbrev pub ReadsBody : Shown → ℕ → Method → Result (Result (List Tree) Refusal) Fault → Type 0
 ReadsBody ns id m (Ok (Ok ts)) = IsBodyOf ns id m ts
 ReadsBody ns id m (Ok (Err refusal)) = ReadsBodyOf ns id m (Err (Refused refusal))
-ReadsBody ns id m (Err f) = f ≡ fault.NoMemory
+ReadsBody ns id m (Err f) = f ≡ nowhere cause.NoMemory
 
 -- the arguments fit the method
-abbrev pub Fit : Shown → Method → List ℕ → Result (Unit {0}) Fault → Type 0
+abbrev pub Fit : Shown → Method → List Value → Result (Unit {0}) Fault → Type 0
 Fit ns m arguments (Ok _) = Takes ns m arguments
-Fit ns m arguments (Err f) = (Takes ns m arguments → ⊥) × (f ≡ fault.ArgsDontFit)
+Fit ns m arguments (Err f) = (Takes ns m arguments → ⊥) × (f ≡ nowhere cause.ArgsDontFit)
 
--- the outcome that the meaning has
-abbrev pub IsMeant : Shown → ℕ → Method → List Tree → List ℕ → ℕ → Result Outcome Fault → Type 0
-IsMeant ns id m ts arguments steps (Ok outcome) = Evaluates ns id m (trees ts) arguments steps outcome
-IsMeant ns id m ts arguments steps (Err _) = ⊥
+-- what the names of the tables hold first
+abbrev pub names_first : Shown → State.Names
+names_first ns = record { contents = first_contents ns; kinds = first_kinds ns }
+
+-- an outcome and the events until then, which the meaning has from what names hold first and no event, whatever names hold afterwards
+pub record IsOutcome (ns : Shown) (id : ℕ) (m : Method) (body : Trees) (arguments : List Value) (steps : ℕ) (outcome : Outcome) (events : List Event) : Type 0 where
+  pub names : State.Names
+  pub evaluates : Evaluates ns id m body arguments steps (names_first ns) [] (Ok outcome) names events
+
+abbrev pub IsMeant : Shown → ℕ → Method → Trees → List Value → ℕ → Result (Outcome × List Event) Fault → Type 0
+IsMeant ns id m body arguments steps (Ok (outcome, events)) = IsOutcome ns id m body arguments steps outcome events
+IsMeant ns id m body arguments steps (Err f) = f ≡ nowhere cause.NoMemory
+
+-- the lines of the events of an evaluation, and behind them that of its outcome
+abbrev pub evaluation_text : Entries → Outcome × List Event → List ℕ
+evaluation_text entries (outcome, events) = events_text entries events ++ outcome_line entries outcome
+
+-- an outcome, with the events until then
+abbrev pub with_events : Result Outcome Fault → List Event → Result (Outcome × List Event) Fault
+with_events (Ok outcome) events = Ok (outcome, events)
+with_events (Err f) events = Err f
 
 -- `names`: the files, their load, the lines of all names
 abbrev pub ListsNames : {F : Type 0} → Answers F → InputNames → Step F ℕ
@@ -89,46 +125,51 @@ ListsNames answers names =
 abbrev pub printed_path : Shown → ℕ → List ℕ
 printed_path ns id = path_text (path_of ns.entries id)
 
--- `eval` of a body: a refused one has its line; else the arguments must fit, and the outcome has its line
-abbrev pub EvaluatesBody : Shown → ℕ × Method → List ℕ → ℕ → Result (List Tree) Refusal → Step (Unit {0}) ℕ
+-- `eval` of a body: a refused one has its line; else the arguments must fit, and the events and the outcome have their lines
+abbrev pub EvaluatesBody : Shown → ℕ × Method → List Value → ℕ → Result (List Tree) Refusal → Step (Unit {0}) ℕ
 EvaluatesBody ns (id, m) arguments steps (Err refusal) = Tells (refusal_line (printed_path ns id) m.table refusal) 3
 EvaluatesBody ns (id, m) arguments steps (Ok ts) =
     Then (Gives (Fit ns m arguments)) (λ _.
-    Then (Gives (IsMeant ns id m ts arguments steps)) (λ outcome.
-    Tells (outcome_line outcome) (outcome_status outcome)))
+    Then (Gives (IsMeant ns id m (trees ts) arguments steps)) (λ ended.
+    Tells (evaluation_text ns.entries ended) (outcome_status ended.0)))
 
 -- `eval` of tables: the load, the method of that path, its body
-abbrev pub EvaluatesTables : List ℕ → List ℕ → ℕ → List (List ℕ) → Step (Unit {0}) ℕ
+abbrev pub EvaluatesTables : List ℕ → List Value → ℕ → List (List ℕ) → Step (Unit {0}) ℕ
 EvaluatesTables word arguments steps tables =
     Then (Gives (Loads tables)) (λ ns.
     Then (Gives (Finds ns word)) (λ found.
     Then (Gives (ReadsBody ns found.0 found.1)) (EvaluatesBody ns found arguments steps)))
 
--- `eval`: the arguments, the files, their tables
-abbrev pub EvaluatesFiles : {F : Type 0} → Answers F → InputNames → List ℕ → Option (List ℕ) → ℕ → Step F ℕ
-EvaluatesFiles answers names word args steps =
+-- `eval`: the arguments, the registers, the files, their tables
+abbrev pub EvaluatesFiles : {F : Type 0} → Answers F → InputNames → List ℕ → Option (List ℕ) → Option (List ℕ) → ℕ → Step F ℕ
+EvaluatesFiles answers names word args regs steps =
     Then (Gives (ReadsArguments args)) (λ arguments.
+    Then (ReadsRegisters answers regs) (λ registers.
     Then (ReadsInputs answers names) (λ inputs.
-    Still (EvaluatesTables word arguments steps (tables_of inputs))))
+    Still (EvaluatesTables word arguments steps (tables_of inputs)))))
 
 -- what the words ask for, or why there is nothing
 abbrev pub Asks : List (List ℕ) → Result Request Fault → Type 0
-Asks words = Tries (AsksFor words) (λ f. (f ≡ fault.CommandLine) × AsksNothing words)
+Asks words = Tries (AsksFor words) (λ f. (f ≡ nowhere cause.CommandLine) × AsksNothing words)
 
 -- what is asked for is done, with files of a source
 abbrev pub Obeys : {F : Type 0} → Answers F → Request → Step F ℕ
 Obeys answers (Tables names) = ListsFiles answers 0 (map (λ name. name.now) (vec_items names))
 Obeys answers (Names names) = ListsNames answers names
-Obeys answers (Eval request) = EvaluatesFiles answers request.inputs request.method.now (option_map (λ text. text.now) request.args) request.steps
+Obeys answers (Eval request) = EvaluatesFiles answers request.inputs request.method.now (option_map (λ text. text.now) request.args) (option_map (λ name. name.now) request.regs) request.steps
 
 -- a command: its words, and what they ask for
 abbrev pub ObeysWords : {F : Type 0} → Answers F → List (List ℕ) → Step F ℕ
 ObeysWords answers words = Then (Gives (Asks words)) (Obeys answers)
 
+-- the status of what is wrong
+abbrev pub cause_status : FaultCause → ℕ
+cause_status cause.CommandLine = 2
+cause_status _ = 1
+
 -- the status of a fault
 abbrev pub fault_status : Fault → ℕ
-fault_status fault.CommandLine = 2
-fault_status _ = 1
+fault_status fault = cause_status fault.cause
 
 -- a fault's line is listed, and its status answered
 abbrev pub Reports : Fault → Option (List ℕ) → Option (List ℕ) → Result ℕ RunFault → Type 0
@@ -149,10 +190,10 @@ RunsWords answers words old new held holds r =
 abbrev pub RunsBytes : List ℕ → Bool → Option (List ℕ) → Option (List ℕ) → Result ℕ RunFault → Type 0
 RunsBytes bytes whole held holds r =
     ((words : List (List ℕ)) × (old new : HexLines) × StartsWith bytes whole words old × RunsWords hex_answers words old new held holds r)
-    ⊎ ((f : Fault) × ((f ≡ fault.NoMemory) ⊎ FailsToStart bytes whole f) × Reports f held holds r)
+    ⊎ ((f : Fault) × ((f ≡ nowhere cause.NoMemory) ⊎ FailsToStart bytes whole f) × Reports f held holds r)
 
 -- a command by standard input
 abbrev pub RunsInput : Option (List ℕ) → Option (List ℕ) → Option (List ℕ) → Option (List ℕ) → Result ℕ RunFault → Type 0
 RunsInput old new held holds r =
-    Reports fault.NoMemory held holds r
+    Reports (nowhere cause.NoMemory) held holds r
     ⊎ ((read : Input) × IsRead old new read × RunsBytes (vec_items read.bytes) read.is_whole held holds r)

@@ -1,23 +1,49 @@
--- The line of a fault.
+-- Faults: what is wrong, where, and the line that tells both.
 use Rattle.std.specs.Prelude.{ℕ, List, [], ◌∷◌, codes, decimal}
 use Rattle.acpi_tables.specs.Causes.{table_cause_text}
 use Rattle.aml_namespace.specs.Causes.{load_cause_text}
 use Rattle.acpi_text.specs.Text.{joined}
 use Rattle.acpi_listing.specs.declared.fault.Fault.{Fault}
-use Rattle.acpi_listing.specs.declared.fault.Fault.TheVariants.{CommandLine, BadArgs, ArgsDontFit, File, NoMemory, NoSuchObject, Table, Load}
+use Rattle.acpi_listing.specs.declared.fault.FaultCause.{FaultCause}
+use Rattle.acpi_listing.specs.declared.fault.FaultCause.TheVariants.{CommandLine, BadRegs, BadArgs, ArgsDontFit, File, NoMemory, NoSuchObject, Table, Load}
+use Rattle.acpi_listing.specs.declared.fault.Where.{Where}
+use Rattle.acpi_listing.specs.declared.fault.Where.TheVariants as place
 
--- the line of what is wrong in a file: number and name, the file's number, and the place in it
-unfoldable pub placed_line : List ℕ → ℕ → ℕ → List ℕ
-placed_line name file at =
-    joined (codes "fault " ∷ name ∷ codes " " ∷ decimal file ∷ codes " " ∷ decimal at ∷ codes "\n" ∷ [])
+-- what is wrong, where that has a place
+abbrev pub fault_at : FaultCause → Where → Fault
+fault_at cause at = record { cause = cause; at = at }
+
+-- what is wrong, where that has no place
+abbrev pub nowhere : FaultCause → Fault
+nowhere cause = fault_at cause place.Nowhere
+
+-- what is wrong at a byte of the file, or of the table, with a number
+abbrev pub in_table : FaultCause → ℕ → ℕ → Fault
+in_table cause table at = fault_at cause (place.Table table at)
+
+-- what is wrong in the line with a number
+abbrev pub in_line : FaultCause → ℕ → Fault
+in_line cause line = fault_at cause (place.Line line)
+
+-- what is wrong, as it is printed: a number and a name
+abbrev pub cause_text : FaultCause → List ℕ
+cause_text BadRegs = codes "E511 BadRegs"
+cause_text CommandLine = codes "E520 CommandLine"
+cause_text BadArgs = codes "E521 BadArgs"
+cause_text ArgsDontFit = codes "E522 ArgsDontFit"
+cause_text File = codes "E523 File"
+cause_text NoMemory = codes "E524 NoMemory"
+cause_text NoSuchObject = codes "E525 NoSuchObject"
+cause_text (Table cause) = table_cause_text cause
+cause_text (Load cause) = load_cause_text cause
+
+-- where it is, as it is printed behind that: the table and the byte, the line, or the element
+unfoldable pub where_text : Where → List ℕ
+where_text place.Nowhere = []
+where_text (place.Table table at) = joined (codes " " ∷ decimal table ∷ codes " " ∷ decimal at ∷ [])
+where_text (place.Line line) = joined (codes " " ∷ decimal line ∷ [])
+where_text (place.Element element) = joined (codes " " ∷ decimal element ∷ [])
 
 -- the line of a fault
 abbrev pub fault_line : Fault → List ℕ
-fault_line CommandLine = codes "fault E520 CommandLine\n"
-fault_line BadArgs = codes "fault E521 BadArgs\n"
-fault_line ArgsDontFit = codes "fault E522 ArgsDontFit\n"
-fault_line File = codes "fault E523 File\n"
-fault_line NoMemory = codes "fault E524 NoMemory\n"
-fault_line NoSuchObject = codes "fault E525 NoSuchObject\n"
-fault_line (Table cause file at) = placed_line (table_cause_text cause) file at
-fault_line (Load refusal) = placed_line (load_cause_text refusal.cause) refusal.table refusal.at
+fault_line fault = joined (codes "fault " ∷ cause_text fault.cause ∷ where_text fault.at ∷ codes "\n" ∷ [])

@@ -2,8 +2,9 @@
 use Rattle.std.specs.Prelude.{◌≡◌, ◌≢◌, ◌<◌, ◌-◌, ◌⊎◌, ℕ, List, [], ◌∷◌, ◌++◌, Bool, length, Some, slice_index}
 use Rattle.std.specs.Str.{IsUtf8}
 use Rattle.acpi_listing.specs.Input.{NextLine, IsTorn}
+use Rattle.acpi_listing.specs.Faults.{nowhere}
 use Rattle.acpi_listing.specs.declared.fault.Fault.{Fault}
-use Rattle.acpi_listing.specs.declared.fault.Fault.TheVariants as fault
+use Rattle.acpi_listing.specs.declared.fault.FaultCause.TheVariants as cause
 use Rattle.acpi_listing.specs.declared.hex_lines.HexLines.{HexLines}
 
 -- the most words of a line
@@ -37,4 +38,4 @@ HasNoTextFirst bytes whole =
 
 -- why no words can be had
 abbrev pub FailsToStart : List ℕ → Bool → Fault → Type 0
-FailsToStart bytes whole f = ((f ≡ fault.File) × HasNoFirstLine bytes whole) ⊎ ((f ≡ fault.CommandLine) × HasNoTextFirst bytes whole)
+FailsToStart bytes whole f = ((f ≡ nowhere cause.File) × HasNoFirstLine bytes whole) ⊎ ((f ≡ nowhere cause.CommandLine) × HasNoTextFirst bytes whole)

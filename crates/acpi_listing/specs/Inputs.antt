@@ -1,6 +1,6 @@
 -- What a command reads before it begins.
 use Rattle.std.specs.Prelude.{ℕ, List, map, Result, Ok, Err, vec_items}
-use Rattle.acpi_listing.specs.Files.{Answers, OpensAll}
+use Rattle.acpi_listing.specs.Files.{Answers, OpensAll, prepared}
 use Rattle.acpi_listing.specs.Steps.{Step, Quietly}
 use Rattle.acpi_listing.specs.declared.fault.Fault.{Fault}
 use Rattle.acpi_listing.specs.declared.inputs.InputNames.{InputNames}
@@ -16,8 +16,9 @@ tables_of inputs = map vec_items (vec_items inputs.files)
 
 -- all is read that is named, in this order: the files
 abbrev pub OpensInputs : {F : Type 0} → Answers F → F → InputNames → Result Inputs Fault → F → Type 0
-OpensInputs answers old names (Ok inputs) new = OpensAll answers old (file_names names) (Ok (tables_of inputs)) new
-OpensInputs answers old names (Err f) new = OpensAll answers old (file_names names) (Err f) new
+OpensInputs answers old names (Ok inputs) new =
+    OpensAll (prepared names.dead_externals answers) old (file_names names) (Ok (tables_of inputs)) new
+OpensInputs answers old names (Err f) new = OpensAll (prepared names.dead_externals answers) old (file_names names) (Err f) new
 
 -- the same as a step of a command
 abbrev pub ReadsInputs : {F : Type 0} → Answers F → InputNames → Step F Inputs

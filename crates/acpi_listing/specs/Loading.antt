@@ -3,8 +3,9 @@ use Rattle.std.specs.Prelude.{◌≡◌, ℕ, List, codes, Result}
 use Rattle.aml_namespace.specs.Load.{Shown, IsLoaded, FaultyLoad}
 use Rattle.aml_namespace.specs.declared.fault.LoadRefusal.{LoadRefusal}
 use Rattle.acpi_listing.specs.Steps.{Tries}
+use Rattle.acpi_listing.specs.Faults.{in_table}
 use Rattle.acpi_listing.specs.declared.fault.Fault.{Fault}
-use Rattle.acpi_listing.specs.declared.fault.Fault.TheVariants as fault
+use Rattle.acpi_listing.specs.declared.fault.FaultCause.TheVariants as cause
 
 -- what `_OS_` tells
 abbrev pub os_name : List ℕ
@@ -12,7 +13,7 @@ os_name = codes "acpicheck"
 
 -- why tables have no namespace
 abbrev pub FailsToLoad : List (List ℕ) → Fault → Type 0
-FailsToLoad tables f = (refusal : LoadRefusal) × FaultyLoad tables os_name refusal × (f ≡ fault.Load refusal)
+FailsToLoad tables f = (refusal : LoadRefusal) × FaultyLoad tables os_name refusal × (f ≡ in_table (cause.Load refusal.cause) refusal.table refusal.at)
 
 -- the namespace of tables, or the first fault of their load
 abbrev pub Loads : List (List ℕ) → Result Shown Fault → Type 0

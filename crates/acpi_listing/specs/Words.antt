@@ -1,5 +1,7 @@
 -- What words ask for.
-use Rattle.std.specs.Prelude.{◌≡◌, ◌<◌, ◌^◌, ℕ, List, [], Option, Some, codes, map, option_map, vec_items}
+use Rattle.std.specs.Prelude.{◌≡◌, ◌<◌, ◌^◌, ℕ, List, [], Bool, false, Option, Some, codes, map, option_map, vec_items}
+use Rattle.std.specs.Option.{option_map_or}
+use Rattle.std.specs.Str.{bytes_eq}
 use Rattle.std.specs.Str.Parse.{IsNumeral, digits_value, without_leading_plus}
 use Rattle.clap.specs.Words.{Row, Text, all_of, fault_of, first_of, one_of, subcommand_of}
 use Rattle.acpi_listing.specs.CommandLine.{acpicheck_app}
@@ -14,9 +16,14 @@ abbrev pub IsCount : Text → ℕ → Type 0
 IsCount text n =
     let digits = without_leading_plus text in IsNumeral 10 digits × (n < 2 ^ 64) × (n ≡ digits_value 10 digits)
 
+-- whether an option without a value stands there
+abbrev pub has_flag : Text → List Row → Bool
+has_flag name rows = option_map_or (λ text. bytes_eq text (codes "true")) (first_of name rows) false
+
 -- the inputs are the values of their options, and the files
 abbrev pub HasInputs : List Row → InputNames → Type 0
-HasInputs rows names = all_of (codes "files") rows ≡ Some (file_names names)
+HasInputs rows names =
+    (all_of (codes "files") rows ≡ Some (file_names names)) × (names.dead_externals ≡ has_flag (codes "dead-externals") rows)
 
 -- each part of an evaluation is the value of its option
 abbrev pub HasParts : List Row → EvalRequest → Type 0
@@ -24,6 +31,7 @@ HasParts rows request =
     HasInputs rows request.inputs
     × (first_of (codes "method") rows ≡ Some request.method.now)
     × (first_of (codes "args") rows ≡ option_map (λ text. text.now) request.args)
+    × (first_of (codes "regs") rows ≡ option_map (λ name. name.now) request.regs)
     × ((text : Text) × (one_of (codes "plain") rows ≡ Some text) × IsCount text request.steps)
 
 -- a command and what its words gave is a request

@@ -1,41 +1,102 @@
 // The arguments of a method, as the text of `--args` lists them.
 
-ghost use Rattle.std.specs.Prelude.{◌≡◌, ◌⊎◌, ◌∷◌, ◌≤◌, ◌<◌, ◌^◌};
-ghost use Rattle.std.specs.Prelude.{ℕ, List, IfOk, IfErr, MatchOption, vec_items};
+ghost use Rattle.std.specs.Prelude.{◌≡◌, ◌↔◌, ◌∷◌, ◌≤◌, ◌<◌, ◌^◌, [], IsTrue};
+ghost use Rattle.std.specs.Prelude.{ℕ, List, MatchOption, map, vec_items};
 ghost use Rattle.std.specs.Str.Parse.{IsNumeral, digits_value};
-ghost use Rattle.acpi_listing.specs.Arguments.{IsInteger, IsNoInteger, ListsIntegers, ListsNoIntegers};
-ghost use Rattle.acpi_listing.specs.declared.fault.Fault.TheVariants as fault;
+ghost use Rattle.aml_kinds.specs.Values.{Int, none};
+ghost use Rattle.aml_kinds.specs.Views.{view};
+ghost use Rattle.acpi_listing.specs.Arguments.{AreBytes, AreCharacters, IsArgument, IsInteger, IsNoArgument, ListsNoValues, ListsValues};
+ghost use Rattle.acpi_listing.specs.Faults.{nowhere};
+ghost use Rattle.acpi_listing.specs.Steps.{Tries};
+ghost use Rattle.acpi_listing.specs.declared.fault.FaultCause.TheVariants as cause;
 
-use crate::fault::Fault;
+use crate::fault::{Fault, FaultCause};
+use aml_kinds::{Bytes, Package, Value};
+use hex::FromHexError;
 use std::alloc::Global;
 
-/// The integers that a text lists by commas: decimal, or hex after `0x`, below 2^64.
+/// The most bytes of a buffer.
+const BUFFER_LIMIT: usize = 65_536;
+
+/// The values that a text lists by commas: integers below 2^64, decimal or hex behind `0x`; `buf:` and
+/// at most 65,536 bytes in hex; `str:` and ASCII characters but the zero; and `pkg`, the empty package.
 ///
 /// Fault: E521 where an element has any other form.
-pub fn read_arguments(alloc: Global, text: &str) -> Result<Vec<u64>, Fault>
-    ensures integers { IfOk result (λ ns. ListsIntegers text.now (vec_items ns)) }
-    ensures faults { IfErr result
-        (λ f. (f ≡ fault.NoMemory) ⊎ ((f ≡ fault.BadArgs) × ListsNoIntegers text.now)) }
+pub fn read_arguments(alloc: Global, text: &str) -> Result<Vec<Value>, Fault>
+    ensures { Tries (λ vs. ListsValues text.now (map view (vec_items vs)))
+        (λ f. (f ≡ nowhere cause.BadArgs) × ListsNoValues text.now) result }
 {
     let mut arguments = Vec::new(alloc);
     let mut rest = text;
     while let Some((element, more)) = rest.split_once(',') {
-        let Some(argument) = read_integer(element) else {
-            return Err(Fault::BadArgs);
-        };
-        arguments.push(argument)?;
+        arguments.push(read_argument(alloc, element)?)?;
         rest = more;
     }
-    let Some(last) = read_integer(rest) else {
-        return Err(Fault::BadArgs);
-    };
-    arguments.push(last)?;
+    arguments.push(read_argument(alloc, rest)?)?;
     Ok(arguments)
+}
+
+// The value of one element.
+fn read_argument(alloc: Global, element: &str) -> Result<Value, Fault>
+    ensures { Tries (λ v. IsArgument element.now (view v))
+        (λ f. (f ≡ nowhere cause.BadArgs) × IsNoArgument element.now) result }
+{
+    if element == "pkg" {
+        return Ok(Value::Pkg(empty_package(alloc)));
+    }
+    let text = element.as_bytes();
+    if let Some(digits) = text.strip_prefix(b"buf:") {
+        return Ok(Value::Buf(Bytes::new(read_bytes(alloc, digits)?)));
+    }
+    if let Some(characters) = text.strip_prefix(b"str:") {
+        return Ok(Value::Str(Bytes::new(read_characters(alloc, characters)?)));
+    }
+    match read_integer(element) {
+        Some(number) => Ok(Value::Int(number)),
+        None => Err(Fault::nowhere(FaultCause::BadArgs)),
+    }
+}
+
+fn empty_package(alloc: Global) -> Package
+    ensures { result ≡ none }
+{
+    Package::new(Vec::new(alloc)).ok().unwrap()
+}
+
+// The bytes of a buffer.
+fn read_bytes(alloc: Global, digits: &[u8]) -> Result<Vec<u8>, Fault>
+    ensures { Tries (λ bytes. AreBytes digits.now (vec_items bytes))
+        (λ f. (f ≡ nowhere cause.BadArgs) × ((bytes : List ℕ) → AreBytes digits.now bytes → ⊥))
+        result }
+{
+    match hex::decode(alloc, digits) {
+        Ok(bytes) if bytes.len() <= BUFFER_LIMIT => Ok(bytes),
+        Err(FromHexError::OutOfMemory) => Err(Fault::nowhere(FaultCause::NoMemory)),
+        _ => Err(Fault::nowhere(FaultCause::BadArgs)),
+    }
+}
+
+// The characters of a string.
+fn read_characters(alloc: Global, text: &[u8]) -> Result<Vec<u8>, Fault>
+    ensures { Tries (λ characters. (vec_items characters ≡ text.now) × AreCharacters text.now)
+        (λ f. (f ≡ nowhere cause.BadArgs) × (AreCharacters text.now → ⊥)) result }
+{
+    if !are_characters(text) {
+        return Err(Fault::nowhere(FaultCause::BadArgs));
+    }
+    Ok(Vec::from_slice(alloc, text)?)
+}
+
+fn are_characters(text: &[u8]) -> bool
+    ensures { IsTrue result ↔ AreCharacters text.now }
+{
+    text.iter().all(|b| *b > 0 && *b < 128)
 }
 
 // The integer of one element.
 fn read_integer(element: &str) -> Option<u64>
-    ensures { MatchOption result (IsNoInteger element.now) (λ n. IsInteger element.now n) }
+    ensures { MatchOption result ((n : ℕ) → IsInteger element.now n → ⊥)
+        (λ n. IsInteger element.now n) }
 {
     match hex_digits(element) {
         Some(digits) => read_digits(digits, 16),

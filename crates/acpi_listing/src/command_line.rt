@@ -4,9 +4,10 @@ ghost use Rattle.std.specs.Prelude.{◌≡◌, ◌⊎◌, ◌≤◌, [], IfErr, 
 ghost use Rattle.std.specs.Io.Buffered.{writer_buffer, writer_contents};
 ghost use Rattle.std.specs.Io.KnownBytes.{Keeps};
 ghost use Rattle.acpi_listing.specs.Program.{RunsEither, RunsProgram};
-ghost use Rattle.acpi_listing.specs.declared.fault.Fault.TheVariants as fault;
+ghost use Rattle.acpi_listing.specs.Faults.{nowhere};
+ghost use Rattle.acpi_listing.specs.declared.fault.FaultCause.TheVariants as cause;
 
-use crate::fault::Fault;
+use crate::fault::{Fault, FaultCause};
 use crate::program::{report, run, run_words};
 use crate::source::Source;
 use crate::words::words_error;
@@ -20,7 +21,7 @@ use std::rt::Env;
 ///
 /// Fault: E520 where one is no UTF-8.
 pub fn command_words<R: Env + AllocGlobal>(rt: &R) -> Result<Vec<String>, Fault>
-    ensures { IfErr result (λ f. (f ≡ fault.CommandLine) ⊎ (f ≡ fault.NoMemory)) }
+    ensures { IfErr result (λ f. (f ≡ nowhere cause.CommandLine) ⊎ (f ≡ nowhere cause.NoMemory)) }
 {
     let mut words = Vec::new(rt.alloc());
     match env::args(rt) {
@@ -36,11 +37,11 @@ pub fn command_words<R: Env + AllocGlobal>(rt: &R) -> Result<Vec<String>, Fault>
 
 // Why the words cannot be had.
 fn fault_of_unread(kind: ErrorKind) -> Fault
-    ensures { (result ≡ fault.CommandLine) ⊎ (result ≡ fault.NoMemory) }
+    ensures { (result ≡ nowhere cause.CommandLine) ⊎ (result ≡ nowhere cause.NoMemory) }
 {
     match kind {
-        ErrorKind::OutOfMemory => Fault::NoMemory,
-        _ => Fault::CommandLine,
+        ErrorKind::OutOfMemory => Fault::nowhere(FaultCause::NoMemory),
+        _ => Fault::nowhere(FaultCause::CommandLine),
     }
 }
 
@@ -84,8 +85,8 @@ fn run_either<R: Read, F: Source, W: Write, N: Eprint>(
     let words = match words {
         Ok(words) => words,
         Err(fault) => {
-            let why = match fault {
-                Fault::NoMemory => "no memory for the words",
+            let why = match fault.cause {
+                FaultCause::NoMemory => "no memory for the words",
                 _ => "a word is no UTF-8",
             };
             let _ = notes.eprint("acpicheck: ");

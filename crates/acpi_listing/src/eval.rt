@@ -1,31 +1,41 @@
 // The command `eval`.
 
-ghost use Rattle.std.specs.Prelude.{◌≡◌, ◌≤◌, ◌⊎◌, ◌↔◌, ℕ, List, true};
-ghost use Rattle.std.specs.Prelude.{IfOk, IfErr, length, option_map, vec_items};
+ghost use Rattle.std.specs.Prelude.{◌≡◌, ◌≤◌, ◌⊎◌, ◌↔◌, ℕ, List, [], IsSome, Some, true};
+ghost use Rattle.std.specs.Prelude.{IfOk, IfErr, length, map, option_map, vec_items};
 ghost use Rattle.acpi_listing.specs.Arguments.{ListsArguments, ListsBadArguments};
+ghost use Rattle.aml_kinds.specs.Views.{view};
 ghost use Rattle.aml_namespace.specs.Names.{method_at};
 ghost use Rattle.aml_namespace.specs.Shows.{shown};
 ghost use Rattle.acpi_listing.specs.Commands.{EvaluatesFiles, EvaluatesTables, IsMethodAt, IsNoMethodAt, printed_path};
-ghost use Rattle.acpi_listing.specs.Commands.{Takes, outcome_status};
-ghost use Rattle.acpi_listing.specs.Steps.{Tells, Writes};
+ghost use Rattle.acpi_listing.specs.Commands.{IsMeant, Takes, are_taken, evaluation_text, is_taken, outcome_status, with_events};
+ghost use Rattle.aml_operators.specs.declared.row.Code.TheVariants as code;
+ghost use Rattle.aml_operators.specs.Shape.{AreShaped};
+ghost use Rattle.aml_operators.specs.Tree.{views};
+ghost use Rattle.acpi_listing.specs.Steps.{Tells, Tries, Writes};
 ghost use Rattle.acpi_listing.specs.Inputs.{tables_of};
-ghost use Rattle.acpi_text.specs.Outcome.{outcome_line, refusal_line};
-ghost use Rattle.acpi_listing.specs.declared.fault.Fault.TheVariants as fault;
+ghost use Rattle.acpi_text.specs.Lists.{Lists};
+ghost use Rattle.acpi_text.specs.Outcome.{refusal_line};
+ghost use Rattle.acpi_listing.specs.Faults.{nowhere};
+ghost use Rattle.acpi_listing.specs.declared.fault.FaultCause.TheVariants as cause;
 
 use crate::arguments::read_arguments;
-use crate::fault::{Fault, Stop};
+use crate::fault::{Fault, FaultCause, Stop};
 use crate::inputs::Inputs;
 use crate::load::load;
+use crate::regs::read_registers;
 use crate::source::Source;
 use crate::words::EvalRequest;
-use acpi_text::{list_evaluation, list_refusal};
-use aml_namespace::{Method, Namespace, ObjectId};
+use acpi_text::{RunFault, list_evaluation, list_events, list_refusal};
+use aml_kinds::{Names, Value};
+use aml_namespace::{Method, Namespace, ObjectId, Width};
+use aml_operators::Term;
 use aml_plain::{Outcome, evaluate_terms};
+use aml_regions::{Event, RegisterFile};
 use aml_tree::{Refusal, TreeFault};
 use std::alloc::Global;
 use std::io::Write;
 
-/// Evaluates a method with a number of steps, and prints how that ended.
+/// Evaluates a method with a number of steps, and prints its events and how that ended.
 pub fn evaluate<F: Source, W: Write>(
     alloc: Global,
     request: &EvalRequest<'_>,
@@ -34,19 +44,20 @@ pub fn evaluate<F: Source, W: Write>(
 ) -> Result<u8, Stop>
     ensures status { IfOk result (λ status. status ≤ 3) }
     ensures printed { Writes (EvaluatesFiles F.answers request.now.inputs request.now.method.now
-        (option_map (λ text. text.now) request.now.args) request.now.steps)
+        (option_map (λ text. text.now) request.now.args)
+        (option_map (λ name. name.now) request.now.regs) request.now.steps)
         files.old files.new (W.contents out.old) (W.contents out.new) result }
 {
     let arguments = arguments_of(alloc, request)?;
+    let registers = read_registers(alloc, request.regs, files)?;
     let inputs = Inputs::read(alloc, &request.inputs, files)?;
-    evaluate_inputs(alloc, request, &arguments, &inputs, out)
+    evaluate_inputs(alloc, request, arguments, registers, &inputs, &*files, out)
 }
 
-fn arguments_of(alloc: Global, request: &EvalRequest<'_>) -> Result<Vec<u64>, Fault>
-    ensures given { IfOk result
-        (λ ns. ListsArguments (option_map (λ text. text.now) request.now.args) (vec_items ns)) }
-    ensures faults { let args = option_map (λ text. text.now) request.now.args in
-        IfErr result (λ f. (f ≡ fault.NoMemory) ⊎ ((f ≡ fault.BadArgs) × ListsBadArguments args)) }
+fn arguments_of(alloc: Global, request: &EvalRequest<'_>) -> Result<Vec<Value>, Fault>
+    ensures { let args = option_map (λ text. text.now) request.now.args in
+        Tries (λ vs. ListsArguments args (map view (vec_items vs)))
+        (λ f. (f ≡ nowhere cause.BadArgs) × ListsBadArguments args) result }
 {
     match request.args {
         Some(text) => read_arguments(alloc, text),
@@ -54,41 +65,93 @@ fn arguments_of(alloc: Global, request: &EvalRequest<'_>) -> Result<Vec<u64>, Fa
     }
 }
 
-// Evaluates a method of the tables that were read.
-fn evaluate_inputs<W: Write>(
+// Evaluates a method of the tables that were read, over registers.
+fn evaluate_inputs<F: Source, W: Write>(
     alloc: Global,
     request: &EvalRequest<'_>,
-    arguments: &[u64],
+    arguments: Vec<Value>,
+    registers: RegisterFile,
     inputs: &Inputs,
+    files: &F,
     out: &mut W,
 ) -> Result<u8, Stop>
+    requires { registers.events.items ≡ [] }
     ensures status { IfOk result (λ status. status ≤ 3) }
-    ensures printed { Writes (EvaluatesTables request.now.method.now arguments.now request.now.steps
-        (tables_of inputs.now)) tt tt (W.contents out.old) (W.contents out.new) result }
+    ensures printed { Writes (EvaluatesTables request.now.method.now (map view (vec_items arguments))
+        request.now.steps (tables_of inputs.now)) tt tt (W.contents out.old) (W.contents out.new)
+        result }
 {
-    let namespace = load(alloc, inputs)?;
+    let namespace = load(alloc, inputs, files)?;
     let (id, method) = find_method(&namespace, request.method)?;
     let body = match namespace.tree(alloc, id) {
         Ok(body) => body,
-        Err(TreeFault::NoMemory) => return Err(Stop::Fault(Fault::NoMemory)),
+        Err(TreeFault::NoMemory) => return Err(Stop::Fault(Fault::nowhere(FaultCause::NoMemory))),
         Err(TreeFault::Refused(refusal)) => {
             return tell_refusal(alloc, out, &namespace, id, method.table, refusal);
         }
     };
-    if !fits(&namespace, method, arguments) {
-        return Err(Stop::Fault(Fault::ArgsDontFit));
+    if !fits(&namespace, method, &arguments) {
+        return Err(Stop::Fault(Fault::nowhere(FaultCause::ArgsDontFit)));
     }
-    let outcome = evaluate_terms(&namespace, id, &body, arguments, request.steps);
-    tell_outcome(alloc, out, &outcome)
+    let mut world = registers;
+    let steps = request.steps;
+    let outcome = outcome_of(alloc, &namespace, id, &body, arguments, &mut world, steps)?;
+    tell_outcome(alloc, out, &namespace, &outcome, world.events())
 }
 
-// Prints how an evaluation ended, and answers the status of that.
-fn tell_outcome<W: Write>(alloc: Global, out: &mut W, outcome: &Outcome) -> Result<u8, Stop>
+// How a method's evaluation ends, from what the names of the tables hold first, over registers.
+fn outcome_of(
+    alloc: Global,
+    namespace: &Namespace<'_>,
+    id: ObjectId,
+    body: &[Term],
+    arguments: Vec<Value>,
+    world: &mut RegisterFile,
+    steps: u64,
+) -> Result<Outcome, Fault>
+    requires known { IsSome (method_at (shown namespace.now) id.0) }
+    requires shaped { AreShaped code.Body (views body.now) }
+    requires fresh { world.old.events.items ≡ [] }
+    ensures { (m : Method) → method_at (shown namespace.now) id.0 ≡ Some m →
+        IsMeant (shown namespace.now) id.0 m (views body.now) (map view (vec_items arguments)) steps
+        (with_events result world.new.events.items) }
+{
+    let mut names = Names::initial(alloc, namespace)?;
+    let outcome = evaluate_terms(
+        alloc, namespace, &mut names, id, body, arguments, world, steps,
+    )?;
+    Ok(outcome)
+}
+
+// Prints the events of an evaluation, and how it ended.
+fn list_ended<W: Write>(
+    alloc: Global,
+    out: &mut W,
+    namespace: &Namespace<'_>,
+    outcome: &Outcome,
+    events: &[Event],
+) -> Result<(), RunFault>
+    ensures { Lists result (W.contents out.old) (W.contents out.new)
+        (evaluation_text (shown namespace.now).entries (outcome.now, events.now)) }
+{
+    list_events(alloc, out, namespace, events)?;
+    list_evaluation(alloc, out, namespace, outcome)
+}
+
+// Prints the events of an evaluation and how it ended, and answers the status of that.
+fn tell_outcome<W: Write>(
+    alloc: Global,
+    out: &mut W,
+    namespace: &Namespace<'_>,
+    outcome: &Outcome,
+    events: &[Event],
+) -> Result<u8, Stop>
     ensures status { IfOk result (λ status. status ≤ 3) }
-    ensures printed { Writes (Tells (outcome_line outcome.now) (outcome_status outcome.now))
+    ensures printed { let text = evaluation_text (shown namespace.now).entries (outcome.now, events.now) in
+        Writes (Tells text (outcome_status outcome.now))
         (tt {0}) (tt {0}) (W.contents out.old) (W.contents out.new) result }
 {
-    list_evaluation(alloc, out, outcome)?;
+    list_ended(alloc, out, namespace, outcome, events)?;
     Ok(status_of(outcome))
 }
 
@@ -115,23 +178,45 @@ fn find_method(namespace: &Namespace<'_>, word: &str) -> Result<(ObjectId, Metho
     ensures found { IfOk result
         (λ found. IsMethodAt (shown namespace.now) word.now found.0.0 found.1) }
     ensures none { IfErr result
-        (λ f. IsNoMethodAt (shown namespace.now) word.now × (f ≡ fault.NoSuchObject)) }
+        (λ f. IsNoMethodAt (shown namespace.now) word.now × (f ≡ nowhere cause.NoSuchObject)) }
 {
     let Some(id) = namespace.find(word.as_bytes()) else {
-        return Err(Fault::NoSuchObject);
+        return Err(Fault::nowhere(FaultCause::NoSuchObject));
     };
     match namespace.method(id) {
         Some(method) => Ok((id, method)),
-        None => Err(Fault::NoSuchObject),
+        None => Err(Fault::nowhere(FaultCause::NoSuchObject)),
     }
 }
 
-// Whether the method takes these arguments: as many as it has, each an integer of the namespace.
-fn fits(namespace: &Namespace<'_>, method: Method, arguments: &[u64]) -> bool
-    ensures { result ≡ true ↔ Takes (shown namespace.now) method arguments.now }
+// Whether the method takes these arguments: as many as it has, integers of the namespace among them.
+fn fits(namespace: &Namespace<'_>, method: Method, arguments: &[Value]) -> bool
+    ensures { result ≡ true ↔ Takes (shown namespace.now) method (map view arguments.now) }
 {
-    let greatest = namespace.width().greatest();
-    arguments.len() == usize::from(method.args) && arguments.iter().all(|n| *n <= greatest)
+    arguments.len() == usize::from(method.args) && are_taken(namespace.width(), arguments)
+}
+
+// Whether the integers among these values are of a width.
+fn are_taken(width: Width, values: &[Value]) -> bool
+    ensures { result ≡ are_taken width (map view values.now) }
+{
+    let greatest = width.greatest();
+    for value in values {
+        if !is_taken(greatest, value) {
+            return false;
+        }
+    }
+    true
+}
+
+// Whether a value is no integer above the greatest.
+fn is_taken(greatest: u64, value: &Value) -> bool
+    ensures { result ≡ is_taken greatest (view value.now) }
+{
+    match value {
+        Value::Int(number) => *number <= greatest,
+        _ => true,
+    }
 }
 
 fn status_of(outcome: &Outcome) -> u8

@@ -3,21 +3,33 @@
 ghost use Rattle.std.specs.Prelude.{◌≡◌};
 ghost use Rattle.acpi_listing.specs.Files.{source_fault, load_fault};
 ghost use Rattle.acpi_listing.specs.Commands.{fault_status};
-ghost use Rattle.acpi_listing.specs.declared.fault.Fault.TheVariants as told;
+ghost use Rattle.acpi_listing.specs.Faults.{cause_text, in_table, nowhere};
+ghost use Rattle.acpi_listing.specs.Registers.{registers_fault};
+ghost use Rattle.acpi_listing.specs.declared.fault.FaultCause.TheVariants as told;
 ghost use Rattle.acpi_listing.specs.declared.fault.Stop.TheVariants as stop;
 
 use crate::source::SourceFault;
 use acpi_tables::{TableCause, TableFault};
 use acpi_text::RunFault;
-use aml_namespace::{LoadFault, LoadRefusal};
+use aml_namespace::{LoadCause, LoadFault, LoadRefusal, NoMemory};
+use aml_regions::RegistersFault;
 use std::alloc::{AllocError, AllocFailed};
 
-/// What ends a command with a fault line.
+/// What ends a command with a fault line: what is wrong, and where.
 #[derive(Clone, Copy, Debug, PartialEq, Eq)]
-pub enum Fault {
+pub struct Fault {
+    pub cause: FaultCause,
+    pub at: Where,
+}
+
+/// What is wrong.
+#[derive(Clone, Copy, Debug, PartialEq, Eq)]
+pub enum FaultCause {
     /// The words are no command line.
     CommandLine,
-    /// The text of `--args` is no list of integers.
+    /// A line of the text of `--regs` that sets no registers.
+    BadRegs,
+    /// The text of `--args` is no list of arguments.
     BadArgs,
     /// Too many or too few arguments for the method, or one above the greatest integer.
     ArgsDontFit,
@@ -27,25 +39,59 @@ pub enum Fault {
     NoMemory,
     /// No method has that path.
     NoSuchObject,
-    /// A table that cannot be listed: what is wrong, in which file, from 0, and at which byte.
-    Table {
-        cause: TableCause,
-        file: usize,
-        at: usize,
-    },
+    /// A table that cannot be listed.
+    Table(TableCause),
     /// A table that cannot be loaded.
-    Load(LoadRefusal),
+    Load(LoadCause),
+}
+
+/// Where it is.
+#[derive(Clone, Copy, Debug, PartialEq, Eq)]
+pub enum Where {
+    /// It has no place.
+    Nowhere,
+    /// At a byte of the file, or of the table, with that number, both counted from 0.
+    Table { table: usize, at: usize },
+    /// In the line with that number, counted from 1.
+    Line(usize),
+    /// In the element of a package with that number, counted from 0.
+    Element(usize),
 }
 
 impl Fault {
+    /// A fault that has no place.
+    pub fn nowhere(cause: FaultCause) -> Self
+        ensures { result ≡ nowhere cause }
+    {
+        Fault {
+            cause,
+            at: Where::Nowhere,
+        }
+    }
+
     /// The fault of a table in the file with that number.
     pub fn of_table(file: usize, fault: TableFault) -> Self
-        ensures { result ≡ told.Table fault.cause file fault.at }
+        ensures { result ≡ in_table (told.Table fault.cause) file fault.at }
     {
-        Fault::Table {
-            cause: fault.cause,
-            file,
-            at: fault.at,
+        Fault {
+            cause: FaultCause::Table(fault.cause),
+            at: Where::Table {
+                table: file,
+                at: fault.at,
+            },
+        }
+    }
+
+    /// The fault of a load.
+    pub fn of_load(refusal: LoadRefusal) -> Self
+        ensures { result ≡ in_table (told.Load refusal.cause) refusal.table refusal.at }
+    {
+        Fault {
+            cause: FaultCause::Load(refusal.cause),
+            at: Where::Table {
+                table: refusal.table,
+                at: refusal.at,
+            },
         }
     }
 
@@ -53,9 +99,28 @@ impl Fault {
     pub fn status(self) -> u8
         ensures { result ≡ fault_status self }
     {
-        match self {
-            Fault::CommandLine => 2,
+        match self.cause {
+            FaultCause::CommandLine => 2,
             _ => 1,
+        }
+    }
+}
+
+impl FaultCause {
+    /// The number and the name of what is wrong, as they are printed.
+    pub fn text(self) -> &'static str
+        ensures { result.now ≡ cause_text self }
+    {
+        match self {
+            FaultCause::BadRegs => "E511 BadRegs",
+            FaultCause::CommandLine => "E520 CommandLine",
+            FaultCause::BadArgs => "E521 BadArgs",
+            FaultCause::ArgsDontFit => "E522 ArgsDontFit",
+            FaultCause::File => "E523 File",
+            FaultCause::NoMemory => "E524 NoMemory",
+            FaultCause::NoSuchObject => "E525 NoSuchObject",
+            FaultCause::Table(cause) => cause.text(),
+            FaultCause::Load(cause) => cause.text(),
         }
     }
 }
@@ -86,18 +151,26 @@ impl From<RunFault> for Stop {
 }
 
 impl From<AllocError> for Fault {
-    ghost from_gives = { λ _ f. f ≡ told.NoMemory };
+    ghost from_gives = { λ _ f. f ≡ nowhere told.NoMemory };
 
     fn from(_error: AllocError) -> Fault {
-        Fault::NoMemory
+        Fault::nowhere(FaultCause::NoMemory)
     }
 }
 
 impl<T: Drop> From<AllocFailed<T>> for Fault {
-    ghost from_gives = { λ _ f. f ≡ told.NoMemory };
+    ghost from_gives = { λ _ f. f ≡ nowhere told.NoMemory };
 
     fn from(_error: AllocFailed<T>) -> Fault {
-        Fault::NoMemory
+        Fault::nowhere(FaultCause::NoMemory)
+    }
+}
+
+impl From<NoMemory> for Fault {
+    ghost from_gives = { λ _ f. f ≡ nowhere told.NoMemory };
+
+    fn from(_error: NoMemory) -> Fault {
+        Fault::nowhere(FaultCause::NoMemory)
     }
 }
 
@@ -106,8 +179,22 @@ impl From<SourceFault> for Fault {
 
     fn from(fault: SourceFault) -> Fault {
         match fault {
-            SourceFault::File => Fault::File,
-            SourceFault::NoMemory => Fault::NoMemory,
+            SourceFault::File => Fault::nowhere(FaultCause::File),
+            SourceFault::NoMemory => Fault::nowhere(FaultCause::NoMemory),
+        }
+    }
+}
+
+impl From<RegistersFault> for Fault {
+    ghost from_gives = { λ e f. f ≡ registers_fault e };
+
+    fn from(fault: RegistersFault) -> Fault {
+        match fault {
+            RegistersFault::NoMemory => Fault::nowhere(FaultCause::NoMemory),
+            RegistersFault::BadRegs { line } => Fault {
+                cause: FaultCause::BadRegs,
+                at: Where::Line(line),
+            },
         }
     }
 }
@@ -117,8 +204,8 @@ impl From<LoadFault> for Fault {
 
     fn from(fault: LoadFault) -> Fault {
         match fault {
-            LoadFault::NoMemory => Fault::NoMemory,
-            LoadFault::Refused(refusal) => Fault::Load(refusal),
+            LoadFault::NoMemory => Fault::nowhere(FaultCause::NoMemory),
+            LoadFault::Refused(refusal) => Fault::of_load(refusal),
         }
     }
 }

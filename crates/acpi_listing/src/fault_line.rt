@@ -2,49 +2,36 @@
 
 ghost use Rattle.std.specs.Prelude.{◌≡◌, IfOk, string_bytes};
 ghost use Rattle.acpi_text.specs.Lists.{Lists};
-ghost use Rattle.acpi_listing.specs.Faults.{fault_line, placed_line};
+ghost use Rattle.acpi_listing.specs.Faults.{fault_line, where_text};
 
-use crate::fault::Fault;
+use crate::fault::{Fault, Where};
 use acpi_text::{RunFault, put};
 use std::alloc::{AllocError, Global};
 use std::io::Write;
 
-/// Prints a fault's line. Only what is wrong in a file needs memory to be told.
+/// Prints a fault's line: `fault E103 BadSum 1 9`, with number and name of what is wrong, and behind
+/// them where: the table and the byte in it, a line, an element, or nothing.
+///
+/// Only a fault that has a place needs memory to be told. At Err the writer holds a beginning of the
+/// line.
 pub fn list_fault<W: Write>(alloc: Global, out: &mut W, fault: Fault) -> Result<(), RunFault>
     ensures { Lists result (W.contents out.old) (W.contents out.new) (fault_line fault) }
 {
-    match fault {
-        Fault::CommandLine => put(out, b"fault E520 CommandLine\n"),
-        Fault::BadArgs => put(out, b"fault E521 BadArgs\n"),
-        Fault::ArgsDontFit => put(out, b"fault E522 ArgsDontFit\n"),
-        Fault::File => put(out, b"fault E523 File\n"),
-        Fault::NoMemory => put(out, b"fault E524 NoMemory\n"),
-        Fault::NoSuchObject => put(out, b"fault E525 NoSuchObject\n"),
-        Fault::Table { cause, file, at } => list_place(alloc, out, cause.text(), file, at),
-        Fault::Load(refusal) => {
-            let name = refusal.cause.text();
-            list_place(alloc, out, name, refusal.table, refusal.at)
-        }
+    let place = place_of(alloc, fault.at)?;
+    put(out, b"fault ")?;
+    put(out, fault.cause.text().as_bytes())?;
+    put(out, place.as_bytes())?;
+    put(out, b"\n")
+}
+
+#[tactic(auto, unfolding(crate::specs::Faults::where_text))]
+fn place_of(alloc: Global, at: Where) -> Result<String, AllocError>
+    ensures { IfOk result (λ text. string_bytes text ≡ where_text at) }
+{
+    match at {
+        Where::Nowhere => Ok(String::new(alloc)),
+        Where::Table { table, at } => format!(in alloc; " {table} {at}"),
+        Where::Line(line) => format!(in alloc; " {line}"),
+        Where::Element(element) => format!(in alloc; " {element}"),
     }
-}
-
-fn list_place<W: Write>(
-    alloc: Global,
-    out: &mut W,
-    name: &str,
-    file: usize,
-    at: usize,
-) -> Result<(), RunFault>
-    ensures { Lists result (W.contents out.old) (W.contents out.new)
-        (placed_line name.now file at) }
-{
-    let line = placed_line_of(alloc, name, file, at)?;
-    put(out, line.as_bytes())
-}
-
-#[tactic(auto, unfolding(crate::specs::Faults::placed_line))]
-fn placed_line_of(alloc: Global, name: &str, file: usize, at: usize) -> Result<String, AllocError>
-    ensures { IfOk result (λ line. string_bytes line ≡ placed_line name.now file at) }
-{
-    format!(in alloc; "fault {name} {file} {at}\n")
 }

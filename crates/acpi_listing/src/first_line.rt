@@ -6,7 +6,7 @@ ghost use Rattle.acpi_listing.specs.FirstLine.{AreWords, FailsToStart, StartsWit
 ghost use Rattle.acpi_listing.specs.Input.{IsTorn};
 ghost use Rattle.acpi_listing.specs.Steps.{Tries};
 
-use crate::fault::Fault;
+use crate::fault::{Fault, FaultCause};
 use crate::hex_lines::{HexLines, Lines};
 use crate::input::Input;
 use std::alloc::{AllocError, Global};
@@ -29,13 +29,13 @@ pub fn read_first_line<'a>(
 {
     let mut lines = Lines::new(&input.bytes);
     let Some(first) = lines.next_line() else {
-        return Err(Fault::File);
+        return Err(Fault::nowhere(FaultCause::File));
     };
     if is_torn(input, first) {
-        return Err(Fault::File);
+        return Err(Fault::nowhere(FaultCause::File));
     }
     let Ok(text) = str::from_utf8(first) else {
-        return Err(Fault::CommandLine);
+        return Err(Fault::nowhere(FaultCause::CommandLine));
     };
     let words = split_words(alloc, text)?;
     let files = HexLines {

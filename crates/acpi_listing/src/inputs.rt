@@ -9,6 +9,8 @@ use std::alloc::Global;
 /// The names of what a command reads before it begins, in the order of reading.
 #[derive(Debug, Drop)]
 pub struct InputNames<'a> {
+    /// Whether Externals are read that stand in an If that never runs.
+    pub dead_externals: bool,
     /// The file of the DSDT, and those of the SSDTs behind it.
     pub files: Vec<&'a str>,
     pub ghost some: { 0 < length files.items },
@@ -25,7 +27,8 @@ pub struct Inputs {
 impl Inputs {
     ghost use Rattle.acpi_listing.specs.Inputs.{OpensInputs};
 
-    /// Reads what is named, in this order: the files, as they stand.
+    /// Reads what is named, in this order: the files, as they stand, or with
+    /// the Ifs round their Externals opened.
     ///
     /// The first fault ends it: E523 of a file that cannot be read or is too large, E524.
     pub fn read<F: Source>(
@@ -36,7 +39,7 @@ impl Inputs {
         ensures { OpensInputs F.answers files.old names.now result files.new }
     {
         Ok(Inputs {
-            files: read_files(alloc, names.files.as_slice(), files)?,
+            files: read_files(alloc, names.files.as_slice(), names.dead_externals, files)?,
         })
     }
 }

@@ -17,14 +17,20 @@ mod inputs;
 mod load;
 mod names;
 mod program;
+mod regs;
 mod source;
 mod words;
 
-pub use acpi_text::{RunFault, Table, list_evaluation, list_names, list_refusal, list_tables, put};
+pub use acpi_text::{
+    RunFault, Table, list_evaluation, list_events, list_names, list_refusal, list_tables,
+    list_value, put,
+};
 pub use any_table::{FileKind, read_any_table};
+pub use arguments::read_arguments;
 pub use command_line::{command_words, run_program};
 pub use disk::{Disk, Unread, read_whole};
-pub use fault::Fault;
+pub use fault::{Fault, FaultCause, Where};
+pub use fault_line::list_fault;
 pub use input::{INPUT_LIMIT, Input, read_input};
 pub use program::{run, run_words};
-pub use source::{Source, SourceFault};
+pub use source::{Hint, Source, SourceFault};

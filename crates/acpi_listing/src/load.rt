@@ -9,7 +9,10 @@ ghost use Rattle.aml_namespace.specs.Shows.{bytes_in, shown};
 
 use crate::fault::Fault;
 use crate::inputs::Inputs;
-use aml_namespace::{Host, Namespace};
+use crate::source::{Hint, Source};
+use aml_externals::is_dead_if;
+use aml_namespace::{Host, LoadCause, LoadFault, Namespace};
+use aml_tree::TreeCause;
 use std::alloc::{AllocError, Global};
 
 /// The text of `_OS_`.
@@ -18,7 +21,11 @@ const OS_NAME: &[u8] = b"acpicheck";
 /// Loads the tables that were read, each with its number in the order of the files.
 ///
 /// Faults: E101 to E104, E201 to E209, E301 to E304, with table and place; E524.
-pub fn load<'a>(alloc: Global, inputs: &'a Inputs) -> Result<Namespace<'a>, Fault>
+pub fn load<'a, F: Source>(
+    alloc: Global,
+    inputs: &'a Inputs,
+    files: &F,
+) -> Result<Namespace<'a>, Fault>
     ensures { let tables = tables_of inputs.now in
         Tries (λ ns. IsLoaded tables os_name (shown ns)) (FailsToLoad tables) result }
 {
@@ -29,7 +36,26 @@ pub fn load<'a>(alloc: Global, inputs: &'a Inputs) -> Result<Namespace<'a>, Faul
     };
     match Namespace::load(alloc, tables.as_slice(), host) {
         Ok(namespace) => Ok(namespace),
-        Err(fault) => Err(Fault::from(fault)),
+        Err(fault) => {
+            tell_way_out(inputs, fault, files);
+            Err(Fault::from(fault))
+        }
+    }
+}
+
+// Tells where a table is refused for an If that `--dead-externals` opens.
+fn tell_way_out<F: Source>(inputs: &Inputs, fault: LoadFault, files: &F) {
+    let LoadFault::Refused(refusal) = fault else {
+        return;
+    };
+    let Some(table) = inputs.files.get(refusal.table) else {
+        return;
+    };
+    if refusal.cause == LoadCause::Tree(TreeCause::ModuleCode) && is_dead_if(table, refusal.at) {
+        files.tell(Hint::DeadExternals {
+            table: refusal.table,
+            at: refusal.at,
+        });
     }
 }
 

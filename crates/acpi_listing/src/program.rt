@@ -5,7 +5,7 @@ ghost use Rattle.acpi_listing.specs.Commands.{ObeysWords, Reports, RunsWords, Ru
 ghost use Rattle.acpi_listing.specs.Steps.{Writes};
 
 use crate::eval::evaluate;
-use crate::fault::{Fault, Stop};
+use crate::fault::{Fault, FaultCause, Stop};
 use crate::fault_line::list_fault;
 use crate::files::list_files;
 use crate::first_line::read_first_line;
@@ -51,7 +51,7 @@ pub fn run<R: Read, W: Write>(alloc: Global, input: &mut R, out: &mut W) -> Resu
         (W.contents out.old) (W.contents out.new) result }
 {
     let Ok(input) = read_input(alloc, input) else {
-        return report(alloc, out, Fault::NoMemory);
+        return report(alloc, out, Fault::nowhere(FaultCause::NoMemory));
     };
     match read_first_line(alloc, &input) {
         Ok((words, mut files)) => run_words(alloc, words.as_slice(), &mut files, out),

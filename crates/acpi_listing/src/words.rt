@@ -4,11 +4,12 @@ ghost use Rattle.std.specs.Prelude.{◌≡◌, ◌⊎◌, IfErr, IfOk, IfSome, S
 ghost use Rattle.clap.specs.Words.{HasKind, all_of, app_of, fault_of, found_of, rows_of, rule_of, subcommand_rows_of};
 ghost use Rattle.clap.specs.declared.Command.TheViews.{out-Command as fields_of};
 ghost use Rattle.acpi_listing.specs.Steps.{Tries};
-ghost use Rattle.acpi_listing.specs.CommandLine.{acpicheck_app, commands_app, eval_app, files_app, files_rule, option_rule, plain_rule};
-ghost use Rattle.acpi_listing.specs.Words.{AsksFor, AsksNothing, HasInputs, HasParts, IsRequest};
-ghost use Rattle.acpi_listing.specs.declared.fault.Fault.TheVariants as fault;
+ghost use Rattle.acpi_listing.specs.CommandLine.{acpicheck_app, commands_app, eval_app, files_app, files_rule, flag_rule, method_app, names_app, option_rule, plain_rule};
+ghost use Rattle.acpi_listing.specs.Words.{AsksFor, AsksNothing, HasInputs, HasParts, IsRequest, has_flag};
+ghost use Rattle.acpi_listing.specs.Faults.{nowhere};
+ghost use Rattle.acpi_listing.specs.declared.fault.FaultCause.TheVariants as cause;
 
-use crate::fault::Fault;
+use crate::fault::{Fault, FaultCause};
 use crate::inputs::InputNames;
 use clap::error::ErrorKind;
 use clap::{Arg, ArgAction, ArgMatches, Command, Error, value_parser};
@@ -35,6 +36,8 @@ pub struct EvalRequest<'a> {
     pub method: &'a str,
     /// The text that lists the arguments.
     pub args: Option<&'a str>,
+    /// The file whose text sets registers.
+    pub regs: Option<&'a str>,
     /// The number of steps.
     pub steps: u64,
 }
@@ -44,7 +47,7 @@ pub struct EvalRequest<'a> {
 /// Fault: E520 for any other words, `--help` too.
 pub fn read_words<'a, S: AsStr>(alloc: Global, words: &'a [S]) -> Result<Request<'a>, Fault>
     ensures { let texts = map S.text words.entry.now in
-        Tries (AsksFor texts) (λ f. (f ≡ fault.CommandLine) × AsksNothing texts) result }
+        Tries (AsksFor texts) (λ f. (f ≡ nowhere cause.CommandLine) × AsksNothing texts) result }
 {
     let matches = match command(alloc)?.try_get_matches_from(words) {
         Ok(matches) => matches,
@@ -68,12 +71,12 @@ pub fn words_error<S: AsStr>(alloc: Global, words: &[S]) -> Option<Error>
 }
 
 fn fault_of_kind(kind: ErrorKind) -> Fault
-    ensures memory { kind ≡ ErrorKind.OutOfMemory → result ≡ fault.NoMemory }
-    ensures faults { (result ≡ fault.CommandLine) ⊎ (result ≡ fault.NoMemory) }
+    ensures memory { kind ≡ ErrorKind.OutOfMemory → result ≡ nowhere cause.NoMemory }
+    ensures faults { (result ≡ nowhere cause.CommandLine) ⊎ (result ≡ nowhere cause.NoMemory) }
 {
     match kind {
-        ErrorKind::OutOfMemory => Fault::NoMemory,
-        _ => Fault::CommandLine,
+        ErrorKind::OutOfMemory => Fault::nowhere(FaultCause::NoMemory),
+        _ => Fault::nowhere(FaultCause::CommandLine),
     }
 }
 
@@ -82,7 +85,7 @@ fn command<'a>(alloc: Global) -> Result<Command<'a>, AllocError>
 {
     program(alloc)
         .subcommand(files_command(alloc, "tables")?)?
-        .subcommand(files_command(alloc, "names")?)?
+        .subcommand(names_command(alloc)?)?
         .subcommand(eval_command(alloc)?)
 }
 
@@ -103,15 +106,34 @@ fn files_command<'a>(alloc: Global, name: &'a str) -> Result<Command<'a>, AllocE
     Command::new(alloc, name).arg(files_arg(alloc))
 }
 
+fn names_command<'a>(alloc: Global) -> Result<Command<'a>, AllocError>
+    ensures app { IfOk result (λ c. app_of c ≡ names_app) }
+    ensures local { IfOk result (λ c. (fields_of c).has_globals ≡ false) }
+{
+    Command::new(alloc, "names")
+        .arg(flag_arg(alloc, "dead-externals"))?
+        .arg(files_arg(alloc))
+}
+
 fn eval_command<'a>(alloc: Global) -> Result<Command<'a>, AllocError>
     ensures app { IfOk result (λ c. app_of c ≡ eval_app) }
+    ensures local { IfOk result (λ c. (fields_of c).has_globals ≡ false) }
+{
+    method_command(alloc)?
+        .arg(flag_arg(alloc, "dead-externals"))?
+        .arg(files_arg(alloc))
+}
+
+// The command that evaluates a method, without the options of its tables.
+fn method_command<'a>(alloc: Global) -> Result<Command<'a>, AllocError>
+    ensures app { IfOk result (λ c. app_of c ≡ method_app) }
     ensures local { IfOk result (λ c. (fields_of c).has_globals ≡ false) }
 {
     Command::new(alloc, "eval")
         .arg(option_arg(alloc, "method").required(true))?
         .arg(option_arg(alloc, "args"))?
-        .arg(steps_arg(alloc))?
-        .arg(files_arg(alloc))
+        .arg(option_arg(alloc, "regs"))?
+        .arg(steps_arg(alloc))
 }
 
 // One file or more.
@@ -143,14 +165,22 @@ fn option_arg<'a>(alloc: Global, name: &'a str) -> Arg<'a>
     Arg::new(alloc, name).long(name).action(ArgAction::Set)
 }
 
+// An option of that name without a value.
+fn flag_arg<'a>(alloc: Global, name: &'a str) -> Arg<'a>
+    ensures rule { rule_of result ≡ flag_rule name.entry.now }
+    ensures local { result.global ≡ false }
+{
+    Arg::new(alloc, name).long(name).action(ArgAction::SetTrue)
+}
+
 // The request of a command that the words gave.
 fn request_of<'a>(alloc: Global, matches: &ArgMatches<'a>) -> Result<Request<'a>, Fault>
     ensures { let found = subcommand_rows_of matches.now in
         Tries (IsRequest found)
-        (λ f. (f ≡ fault.CommandLine) × ((r : _) → IsRequest found r → ⊥)) result }
+        (λ f. (f ≡ nowhere cause.CommandLine) × ((r : _) → IsRequest found r → ⊥)) result }
 {
     let Some((name, found)) = matches.subcommand() else {
-        return Err(Fault::CommandLine);
+        return Err(Fault::nowhere(FaultCause::CommandLine));
     };
     match name {
         "tables" => Ok(Request::Tables {
@@ -158,7 +188,7 @@ fn request_of<'a>(alloc: Global, matches: &ArgMatches<'a>) -> Result<Request<'a>
         }),
         "names" => Ok(Request::Names(inputs_of(alloc, found)?)),
         "eval" => Ok(Request::Eval(eval_of(alloc, found)?)),
-        _ => Err(Fault::CommandLine),
+        _ => Err(Fault::nowhere(FaultCause::CommandLine)),
     }
 }
 
@@ -166,43 +196,57 @@ fn request_of<'a>(alloc: Global, matches: &ArgMatches<'a>) -> Result<Request<'a>
 fn files_of<'a>(alloc: Global, found: &ArgMatches<'a>) -> Result<Vec<&'a str>, Fault>
     ensures { let given = all_of (codes "files") (rows_of (found_of found.now)) in
         Tries (λ files. given ≡ Some (map (λ name. name.now) (vec_items files)))
-        (λ f. (f ≡ fault.CommandLine) × (given ≡ None)) result }
+        (λ f. (f ≡ nowhere cause.CommandLine) × (given ≡ None)) result }
 {
     match found.get_strs("files") {
         Some(files) => Ok(Vec::from_slice(alloc, files)?),
-        None => Err(Fault::CommandLine),
+        None => Err(Fault::nowhere(FaultCause::CommandLine)),
     }
 }
 
-// The inputs of a command: the files.
+// The inputs of a command: the files, and whether Externals in an If that never runs are read.
 fn inputs_of<'a>(alloc: Global, found: &ArgMatches<'a>) -> Result<InputNames<'a>, Fault>
     ensures { let rows = rows_of (found_of found.now) in
         Tries (HasInputs rows)
-        (λ f. (f ≡ fault.CommandLine) × ((names : _) → HasInputs rows names → ⊥)) result }
+        (λ f. (f ≡ nowhere cause.CommandLine) × ((names : _) → HasInputs rows names → ⊥)) result }
 {
     let files = files_of(alloc, found)?;
     if files.is_empty() {
-        return Err(Fault::CommandLine);
+        return Err(Fault::nowhere(FaultCause::CommandLine));
     }
-    Ok(InputNames { files })
+    Ok(InputNames {
+        dead_externals: has_flag(found, "dead-externals"),
+        files,
+    })
+}
+
+// Whether an option without a value stands there.
+fn has_flag(found: &ArgMatches<'_>, name: &str) -> bool
+    ensures { result ≡ has_flag name.now (rows_of (found_of found.now)) }
+{
+    match found.get_str(name) {
+        Some(text) => text == "true",
+        None => false,
+    }
 }
 
 // Each part of the request is the value of its option.
 fn eval_of<'a>(alloc: Global, found: &ArgMatches<'a>) -> Result<EvalRequest<'a>, Fault>
     ensures { let rows = rows_of (found_of found.now) in
         Tries (HasParts rows)
-        (λ f. (f ≡ fault.CommandLine) × ((r : _) → HasParts rows r → ⊥)) result }
+        (λ f. (f ≡ nowhere cause.CommandLine) × ((r : _) → HasParts rows r → ⊥)) result }
 {
     let Some(method) = found.get_str("method") else {
-        return Err(Fault::CommandLine);
+        return Err(Fault::nowhere(FaultCause::CommandLine));
     };
     let Some(steps) = found.get_one::<u64>("plain") else {
-        return Err(Fault::CommandLine);
+        return Err(Fault::nowhere(FaultCause::CommandLine));
     };
     Ok(EvalRequest {
         inputs: inputs_of(alloc, found)?,
         method,
         args: found.get_str("args"),
+        regs: found.get_str("regs"),
         steps,
     })
 }

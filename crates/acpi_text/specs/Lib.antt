@@ -1,7 +1,9 @@
 pub mod Text
 pub mod Lists
 pub mod Items
-pub mod Outcome
 pub mod Structures
 pub mod Tables
 pub mod Names
+pub mod Values
+pub mod Events
+pub mod Outcome

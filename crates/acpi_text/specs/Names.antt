@@ -1,10 +1,11 @@
 -- The names of a namespace, as they are printed.
 use Rattle.std.specs.Prelude.{ℕ, List, [], ◌∷◌, ◌++◌, codes, decimal, unwrap_or}
-use Rattle.std.specs.List.{flat_map, join_with_byte}
+use Rattle.std.specs.List.{flat_map}
 use Rattle.acpi_text.specs.Text.{joined}
 use Rattle.aml_namespace.specs.Entries.{Entries, path_numbered}
 use Rattle.aml_namespace.specs.Load.{Shown}
 use Rattle.aml_namespace.specs.Paths.{Path, root}
+use Rattle.aml_namespace.specs.Printed.{path_text}
 use Rattle.aml_namespace.specs.declared.object.BufferFieldSize.{BufferFieldSize}
 use Rattle.aml_namespace.specs.declared.object.BufferFieldSize.TheVariants as size
 use Rattle.aml_namespace.specs.declared.object.Content.{Content}
@@ -13,10 +14,6 @@ use Rattle.aml_namespace.specs.declared.object.Entry.{Entry}
 use Rattle.aml_namespace.specs.declared.object.Entry.TheVariants.{Own, Alias}
 use Rattle.aml_namespace.specs.declared.object.Object.{Object}
 use Rattle.aml_namespace.specs.declared.object.Object.TheVariants as object
-
--- a path: `\` and its segments with `.`, which is 46, between each two
-unfoldable pub path_text : Path → List ℕ
-path_text path = codes "\\" ++ join_with_byte 46 path
 
 -- the path with a number; the root's behind the last
 abbrev pub path_of : Entries → ℕ → Path

@@ -1,19 +1,32 @@
 -- How an evaluation ended, as it is printed.
 use Rattle.std.specs.Prelude.{ℕ, List, [], ◌∷◌, ◌++◌, Some, None, codes, decimal}
 use Rattle.aml_meaning.specs.Causes.{aml_cause_text}
+use Rattle.aml_meaning.specs.declared.error.AmlError.{AmlError}
 use Rattle.aml_tree.specs.Causes.{tree_cause_text}
-use Rattle.acpi_text.specs.Text.{joined, hex}
+use Rattle.acpi_text.specs.Text.{joined}
+use Rattle.acpi_text.specs.Values.{value_text}
+use Rattle.aml_kinds.specs.Values.{Value}
+use Rattle.aml_kinds.specs.Views.{view}
+use Rattle.aml_namespace.specs.Entries.{Entries}
 use Rattle.aml_tree.specs.declared.fault.Refusal.{Refusal}
 use Rattle.aml_plain.specs.declared.body.Outcome.{Outcome}
-use Rattle.aml_plain.specs.declared.body.Outcome.TheVariants.{Done, AmlError, OutOfSteps}
+use Rattle.aml_plain.specs.declared.body.Outcome.TheVariants as outcome
 
--- the line of an outcome: the result, or the error's table, place, number and name
-abbrev pub outcome_line : Outcome → List ℕ
-outcome_line (Done (Some value)) = joined (codes "result 0x" ∷ hex value ∷ codes "\n" ∷ [])
-outcome_line (Done None) = codes "result none\n"
-outcome_line (AmlError error) =
+-- the line of a value that a method gave
+unfoldable pub result_line : Entries → Value → List ℕ
+result_line entries value = joined (codes "result " ∷ value_text entries value ∷ codes "\n" ∷ [])
+
+-- the line of an AML error: its table, place, number and name
+unfoldable pub error_line : AmlError → List ℕ
+error_line error =
     joined (codes "error " ∷ decimal error.table ∷ codes " " ∷ decimal error.at ∷ codes " " ∷ aml_cause_text error.cause ∷ codes "\n" ∷ [])
-outcome_line OutOfSteps = codes "out of steps\n"
+
+-- the line of an outcome
+abbrev pub outcome_line : Entries → Outcome → List ℕ
+outcome_line entries (outcome.Done (Some value)) = result_line entries (view value)
+outcome_line entries (outcome.Done None) = codes "result none\n"
+outcome_line entries (outcome.AmlError error) = error_line error
+outcome_line entries outcome.OutOfSteps = codes "out of steps\n"
 
 -- what stands behind a path whose method's body cannot be read: its table, and the place, number and name of what is wrong
 unfoldable pub refusal_part : ℕ → Refusal → List ℕ

@@ -1,7 +1,8 @@
 // Paths of a namespace, as they are printed.
 
 ghost use Rattle.std.specs.Prelude.{◌≡◌, ◌++◌, OnOk};
-ghost use Rattle.acpi_text.specs.Names.{path_of, path_text};
+ghost use Rattle.acpi_text.specs.Names.{path_of};
+ghost use Rattle.aml_namespace.specs.Printed.{path_text};
 ghost use Rattle.aml_namespace.specs.Shows.{shown};
 ghost use Rattle.aml_namespace.specs.Steps.{path_seen};
 
@@ -28,7 +29,6 @@ pub fn push_path(
 }
 
 // Adds the path of these segments.
-#[tactic(auto, unfolding(crate::specs::Names::path_text))]
 fn push_segments(line: &mut Vec<u8>, path: &[NameSeg]) -> Result<(), AllocError>
     ensures { OnOk result (line.new.items ≡ line.old.items ++ path_text (path_seen path.now)) }
 {

@@ -2,7 +2,8 @@
 
 ghost use Rattle.std.specs.Prelude.{◌≡◌, IfOk, string_bytes};
 ghost use Rattle.acpi_text.specs.Lists.{Lists};
-ghost use Rattle.acpi_text.specs.Names.{path_of, path_text};
+ghost use Rattle.acpi_text.specs.Names.{path_of};
+ghost use Rattle.aml_namespace.specs.Printed.{path_text};
 ghost use Rattle.acpi_text.specs.Outcome.{refusal_line, refusal_part};
 ghost use Rattle.aml_namespace.specs.Shows.{shown};
 

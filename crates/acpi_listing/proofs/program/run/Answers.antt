@@ -1,5 +1,5 @@
 use Rattle.std.proofs.Common.{Bor, List, ℕ, inl, inr, map, subst, vec_items}
-use Rattle.acpi_listing.specs.Commands.{RunsWords}
+use Rattle.acpi_listing.specs.Commands.{Reports, RunsWords}
 use Rattle.acpi_listing.specs.Input.{hex_answers}
 use Rattle.acpi_listing.proofs.program.run.Goals as goal
 
@@ -24,3 +24,9 @@ returns-in-Ok-read_first_line-clause-printed g c =
 
 pub returns-clause-printed : goal.returns-clause-printed
 returns-clause-printed g c = inr (c.in-Ok.input, c.in-Ok.ensures, inr (c.in-Err.fault, c.in-Err.ensures, c.report-in-Err.ensures.told))
+
+pub returns-in_default-clause-printed : goal.returns-in_default-clause-printed
+returns-in_default-clause-printed g c =
+    let held = g.W.Write.contents c.args.out.now in
+    let holds = g.W.Write.contents c.report.new.out in
+    inl (subst (λ f. Reports f held holds c.report.result) c.nowhere.ensures c.report.ensures.told)

@@ -1,4 +1,5 @@
 use Rattle.std.proofs.Common.{◌≡◌, ℕ, List, Bor, drop, length, map, vec_items}
+use Rattle.acpi_listing.specs.Files.{prepared}
 use Rattle.acpi_listing.proofs.FilesRead.{AllLeft}
 use Rattle.acpi_listing.proofs.source.read_files.Given as goal
 
@@ -6,7 +7,7 @@ use Rattle.acpi_listing.proofs.source.read_files.Given as goal
 abbrev pub invariant-loop-name : goal.invariant-loop-name
 invariant-loop-name g l = record {
   left :
-      AllLeft g.F.Source.answers l.initial.files (map (λ (name : Bor (List ℕ)). name.now) l.names) (map vec_items l.read.items) l.files
+      AllLeft (prepared l.dead_externals g.F.Source.answers) l.initial.files (map (λ (name : Bor (List ℕ)). name.now) l.names) (map vec_items l.read.items) l.files
       (map (λ (name : Bor (List ℕ)). name.now) (drop l.name-index l.names));
   count : length l.read.items ≡ l.name-index;
 }

@@ -1,4 +1,4 @@
-use Rattle.std.proofs.Common.{◌<◌, ◌^◌, ◌∙◌, inr, sym, refl, subst, codes}
+use Rattle.std.proofs.Common.{◌<◌, ◌^◌, ◌∙◌, inr, sym, subst, codes}
 use Rattle.std.specs.Str.Parse.{ParsesUnsigned, ExplainsUnsignedError, HasUnsignedDigitsIfOk}
 use Rattle.clap.specs.Words.{found_of}
 use Rattle.clap.proofs.WalkLemmas.{first_value-rows, one_text-rows}
@@ -7,12 +7,12 @@ use Rattle.acpi_listing.proofs.words.eval_of.Goals as goal
 
 pub returns-in_default : goal.returns-in_default
 returns-in_default c =
-    inr (refl, λ r parts. missing _ r.method.now (c.in_default.ensures ∙ first_value-rows (found_of c.args.found.now) (codes "method")) parts.1)
+    inr (c.nowhere.ensures, λ r parts. missing _ r.method.now (c.in_default.ensures ∙ first_value-rows (found_of c.args.found.now) (codes "method")) parts.1)
 
 pub returns-in_default-get_one : goal.returns-in_default-get_one
 returns-in_default-get_one c = inr (
-  refl,
-  λ r parts. let (text, is, count) = parts.3 in
+  c.nowhere-in_default-get_one.ensures,
+  λ r parts. let (text, is, count) = parts.4 in
       let (e, gives) = c.in_default-get_one.ensures.value text (one_text-rows (found_of c.args.found.now) (codes "plain") ∙ is) in
       gives.0 (count.0, subst (λ m. m < 2 ^ 64) count.2 count.1),
 )
@@ -24,5 +24,6 @@ returns c =
       c.in_ok-inputs_of.ensures,
       sym (first_value-rows found (codes "method")) ∙ sym c.in-Some.ensures,
       sym (first_value-rows found (codes "args")) ∙ sym c.get_str-2.ensures,
+      sym (first_value-rows found (codes "regs")) ∙ sym c.get_str-3.ensures,
       (steps.0, sym (one_text-rows found (codes "plain")) ∙ steps.1, steps.2),
     )

@@ -1,4 +1,4 @@
-use Rattle.std.proofs.Common.{Some, ap, ◌∙◌, sym, refl, inr, map, codes}
+use Rattle.std.proofs.Common.{Some, ap, ◌∙◌, sym, inr, map, codes}
 use Rattle.clap.specs.Words.{found_of}
 use Rattle.clap.proofs.WalkLemmas.{raw_values-rows}
 use Rattle.acpi_listing.proofs.words.files_of.Goals as goal
@@ -8,4 +8,4 @@ returns-in_ok-from_slice-in-Some c =
     sym (raw_values-rows (found_of c.args.found.now) (codes "files")) ∙ sym c.in-Some.ensures ∙ ap (λ files. Some (map (λ name. name.now) files)) (sym c.in_ok-from_slice-in-Some.ensures.items)
 
 pub returns-in-None : goal.returns-in-None
-returns-in-None c = inr (refl, sym (raw_values-rows (found_of c.args.found.now) (codes "files")) ∙ sym c.in-None.ensures)
+returns-in-None c = inr (c.nowhere.ensures, sym (raw_values-rows (found_of c.args.found.now) (codes "files")) ∙ sym c.in-None.ensures)

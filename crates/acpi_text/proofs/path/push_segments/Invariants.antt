@@ -1,8 +1,8 @@
 use Rattle.std.proofs.Common.{◌≡◌, ◌++◌, take}
-use Rattle.std.specs.List.{join_with_byte}
+use Rattle.aml_namespace.specs.Printed.{segments_text}
 use Rattle.aml_namespace.specs.Steps.{path_seen}
 use Rattle.acpi_text.proofs.path.push_segments.Given as goal
 
 -- the segments before were added, with a `.` between each two
 abbrev pub invariant-loop-i : goal.invariant-loop-i
-invariant-loop-i l = l.line.items ≡ l.initial.line.items ++ join_with_byte 46 (path_seen (take l.i l.path))
+invariant-loop-i l = l.line.items ≡ l.initial.line.items ++ segments_text (path_seen (take l.i l.path))

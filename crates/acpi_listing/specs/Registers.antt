@@ -1,0 +1,36 @@
+-- The registers over which a method is evaluated: those that the text of a file sets, or zeros.
+use Rattle.std.specs.Prelude.{◌≡◌, ◌⊎◌, ℕ, List, Option, Some, None, Result, Ok, Err}
+use Rattle.aml_regions.specs.Bytes.{SameBytes}
+use Rattle.aml_regions.specs.Registers.{contents}
+use Rattle.aml_regions.specs.Text.{FailsToSet, TextSets}
+use Rattle.aml_regions.specs.declared.fault.RegistersFault.{RegistersFault}
+use Rattle.aml_regions.specs.declared.fault.RegistersFault.TheVariants.{NoMemory, BadRegs}
+use Rattle.aml_regions.specs.declared.registers.RegisterFile.{RegisterFile}
+use Rattle.acpi_listing.specs.Faults.{in_line, nowhere}
+use Rattle.acpi_listing.specs.Files.{Answers, Opens}
+use Rattle.acpi_listing.specs.Steps.{Step, Quietly}
+use Rattle.acpi_listing.specs.declared.fault.Fault.{Fault}
+use Rattle.acpi_listing.specs.declared.fault.FaultCause.TheVariants as cause
+
+-- why a text sets no registers: want of memory, or its first bad line
+abbrev pub registers_fault : RegistersFault → Fault
+registers_fault NoMemory = nowhere cause.NoMemory
+registers_fault (BadRegs line) = in_line cause.BadRegs line
+
+-- the registers that a text sets, others being 0
+abbrev pub SetsRegisters : List ℕ → Result RegisterFile Fault → Type 0
+SetsRegisters text (Ok file) = TextSets text (contents file)
+SetsRegisters text (Err f) = (e : RegistersFault) × FailsToSet text e × (f ≡ registers_fault e)
+
+-- the registers of the file of a name; without one all are 0
+abbrev pub OpensRegisters : {F : Type 0} → Answers F → F → Option (List ℕ) → Result RegisterFile Fault → F → Type 0
+OpensRegisters answers old None (Ok file) new = SameBytes (λ _ _. 0) (contents file) × (new ≡ old)
+OpensRegisters answers old None (Err f) new = ⊥
+OpensRegisters answers old (Some name) (Ok file) new =
+    (text : List ℕ) × Opens answers old name (Ok text) new × SetsRegisters text (Ok file)
+OpensRegisters answers old (Some name) (Err f) new =
+    Opens answers old name (Err f) new ⊎ ((text : List ℕ) × Opens answers old name (Ok text) new × SetsRegisters text (Err f))
+
+-- the same as a step of a command
+abbrev pub ReadsRegisters : {F : Type 0} → Answers F → Option (List ℕ) → Step F RegisterFile
+ReadsRegisters answers name = Quietly (λ old r new. OpensRegisters answers old name r new)

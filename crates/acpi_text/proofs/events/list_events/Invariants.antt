@@ -1,0 +1,13 @@
+use Rattle.std.proofs.Common.{◌≡◌, ◌++◌, ℕ, List, drop}
+use Rattle.std.specs.List.{flat_map}
+use Rattle.std.specs.Io.KnownBytes.{Appends}
+use Rattle.acpi_text.specs.Events.{event_line, events_text}
+use Rattle.aml_namespace.specs.Shows.{shown}
+use Rattle.acpi_text.proofs.events.list_events.Given as goal
+
+-- the lines before were appended, and those of the other events are left
+abbrev pub invariant-loop-event : goal.invariant-loop-event
+invariant-loop-event g l =
+    let entries = (shown l.namespace).entries in
+    (done : List ℕ) × (events_text entries l.events ≡ done ++ flat_map (event_line entries) (drop l.event-index l.events))
+    × Appends (g.W.Write.contents l.initial.out) (g.W.Write.contents l.out) done
