@@ -2,9 +2,11 @@
 // line, and writers that fail.
 
 mod calls;
+mod faults;
 mod names;
 mod rows;
 mod several;
+mod values;
 mod whole;
 
 use acpi_listing::{RunFault, run};

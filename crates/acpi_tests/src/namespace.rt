@@ -4,10 +4,11 @@ mod definitions;
 mod externals;
 mod faults;
 mod names;
+mod owns;
 mod tables;
 mod within;
 
-use crate::made::{DSDT, HOST, table_of};
+use acpi_samples::{DSDT, HOST, table_of};
 use aml_lex::{NameSeg, name_string};
 use aml_namespace::{
     Content, DataName, Entry, LoadFault, Method, Namespace, NoMemory, Object, ObjectId, Scope,

@@ -1,7 +1,7 @@
 // Rows whose expected values were worked out by hand from the layouts, and each table cut at every
 // byte.
 
-use crate::made::{DSDT, changed, table_of};
+use acpi_samples::{DSDT, changed, table_of};
 use acpi_tables::{
     Entry, Fadt, Header, Isa, Madt, Rsdp, TableCause, TableFault, Xsdt, read_table,
     structures_are_found,

@@ -6,7 +6,9 @@ use acpi_listing::{
     run_words,
 };
 use acpi_tables::{TableCause, TableFault};
+use aml_kinds::Value;
 use aml_meaning::{AmlCause, AmlError};
+use aml_namespace::{Host, Namespace};
 use aml_plain::Outcome;
 use hex;
 use std::alloc::Global;
@@ -119,9 +121,18 @@ fn at_44(cause: AmlCause) -> Outcome {
 #[test]
 fn outcomes(rt: HostRuntime) -> Result<(), Fail> {
     let alloc = rt.alloc();
+    let bytes = hex::decode(alloc, TABLE_1)?;
+    let host = Host {
+        os: b"acpicheck",
+        osi: &[],
+    };
+    let namespace = Namespace::load(alloc, &[bytes.as_slice()], host)?;
     let rows = [
-        (Outcome::Done(Some(0)), "result 0x0\n"),
-        (Outcome::Done(Some(u64::MAX)), "result 0xffffffffffffffff\n"),
+        (Outcome::Done(Some(Value::Int(0))), "result 0x0\n"),
+        (
+            Outcome::Done(Some(Value::Int(u64::MAX))),
+            "result 0xffffffffffffffff\n",
+        ),
         (Outcome::Done(None), "result none\n"),
         (Outcome::OutOfSteps, "out of steps\n"),
         (at_44(AmlCause::Unset), "error 1 44 A1 Unset\n"),
@@ -136,7 +147,7 @@ fn outcomes(rt: HostRuntime) -> Result<(), Fail> {
     ];
     for (outcome, text) in rows {
         let mut out = Vec::new(alloc);
-        list_evaluation(alloc, &mut out, &outcome)?;
+        list_evaluation(alloc, &mut out, &namespace, &outcome)?;
         assert_eq!(rt; out.as_slice(), text.as_bytes());
     }
     Ok(())

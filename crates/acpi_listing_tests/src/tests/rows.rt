@@ -3,11 +3,53 @@
 /// Words of `eval`, revision and body of the DSDT, what is printed, and the status.
 pub const EVAL: &[(&str, u8, &str, &str, u8)] = &[
     (
+        "--plain 9 --method \\M022",
+        2,
+        "5b82054445563014134d3032320086444556300a805b22015b2101",
+        "notify \\DEV0 0x80\nsleep 0x1\nstall 0x1\nresult none\n",
+        0,
+    ),
+    (
+        "--plain 8 --method \\M022",
+        2,
+        "5b82054445563014134d3032320086444556300a805b22015b2101",
+        "notify \\DEV0 0x80\nsleep 0x1\nout of steps\n",
+        3,
+    ),
+    (
+        "--plain 9 --method \\M000",
+        2,
+        "140b4d303030005b2201a460",
+        "sleep 0x1\nerror 0 47 A1 Unset\n",
+        3,
+    ),
+    (
         "--plain 1000 --method \\M000 --args 41",
         2,
         "140b4d30303001a472680100",
         "result 0x2a\n",
         0,
+    ),
+    (
+        "--plain 1000 --method \\M000 --args 41",
+        2,
+        "a0090015464f4f5f0800140b4d30303001a472680100",
+        "fault E209 ModuleCode 0 36\n",
+        1,
+    ),
+    (
+        "--dead-externals --plain 1000 --method \\M000 --args 41",
+        2,
+        "a0090015464f4f5f0800140b4d30303001a472680100",
+        "result 0x2a\n",
+        0,
+    ),
+    (
+        "--plain 1000 --dead-externals --method \\M000 --args 41",
+        2,
+        "a00a0015464f4f5f0800a3140b4d30303001a472680100",
+        "fault E209 ModuleCode 0 36\n",
+        1,
     ),
     (
         "--plain 1000 --method \\M000 --args 0x29",
@@ -275,12 +317,62 @@ pub const INPUTS: &[(&str, &str, u8)] = &[
         2,
     ),
     (
+        "tables --dead-externals @\n46414353\n",
+        "fault E520 CommandLine\n",
+        2,
+    ),
+    (
+        "names --dead-externals --dead-externals @\n46414353\n",
+        "fault E520 CommandLine\n",
+        2,
+    ),
+    (
         "eval --plain -1 --method \\M000 --args 1 @\n4453445430000000021f41435049434b524f57533030303101000000524f575301000000140b4d30303001a472680100\n",
         "fault E520 CommandLine\n",
         2,
     ),
     (
         "eval --plain 18446744073709551616 --method \\M000 --args 1 @\n4453445430000000021f41435049434b524f57533030303101000000524f575301000000140b4d30303001a472680100\n",
+        "fault E520 CommandLine\n",
+        2,
+    ),
+    (
+        "eval --plain 9 --method \\M000 --args 41 --regs @ @\n696f20363020313532370a\n4453445430000000021f41435049434b524f57533030303101000000524f575301000000140b4d30303001a472680100\n",
+        "result 0x2a\n",
+        0,
+    ),
+    (
+        "eval --plain 9 --method \\M000 --args 41 --regs @ @\n\n4453445430000000021f41435049434b524f57533030303101000000524f575301000000140b4d30303001a472680100\n",
+        "result 0x2a\n",
+        0,
+    ),
+    (
+        "eval --plain 9 --method \\M000 --args 41 --regs @ @\n23207265676973746572730a696f20363020313532370a696f2036300a\n4453445430000000021f41435049434b524f57533030303101000000524f575301000000140b4d30303001a472680100\n",
+        "fault E511 BadRegs 3\n",
+        1,
+    ),
+    (
+        "eval --plain 9 --method \\M000 --args 41 --regs @ nofile\n696f2036302031353237200a\n4453445430000000021f41435049434b524f57533030303101000000524f575301000000140b4d30303001a472680100\n",
+        "fault E511 BadRegs 1\n",
+        1,
+    ),
+    (
+        "eval --plain 9 --method \\M000 --args 41 --regs nofile @\n4453445430000000021f41435049434b524f57533030303101000000524f575301000000140b4d30303001a472680100\n",
+        "fault E523 File\n",
+        1,
+    ),
+    (
+        "eval --plain 9 --method \\M000 --args x --regs @ @\n23207265676973746572730a696f20363020313532370a696f2036300a\n4453445430000000021f41435049434b524f57533030303101000000524f575301000000140b4d30303001a472680100\n",
+        "fault E521 BadArgs\n",
+        1,
+    ),
+    (
+        "eval --plain 9 --method \\M000 --args 41 --regs @ --regs @ @\n696f20363020313532370a\n696f20363020313532370a\n4453445430000000021f41435049434b524f57533030303101000000524f575301000000140b4d30303001a472680100\n",
+        "fault E520 CommandLine\n",
+        2,
+    ),
+    (
+        "names --regs @ @\n696f20363020313532370a\n4453445430000000021f41435049434b524f57533030303101000000524f575301000000140b4d30303001a472680100\n",
         "fault E520 CommandLine\n",
         2,
     ),

@@ -2,7 +2,7 @@
 
 use super::calls::{LINE_1, Shelf};
 use super::{Narrow, TABLE_1, told};
-use acpi_listing::{Fault, run_program};
+use acpi_listing::{Fault, FaultCause, run_program};
 use std::alloc::{AllocError, Global};
 use std::fmt::Display;
 use std::io;
@@ -66,11 +66,12 @@ fn words_and_streams(rt: HostRuntime) -> Result<(), Fail> {
         assert_eq!(rt; answer.1, status);
     }
     let faults = [
-        (Fault::CommandLine, "fault E520 CommandLine\n", 2),
-        (Fault::NoMemory, "fault E524 NoMemory\n", 1),
+        (FaultCause::CommandLine, "fault E520 CommandLine\n", 2),
+        (FaultCause::NoMemory, "fault E524 NoMemory\n", 1),
     ];
-    for (fault, text, status) in faults {
-        let answer = ended(alloc, Err(fault), line.as_str(), 4096)?;
+    for (cause, text, status) in faults {
+        let words = Err(Fault::nowhere(cause));
+        let answer = ended(alloc, words, line.as_str(), 4096)?;
         assert_eq!(rt; answer.0.as_slice(), text.as_bytes());
         assert_eq!(rt; answer.1, status);
     }

@@ -1,7 +1,7 @@
 // What each kind of definition makes.
 
 use super::{dsdt_of, found};
-use crate::made::HOST;
+use acpi_samples::HOST;
 use aml_namespace::{
     AccessType, BufferField, BufferFieldSize, Content, DataName, Entry, Field, FieldRule, Link,
     Method, NamePlace, Namespace, Object, ObjectId, Reference, Region, Scope, Source, Through,

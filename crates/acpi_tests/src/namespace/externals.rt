@@ -1,7 +1,7 @@
 // Names that tables declare as others' methods, and names that are found once all tables are loaded.
 
 use super::{dsdt_of, ssdt_of};
-use crate::made::HOST;
+use acpi_samples::HOST;
 use aml_namespace::{NamePlace, Namespace, Object, ObjectId, Reference, Scope, Through};
 use aml_tree::TreeFault;
 use std::alloc::{AllocError, Global};

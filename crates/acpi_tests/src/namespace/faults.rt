@@ -1,7 +1,7 @@
 // The first fault of tables that cannot be loaded, with its place.
 
 use super::{dsdt_of, ssdt_of};
-use crate::made::{DSDT, HOST, changed};
+use acpi_samples::{DSDT, HOST, changed};
 use acpi_tables::TableCause;
 use aml_lex::LexCause;
 use aml_namespace::{LoadCause, LoadFault, LoadRefusal, Namespace};

@@ -1,7 +1,7 @@
 // What names name, and how many arguments they take.
 
 use super::{dsdt_of, found, ssdt_of};
-use crate::made::HOST;
+use acpi_samples::HOST;
 use aml_namespace::{Namespace, ObjectId, Scope};
 use aml_tree::{Op, Term, TreeFault};
 use std::alloc::{AllocError, Global};
@@ -56,6 +56,51 @@ fn look_ups(rt: HostRuntime) -> Result<(), Fail> {
     let table = dsdt_of(rt.alloc(), NAMES)?;
     let ns = Namespace::load(rt.alloc(), &[&table], HOST)?;
     for (scope, name, wanted) in LOOK_UPS {
+        let number = found(&ns, *scope, name).map(|id| id.0);
+        assert_eq!(rt; number, *wanted, "{scope:?} {name:?}");
+    }
+    Ok(())
+}
+
+/// Name (SAME, One), Device (AAA0) { Name (SAME, One), Device (BBB0) { Device (CCC0) {} } },
+/// Device (DDD0) { Name (SAME, One), Device (EEE0) {} }, Scope (AAA0.BBB0.CCC0) { Device (FFF0) {} },
+/// Scope (AAA0.BBB0) { Name (LATE, One) } and Name (LATE, One).
+const SAME_NAMES: &[u8] = b"\x08SAME\x01\
+    \x5b\x82\x19AAA0\x08SAME\x01\x5b\x82\x0cBBB0\x5b\x82\x05CCC0\
+    \x5b\x82\x12DDD0\x08SAME\x01\x5b\x82\x05EEE0\
+    \x10\x16\x2f\x03AAA0BBB0CCC0\x5b\x82\x05FFF0\
+    \x10\x10\x2eAAA0BBB0\x08LATE\x01\x08LATE\x01";
+
+const AAA0: Scope = Scope::At(ObjectId(10));
+
+const CCC0: Scope = Scope::At(ObjectId(13));
+
+const EEE0: Scope = Scope::At(ObjectId(16));
+
+const FFF0: Scope = Scope::At(ObjectId(17));
+
+/// The nearest of several paths that end alike, and of none.
+const NEAREST: &[(Scope, &[u8], Option<usize>)] = &[
+    (Scope::Root, b"SAME", Some(9)),
+    (AAA0, b"SAME", Some(11)),
+    (CCC0, b"SAME", Some(11)),
+    (FFF0, b"SAME", Some(11)),
+    (EEE0, b"SAME", Some(15)),
+    (FFF0, b"LATE", Some(18)),
+    (CCC0, b"LATE", Some(18)),
+    (AAA0, b"LATE", Some(19)),
+    (EEE0, b"LATE", Some(19)),
+    (FFF0, b"CCC0", Some(13)),
+    (FFF0, b"DDD0", Some(14)),
+    (FFF0, b"EEE0", None),
+    (FFF0, b"NONE", None),
+];
+
+#[test]
+fn nearest_of_several(rt: HostRuntime) -> Result<(), Fail> {
+    let table = dsdt_of(rt.alloc(), SAME_NAMES)?;
+    let ns = Namespace::load(rt.alloc(), &[&table], HOST)?;
+    for (scope, name, wanted) in NEAREST {
         let number = found(&ns, *scope, name).map(|id| id.0);
         assert_eq!(rt; number, *wanted, "{scope:?} {name:?}");
     }

@@ -1,7 +1,7 @@
 // Scopes that are opened again, aliases, and a second table.
 
 use super::{dsdt_of, found, has_path, ssdt_of};
-use crate::made::HOST;
+use acpi_samples::HOST;
 use aml_lex::NameSeg;
 use aml_namespace::{Entry, Method, Namespace, ObjectId, Scope};
 use aml_tree::Span;

@@ -1,7 +1,7 @@
 // What definitions make within a device and its kin.
 
 use super::{dsdt_of, found};
-use crate::made::HOST;
+use acpi_samples::HOST;
 use aml_namespace::{
     AccessType, BufferField, BufferFieldSize, Content, DataName, Field, FieldRule, NamePlace,
     Namespace, Object, ObjectId, Reference, Region, Scope, Source, Through, UpdateRule,

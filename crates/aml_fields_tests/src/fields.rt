@@ -3,12 +3,13 @@
 use OtherBits::{Ones, Preserve, Zeros};
 use UnitWidth::{Byte, DWord, QWord, Word};
 use aml_fields::{
-    BitBytes, read_buffer_field, read_count, read_integer_field, read_wide_field, sound,
-    write_buffer_field, write_count, write_field,
+    BitBytes, read_buffer_field, read_count, read_field, read_integer_field, read_wide_field,
+    sound, write_buffer_field, write_count, write_field,
 };
-use aml_namespace::NoMemory;
+use aml_kinds::Value;
+use aml_namespace::{NoMemory, Width};
 use aml_regions::{
-    Event, FieldLayout, OtherBits, RegionField, RegisterFile, RegistersFault, UnitWidth,
+    AnyField, Event, FieldLayout, OtherBits, RegionField, RegisterFile, RegistersFault, UnitWidth,
 };
 use std::alloc::{AllocError, Global};
 use std::test::Fail;
@@ -21,18 +22,13 @@ const REGISTERS: &str =
 const VALUE: u64 = 0xfedc_ba98_7654_3211;
 
 /// A field in these registers.
-fn field(width: UnitWidth, others: OtherBits, at: u64, bits: u64) -> RegionField {
-    RegionField {
+fn field(layout: FieldLayout) -> AnyField {
+    AnyField::Plain(RegionField {
         space: 0,
         place: 0x10,
         length: 280,
-        layout: FieldLayout {
-            at,
-            bits,
-            width,
-            others,
-        },
-    }
+        layout,
+    })
 }
 
 fn registers(alloc: Global) -> Result<RegisterFile, NoMemory> {
@@ -58,17 +54,18 @@ fn given(alloc: Global, count: usize) -> Result<Vec<u8>, AllocError> {
 fn written(
     alloc: Global,
     file: &mut RegisterFile,
-    field: &RegionField,
+    layout: FieldLayout,
     limit: u64,
 ) -> Result<bool, Fail> {
-    if !sound(field) {
+    let field = field(layout);
+    if !sound(&field) {
         return Ok(false);
     }
-    if field.layout.bits <= 64 {
-        return Ok(write_field(file, field, &VALUE, limit)?);
+    if layout.bits <= 64 {
+        return Ok(write_field(file, &field, &VALUE, limit)?);
     }
-    let bytes = given(alloc, (field.layout.bits as usize).div_ceil(8))?;
-    Ok(write_field(file, field, &BitBytes { bytes: &bytes }, limit)?)
+    let bytes = given(alloc, (layout.bits as usize).div_ceil(8))?;
+    Ok(write_field(file, &field, &BitBytes { bytes: &bytes }, limit)?)
 }
 
 /// The sum of n times the n-th byte.
@@ -83,16 +80,21 @@ fn sum_of(bytes: &[u8]) -> u64 {
 }
 
 /// What a read of a field gives: its integer, or the sum of its bytes.
-fn read(alloc: Global, file: &mut RegisterFile, field: &RegionField) -> Result<u64, Fail> {
-    if !sound(field) {
+fn read(alloc: Global, file: &mut RegisterFile, layout: FieldLayout) -> Result<u64, Fail> {
+    let field = field(layout);
+    if !sound(&field) {
         return Ok(0);
     }
-    if field.layout.bits <= 64 {
-        return Ok(read_integer_field(file, field, 1000)?.unwrap_or(0));
+    let bits = field.layout().bits;
+    if bits <= 64 {
+        return Ok(read_integer_field(file, &field, 1000)?.unwrap_or(0));
     }
-    let size = (field.layout.bits + 7) / 8;
+    if bits > 2048 {
+        return Ok(0);
+    }
+    let size = (bits + 7) / 8;
     let mut bytes = vec![in alloc; 0u8; size as usize]?;
-    read_wide_field(file, field, &mut bytes, 1000)?;
+    read_wide_field(file, &field, &mut bytes, 1000)?;
     Ok(sum_of(&bytes))
 }
 
@@ -123,28 +125,28 @@ fn events_text(alloc: Global, events: &[Event]) -> Result<String, Fail> {
 }
 
 /// What is told of a row.
-fn told(alloc: Global, field: RegionField, limit: u64) -> Result<String, Fail> {
+fn told(alloc: Global, layout: FieldLayout, limit: u64) -> Result<String, Fail> {
     let mut file = registers(alloc)?;
-    let wrote = match written(alloc, &mut file, &field, limit)? {
+    let wrote = match written(alloc, &mut file, layout, limit)? {
         true => "all",
         false => "part",
     };
     let events = events_text(alloc, file.events())?;
-    let value = read(alloc, &mut file, &field)?;
-    let (reads, writes) = counts(&field);
+    let value = read(alloc, &mut file, layout)?;
+    let (reads, writes) = counts(&field(layout));
     Ok(format!(in alloc; "{wrote} {events}{value:x} {reads} {writes}")?)
 }
 
 /// The events of a read and of a write.
-fn counts(field: &RegionField) -> (u64, u64) {
+fn counts(field: &AnyField) -> (u64, u64) {
     if !sound(field) {
         return (0, 0);
     }
-    (read_count(&field.layout), write_count(&field.layout))
+    (read_count(field), write_count(field))
 }
 
 /// Units' width, the other bits, first bit, bits, limit, and what is told.
-const ROWS: [(UnitWidth, OtherBits, u64, u64, u64, &str); 15] = [
+const ROWS: [(UnitWidth, OtherBits, u64, u64, u64, &str); 17] = [
     (
         Byte,
         Preserve,
@@ -223,12 +225,34 @@ const ROWS: [(UnitWidth, OtherBits, u64, u64, u64, &str); 15] = [
         1000,
         "all 5 d1195692d815518b 3f9b 3 5",
     ),
+    (
+        Byte,
+        Preserve,
+        5,
+        2048,
+        1000,
+        "all 259 40f0ed 406580 257 259",
+    ),
+    (
+        QWord,
+        Ones,
+        70,
+        2048,
+        1000,
+        "all 33 269339a894052d6f 406580 33 33",
+    ),
 ];
 
 #[test]
 fn fields_are_written_and_read(rt: HostRuntime) -> Result<(), Fail> {
     for (width, others, at, bits, limit, wanted) in ROWS {
-        let found = told(rt.alloc(), field(width, others, at, bits), limit)?;
+        let layout = FieldLayout {
+            at,
+            bits,
+            width,
+            others,
+        };
+        let found = told(rt.alloc(), layout, limit)?;
         assert_eq!(rt; found.as_str(), wanted);
     }
     Ok(())
@@ -262,7 +286,7 @@ const SOUND: [(u64, u64, u64, u64, u8, bool); 14] = [
 #[test]
 fn soundness_is_told(rt: HostRuntime) -> Result<(), Fail> {
     for (at, bits, place, length, space, wanted) in SOUND {
-        let asked = RegionField {
+        let asked = AnyField::Plain(RegionField {
             space,
             place,
             length,
@@ -272,7 +296,7 @@ fn soundness_is_told(rt: HostRuntime) -> Result<(), Fail> {
                 width: UnitWidth::DWord,
                 others: OtherBits::Preserve,
             },
-        };
+        });
         assert_eq!(rt; sound(&asked), wanted);
     }
     Ok(())
@@ -285,5 +309,69 @@ fn buffers_have_fields(rt: HostRuntime) -> Result<(), Fail> {
     assert_eq!(rt; read_buffer_field(&buffer, 7, 18), 0x1feb5);
     write_buffer_field(&mut buffer, 6, 12, &0x10f3u64);
     assert_eq!(rt; buffer, [0xe5u8, 0x3c, 0xfc, 0x00]);
+    Ok(())
+}
+
+/// A field's number of bits, how wide integers are, and its value at the first bit: an integer, or bytes
+/// behind a `b`. Worked out by hand from the first registers.
+const VALUES: [(u64, Width, &str); 8] = [
+    (1, Width::Bits32, "1"),
+    (32, Width::Bits32, "f8af661d"),
+    (33, Width::Bits32, "b 1d 66 af f8 1"),
+    (33, Width::Bits64, "1f8af661d"),
+    (64, Width::Bits32, "b 1d 66 af f8 41 8a d3 1c"),
+    (64, Width::Bits64, "1cd38a41f8af661d"),
+    (65, Width::Bits64, "b 1d 66 af f8 41 8a d3 1c 1"),
+    (72, Width::Bits64, "b 1d 66 af f8 41 8a d3 1c 65"),
+];
+
+/// A value as a row has it.
+fn value_text(alloc: Global, value: Option<Value>) -> Result<String, AllocError> {
+    match value {
+        Some(Value::Int(number)) => format!(in alloc; "{number:x}"),
+        Some(Value::Buf(bytes)) => {
+            let mut text = String::from_str(alloc, "b")?;
+            for byte in bytes.as_slice() {
+                text.push_str(format!(in alloc; " {byte:x}")?.as_str())?;
+            }
+            Ok(text)
+        }
+        _ => String::from_str(alloc, "none"),
+    }
+}
+
+/// The value of a field of so many bits.
+fn value_of(alloc: Global, bits: u64, width: Width) -> Result<Option<Value>, NoMemory> {
+    let mut file = registers(alloc)?;
+    let asked = field(FieldLayout {
+        at: 0,
+        bits,
+        width: UnitWidth::Byte,
+        others: OtherBits::Preserve,
+    });
+    if !sound(&asked) {
+        return Ok(None);
+    }
+    read_field(alloc, &mut file, &asked, width, 1000)
+}
+
+/// What is told of it.
+fn value_told(alloc: Global, bits: u64, width: Width) -> Result<String, NoMemory> {
+    let value = value_of(alloc, bits, width)?;
+    match value_text(alloc, value) {
+        Ok(text) => Ok(text),
+        Err(_) => Err(NoMemory),
+    }
+}
+
+#[test]
+fn rows_of_field_values(rt: HostRuntime) -> Result<(), Fail> {
+    for (bits, width, wanted) in VALUES {
+        let text = match value_told(rt.alloc(), bits, width) {
+            Ok(text) => text,
+            Err(NoMemory) => value_told(rt.alloc(), bits, width)?,
+        };
+        assert_eq!(rt; text.as_str(), wanted);
+    }
     Ok(())
 }

@@ -1,9 +1,8 @@
 // Which statements are evaluated, and how often: ACPI 6.5, 19.6, If, Else, While, Break, Continue.
 
 use crate::operators::outcome_of_body;
-use crate::plain::error;
+use crate::plain::{Ended, error};
 use aml_meaning::AmlCause;
-use aml_plain::Outcome;
 use std::test::Fail;
 
 /// If (Arg0) { Return (One) } Else { Return (Zero) }
@@ -23,25 +22,25 @@ const BREAK_IN_IF: &[u8] = b"\xa0\x03\x01\xa5";
 
 #[test]
 fn branches(rt: HostRuntime) -> Result<(), Fail> {
-    let rows: &[(&[u8], &[u64], u64, Outcome)] = &[
-        (IF_ELSE, &[5], 4, Outcome::Done(Some(1))),
-        (IF_ELSE, &[5], 3, Outcome::OutOfSteps),
-        (IF_ELSE, &[u64::MAX], 4, Outcome::Done(Some(1))),
-        (IF_ELSE, &[0], 4, Outcome::Done(Some(0))),
-        (IF_ELSE, &[0], 3, Outcome::OutOfSteps),
+    let rows: &[(&[u8], &[u64], u64, Ended)] = &[
+        (IF_ELSE, &[5], 4, Ended::Done(Some(1))),
+        (IF_ELSE, &[5], 3, Ended::OutOfSteps),
+        (IF_ELSE, &[u64::MAX], 4, Ended::Done(Some(1))),
+        (IF_ELSE, &[0], 4, Ended::Done(Some(0))),
+        (IF_ELSE, &[0], 3, Ended::OutOfSteps),
         (IF_ELSE, &[], 2, error(AmlCause::Unset, 45)),
-        (IF, &[1], 4, Outcome::Done(Some(1))),
-        (IF, &[0], 2, Outcome::Done(None)),
-        (IF, &[0], 1, Outcome::OutOfSteps),
-        (BLOCKS, &[1], 8, Outcome::Done(Some(1))),
-        (BLOCKS, &[1], 7, Outcome::OutOfSteps),
-        (BLOCKS, &[0], 8, Outcome::Done(Some(u64::MAX))),
-        (BLOCKS, &[0], 7, Outcome::OutOfSteps),
+        (IF, &[1], 4, Ended::Done(Some(1))),
+        (IF, &[0], 2, Ended::Done(None)),
+        (IF, &[0], 1, Ended::OutOfSteps),
+        (BLOCKS, &[1], 8, Ended::Done(Some(1))),
+        (BLOCKS, &[1], 7, Ended::OutOfSteps),
+        (BLOCKS, &[0], 8, Ended::Done(Some(u64::MAX))),
+        (BLOCKS, &[0], 7, Ended::OutOfSteps),
         (IF_UNSET, &[], 2, error(AmlCause::Unset, 45)),
         (BREAK_IN_IF, &[], 3, error(AmlCause::Outside, 46)),
         (b"\xa5", &[], 1, error(AmlCause::Outside, 43)),
         (b"\x9f", &[], 1, error(AmlCause::Outside, 43)),
-        (b"\x9f", &[], 0, Outcome::OutOfSteps),
+        (b"\x9f", &[], 0, Ended::OutOfSteps),
     ];
     for (body, arguments, fuel, outcome) in rows {
         let found = outcome_of_body(&rt, rt.alloc(), 2, body, arguments, *fuel)?;
@@ -82,26 +81,26 @@ const UNSET_WITHIN: &[u8] = b"\xa2\x05\x01\x70\x60\x61";
 
 #[test]
 fn loops(rt: HostRuntime) -> Result<(), Fail> {
-    let rows: &[(&[u8], &[u64], u64, Outcome)] = &[
-        (COUNT, &[0], 9, Outcome::Done(Some(0))),
-        (COUNT, &[0], 8, Outcome::OutOfSteps),
-        (COUNT, &[3], 27, Outcome::Done(Some(3))),
-        (COUNT, &[3], 26, Outcome::OutOfSteps),
-        (COUNT, &[1000], 6009, Outcome::Done(Some(1000))),
-        (BREAK, &[], 3, Outcome::Done(None)),
-        (BREAK, &[], 2, Outcome::OutOfSteps),
-        (ENDLESS, &[], 1000, Outcome::OutOfSteps),
-        (CONTINUE, &[2], 14, Outcome::Done(Some(0))),
-        (CONTINUE, &[2], 13, Outcome::OutOfSteps),
-        (CONTINUE, &[0], 4, Outcome::Done(Some(0))),
-        (RETURN, &[7], 6, Outcome::Done(Some(7))),
-        (RETURN, &[7], 5, Outcome::OutOfSteps),
-        (INNER_BREAK, &[2], 18, Outcome::Done(Some(0))),
-        (INNER_BREAK, &[2], 17, Outcome::OutOfSteps),
-        (BREAK_FROM_IF, &[1], 17, Outcome::Done(Some(0))),
-        (BREAK_FROM_IF, &[1], 16, Outcome::OutOfSteps),
+    let rows: &[(&[u8], &[u64], u64, Ended)] = &[
+        (COUNT, &[0], 9, Ended::Done(Some(0))),
+        (COUNT, &[0], 8, Ended::OutOfSteps),
+        (COUNT, &[3], 27, Ended::Done(Some(3))),
+        (COUNT, &[3], 26, Ended::OutOfSteps),
+        (COUNT, &[1000], 6009, Ended::Done(Some(1000))),
+        (BREAK, &[], 3, Ended::Done(None)),
+        (BREAK, &[], 2, Ended::OutOfSteps),
+        (ENDLESS, &[], 1000, Ended::OutOfSteps),
+        (CONTINUE, &[2], 14, Ended::Done(Some(0))),
+        (CONTINUE, &[2], 13, Ended::OutOfSteps),
+        (CONTINUE, &[0], 4, Ended::Done(Some(0))),
+        (RETURN, &[7], 6, Ended::Done(Some(7))),
+        (RETURN, &[7], 5, Ended::OutOfSteps),
+        (INNER_BREAK, &[2], 18, Ended::Done(Some(0))),
+        (INNER_BREAK, &[2], 17, Ended::OutOfSteps),
+        (BREAK_FROM_IF, &[1], 17, Ended::Done(Some(0))),
+        (BREAK_FROM_IF, &[1], 16, Ended::OutOfSteps),
         (BREAK_TWICE, &[], 4, error(AmlCause::Outside, 47)),
-        (BREAK_TWICE, &[], 3, Outcome::OutOfSteps),
+        (BREAK_TWICE, &[], 3, Ended::OutOfSteps),
         (WHILE_UNSET, &[], 2, error(AmlCause::Unset, 45)),
         (UNSET_WITHIN, &[], 4, error(AmlCause::Unset, 47)),
     ];

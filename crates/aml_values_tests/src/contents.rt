@@ -1,7 +1,10 @@
 // What data names hold, each row written by hand from the definitions.
 
+mod first;
+mod often;
+
 use crate::kinds::{Sample, value_of};
-use crate::made::{HOST, table_of};
+use acpi_samples::{HOST, table_of};
 use aml_kinds::{Names, Value, is_same_value};
 use aml_namespace::{Namespace, NoMemory, ObjectId, Width};
 use std::alloc::{AllocError, Global};

@@ -1,0 +1,290 @@
+// Tables whose Externals stand within an `If (Zero)`, as compilers write them.
+
+use acpi_samples::{HOST, changed, table_of};
+use aml_lex::NameSeg;
+use aml_namespace::{LoadFault, Namespace, ObjectId, is_dead_if, open_dead_externals};
+use aml_tree::TreeFault;
+use std::alloc::{AllocError, Global};
+use std::test::Fail;
+
+/// What stands behind the header, and the places of the Ifs that are opened.
+const ROWS: &[(&[u8], &[usize])] = &[
+    // One External.
+    (b"\xa0\x09\x00\x15FOO1\x08\x01", &[36]),
+    // Externals of other names and types: FOO1, \_SB_.DEV0, ^UP01.
+    (
+        b"\xa0\x1e\x00\x15FOO1\x08\x01\x15\x5c\x2e_SB_DEV0\x06\x00\x15^UP01\x00\x00",
+        &[36],
+    ),
+    // Two Ifs, and a Name between.
+    (
+        b"\xa0\x09\x00\x15FOO1\x08\x01\x08INT0\x0a\x07\xa0\x09\x00\x15FOO1\x08\x01",
+        &[36, 53],
+    ),
+    // In a Device, and behind it.
+    (
+        b"\x5b\x82\x1dDEV0\x08INT0\x0a\x07\xa0\x09\x00\x15FOO1\x08\x01\x08INT1\x0a\x07\
+        \xa0\x09\x00\x15FOO1\x08\x01",
+        &[50, 67],
+    ),
+    // In a Device in a Scope.
+    (
+        b"\x10\x14\x5c\x00\x5b\x82\x0fDEV0\xa0\x09\x00\x15FOO1\x08\x01",
+        &[47],
+    ),
+    // In a Processor.
+    (
+        b"\x5b\x83\x15CPU0\x01\x10\x08\x00\x00\x06\xa0\x09\x00\x15FOO1\x08\x01",
+        &[49],
+    ),
+    // In a PowerResource.
+    (
+        b"\x5b\x84\x12PWR0\x01\x02\x00\xa0\x09\x00\x15FOO1\x08\x01",
+        &[46],
+    ),
+    // In a ThermalZone.
+    (b"\x5b\x85\x0fTHZ0\xa0\x09\x00\x15FOO1\x08\x01", &[43]),
+    // Behind an Alias, a Mutex, an Event, an External and CreateField forms.
+    (
+        b"\x06_SB_ALS0\x5b\x01MUT0\x00\x5b\x02EVT0\x15FOO1\x08\x01\x8cBUF0\x0a\x02BYT0\
+        \x5b\x13BUF0\x00\x0a\x04BIT0\xa0\x09\x00\x15FOO1\x08\x01",
+        &[89],
+    ),
+    // Behind a region whose place is a sum, one of a table, and a field list.
+    (
+        b"\x5b\x80REG0\x00\x72FOO1\x0a\x10\x00\x0b\x00\x01\x5b\x88REG1\x0dABCD\x00\x0d\x00\
+        \x0d\x00\x5b\x81\x0bREG0\x01FLD0\x08\xa0\x09\x00\x15FOO1\x08\x01",
+        &[83],
+    ),
+    // Behind a region whose place is a Load in 62 Nots, as deep as a term may be: its target is none.
+    (
+        b"\x5b\x80REG0\x00\
+        \x80\x80\x80\x80\x80\x80\x80\x80\x80\x80\x80\x80\x80\x80\x80\x80\x80\x80\x80\x80\
+        \x80\x80\x80\x80\x80\x80\x80\x80\x80\x80\x80\x80\x80\x80\x80\x80\x80\x80\x80\x80\
+        \x80\x80\x80\x80\x80\x80\x80\x80\x80\x80\x80\x80\x80\x80\x80\x80\x80\x80\x80\x80\
+        \x80\x80\
+        \x5b\x20FOO1\x00\
+        \x00\x00\x00\x00\x00\x00\x00\x00\x00\x00\x00\x00\x00\x00\x00\x00\x00\x00\x00\x00\
+        \x00\x00\x00\x00\x00\x00\x00\x00\x00\x00\x00\x00\x00\x00\x00\x00\x00\x00\x00\x00\
+        \x00\x00\x00\x00\x00\x00\x00\x00\x00\x00\x00\x00\x00\x00\x00\x00\x00\x00\x00\x00\
+        \x00\x00\
+        \x00\xa0\x09\x00\x15FOO1\x08\x01",
+        &[175],
+    ),
+    // Behind a string, a buffer and a package, in which opcodes of an If are data.
+    (
+        b"\x08STR0\x0dab\x21\x00\x08BUF0\x11\x06\x0a\x03\xa0\x09\x00\x08PKG0\x12\x07\x02\
+        \x00INT0\xa0\x09\x00\x15FOO1\x08\x01",
+        &[71],
+    ),
+    // Twenty Externals, of 0 to 7 arguments: a package length of two bytes.
+    (
+        b"\xa0\x4f\x08\x00\x15FO00\x08\x00\x15FO01\x08\x01\x15FO02\x08\x02\x15FO03\x08\x03\
+        \x15FO04\x08\x04\x15FO05\x08\x05\x15FO06\x08\x06\x15FO07\x08\x07\x15FO08\x08\x00\
+        \x15FO09\x08\x01\x15FO10\x08\x02\x15FO11\x08\x03\x15FO12\x08\x04\x15FO13\x08\x05\
+        \x15FO14\x08\x06\x15FO15\x08\x07\x15FO16\x08\x00\x15FO17\x08\x01\x15FO18\x08\x02\
+        \x15FO19\x08\x03",
+        &[36],
+    ),
+    // A Name behind the External.
+    (b"\xa0\x10\x00\x15FOO1\x08\x01\x08INT0\x0a\x07", &[]),
+    // A Name before it.
+    (b"\xa0\x10\x00\x08INT0\x0a\x07\x15FOO1\x08\x01", &[]),
+    // An Else; another If behind it stays too, as what stands behind any statement.
+    (
+        b"\xa0\x09\x00\x15FOO1\x08\x01\xa1\x01\xa0\x09\x00\x15FOO1\x08\x01",
+        &[],
+    ),
+    // The test One.
+    (b"\xa0\x09\x01\x15FOO1\x08\x01", &[]),
+    // Zero in another spelling.
+    (b"\xa0\x0a\x0a\x00\x15FOO1\x08\x01", &[]),
+    // An If in an If.
+    (b"\xa0\x0c\x00\xa0\x09\x00\x15FOO1\x08\x01", &[]),
+    // No External.
+    (b"\xa0\x02\x00", &[]),
+    // A part of an External.
+    (b"\xa0\x08\x00\x15FOO1\x08", &[]),
+    // In a method, and another behind the method.
+    (
+        b"\x14\x10M000\x00\xa0\x09\x00\x15FOO1\x08\x01\xa0\x09\x00\x15FOO1\x08\x01",
+        &[53],
+    ),
+    // Behind a statement.
+    (b"\xa3\xa0\x09\x00\x15FOO1\x08\x01", &[]),
+    // Behind a byte that is no opcode.
+    (b"\x02\xa0\x09\x00\x15FOO1\x08\x01", &[]),
+    // In a Device behind a statement, and another behind the Device.
+    (
+        b"\x5b\x82\x10DEV0\xa3\xa0\x09\x00\x15FOO1\x08\x01\xa0\x09\x00\x15FOO1\x08\x01",
+        &[54],
+    ),
+    // Past the end of the Device in which it begins.
+    (b"\x5b\x82\x09DEV0\xa0\x09\x00\x15FOO1\x08\x01", &[]),
+];
+
+/// A DSDT with such a module, and what becomes of it: each of the places holds a Scope's opcode, and
+/// the checksum fits.
+fn made(alloc: Global, module: &[u8], places: &[usize]) -> Result<(Vec<u8>, Vec<u8>), AllocError> {
+    let table = table_of(alloc, *b"DSDT", 2, module)?;
+    let mut wanted = module.to_vec(alloc)?;
+    for place in places {
+        if let Some(byte) = wanted.get_mut(place.saturating_sub(36)) {
+            *byte = 0x10;
+        }
+    }
+    Ok((table, table_of(alloc, *b"DSDT", 2, &wanted)?))
+}
+
+/// The places of a table at which an If stands that is opened.
+fn dead_places(alloc: Global, table: &[u8]) -> Result<Vec<usize>, AllocError> {
+    let mut places = Vec::new(alloc);
+    for at in 0..table.len() {
+        if is_dead_if(table, at) {
+            places.push(at)?;
+        }
+    }
+    Ok(places)
+}
+
+#[test]
+fn dead_ifs(rt: HostRuntime) -> Result<(), Fail> {
+    for (module, places) in ROWS {
+        let (mut table, wanted) = made(rt.alloc(), module, places)?;
+        let told = dead_places(rt.alloc(), &table)?;
+        assert_eq!(rt; told.as_slice(), *places, "{module:?}");
+        let count = open_dead_externals(&mut table);
+        assert_eq!(rt;
+            (count, table.as_slice()),
+            (places.len(), wanted.as_slice()),
+            "{module:?}"
+        );
+        let again = open_dead_externals(&mut table);
+        assert_eq!(rt;
+            (again, table.as_slice()),
+            (0, wanted.as_slice()),
+            "{module:?}"
+        );
+    }
+    Ok(())
+}
+
+/// What `iasl` makes of a DSDT and of three SSDTs whose methods call one another (`bench/calls.asl`).
+/// Each begins with an If of three bytes and its Externals.
+const CALLS: &[&[u8]] = &[
+    b"\xa0\x14\x00\x15\x5c\x2f\x03_SB_PCI0SUM2\x08\x02\x104_SB_\x5b\x82\x2dPCI0\x08_HID\x0cA\
+        \xd0\x0a\x08\x14\x0bINC1\x01\xa4rh\x01\x00\x14\x11USE2\x01\xa4SUM2hINC1h",
+    b"\xa07\x00\x15\x5c\x2e_SB_PCI0\x06\x00\x15\x5c\x2f\x03_SB_PCI0INC1\x08\x01\x15\x5c\x2f\
+        \x04_SB_PCI0DEV1ALL7\x08\x07\x10O\x04\x5c\x2e_SB_PCI0\x14\x13SUM2\x02\xa4rINC1hINC1i\
+        \x00\x5b\x82\x2dDEV0\x14\x27TOP0\x00\xa4\x5c\x2f\x04_SB_PCI0DEV1ALL7\x01\x0a\x02\x0a\
+        \x03\x0a\x04\x0a\x05\x0a\x06\x0a\x07",
+    b"\xa07\x00\x15\x5c\x2e_SB_PCI0\x06\x00\x15\x5c\x2f\x03_SB_PCI0SUM2\x08\x02\x15\x5c\x2f\
+        \x04_SB_PCI0DEV0TOP0\x08\x00\x10M\x04\x5c\x2e_SB_PCI0\x5b\x82\x3fDEV1\x14\x12ALL7\x07\
+        \xa4SUM2hSUM2in\x14\x0b_STA\x00\xa4TOP0\x14\x1aTOP0\x00\xa4\x5c\x2f\x04_SB_PCI0DEV0TOP\
+        0",
+    b"\xa0\x3c\x00\x15\x5c\x2f\x03_SB_PCI0DEV1\x06\x00\x15\x5c\x2f\x04_SB_PCI0DEV1ALL7\x08\
+        \x07\x15\x5c\x2f\x03_SB_PCI0USE2\x08\x01\x10\x3b\x5c\x2f\x03_SB_PCI0DEV1\x08INT3\x0a\
+        \x03\x14\x23LAST\x00\xa4ALL7USE2INT3\x0a\x02\x0a\x03\x0a\x04\x0a\x05\x0a\x06USE2\x0a\
+        \x07",
+];
+
+/// The table with this number, opened; or with the Externals of its If alone in the If's place.
+fn caller(alloc: Global, number: usize, is_plain: bool) -> Result<Vec<u8>, AllocError> {
+    let signature = if number == 0 { *b"DSDT" } else { *b"SSDT" };
+    let module = CALLS.get(number).copied().unwrap_or(b"");
+    if is_plain {
+        return table_of(alloc, signature, 2, module.get(3..).unwrap_or(b""));
+    }
+    let mut table = table_of(alloc, signature, 2, module)?;
+    if open_dead_externals(&mut table) != 1 {
+        table.clear();
+    }
+    Ok(table)
+}
+
+/// How many arguments each method takes, and how many statements its body has.
+fn bodies(alloc: Global, ns: &Namespace<'_>) -> Result<Vec<(u8, usize)>, TreeFault> {
+    let mut bodies = Vec::new(alloc);
+    for id in ns.methods() {
+        if let Some(method) = ns.method(*id) {
+            bodies.push((method.args, ns.tree(alloc, *id)?.len()))?;
+        }
+    }
+    Ok(bodies)
+}
+
+/// The paths of all tables with their objects' numbers, and the methods' bodies.
+fn loaded(
+    alloc: Global,
+    is_plain: bool,
+) -> Result<(Vec<(Vec<NameSeg>, ObjectId)>, Vec<(u8, usize)>), Fail> {
+    let dsdt = caller(alloc, 0, is_plain)?;
+    let first = caller(alloc, 1, is_plain)?;
+    let second = caller(alloc, 2, is_plain)?;
+    let third = caller(alloc, 3, is_plain)?;
+    let ns = Namespace::load(alloc, &[&dsdt, &first, &second, &third], HOST)?;
+    Ok((ns.paths(alloc)?, bodies(alloc, &ns)?))
+}
+
+/// Tables that are opened make the same as those whose Externals stand in no If, and each call in them
+/// takes as many arguments: a body has one statement.
+#[test]
+fn opened_tables(rt: HostRuntime) -> Result<(), Fail> {
+    let (paths, of_opened) = loaded(rt.alloc(), false)?;
+    let (wanted, of_plain) = loaded(rt.alloc(), true)?;
+    assert_eq!(rt; (paths.len(), paths), (22, wanted));
+    assert_eq!(rt; of_opened.as_slice(), of_plain.as_slice());
+    let taken: &[(u8, usize)] = &[
+        (1, 1),
+        (1, 1),
+        (2, 1),
+        (0, 1),
+        (7, 1),
+        (0, 1),
+        (0, 1),
+        (0, 1),
+    ];
+    assert_eq!(rt; of_opened.as_slice(), taken);
+    Ok(())
+}
+
+/// A table of which a byte of the header is another stays as it is, and no If of it is told.
+#[test]
+fn faulty_headers(rt: HostRuntime) -> Result<(), Fail> {
+    for place in [4, 9, 20] {
+        let table = table_of(rt.alloc(), *b"SSDT", 2, b"\xa0\x09\x00\x15FOO1\x08\x01")?;
+        let faulty = changed(rt.alloc(), &table, &[(place, 0x99)])?;
+        let mut other = faulty.to_vec(rt.alloc())?;
+        assert_eq!(rt;
+            (is_dead_if(&table, 36), is_dead_if(&faulty, 36)),
+            (true, false)
+        );
+        assert_eq!(rt;
+            (open_dead_externals(&mut other), other.as_slice()),
+            (0, faulty.as_slice())
+        );
+    }
+    Ok(())
+}
+
+/// An opened If is no fault any more, and the first that is left is told at its own place.
+#[test]
+fn first_fault_left(rt: HostRuntime) -> Result<(), Fail> {
+    let module = b"\xa0\x09\x00\x15FOO1\x08\x01\xa0\x09\x01\x15FOO1\x08\x01";
+    let mut table = table_of(rt.alloc(), *b"DSDT", 2, module)?;
+    let before = fault_place(rt.alloc(), &table);
+    let count = open_dead_externals(&mut table);
+    assert_eq!(rt;
+        (before, count, fault_place(rt.alloc(), &table)),
+        (36, 1, 46)
+    );
+    Ok(())
+}
+
+/// The place of a load's fault, or 0.
+fn fault_place(alloc: Global, table: &[u8]) -> usize {
+    match Namespace::load(alloc, &[table], HOST) {
+        Err(LoadFault::Refused(fault)) => fault.at,
+        _ => 0,
+    }
+}

@@ -1,0 +1,13 @@
+//! Tests of regions and of fields.
+#![tactic(auto)]
+
+#[cfg(test)]
+mod field_sums;
+#[cfg(test)]
+mod fields;
+#[cfg(test)]
+mod reached_fields;
+#[cfg(test)]
+mod refusals;
+#[cfg(test)]
+mod regions;

@@ -1,0 +1,17 @@
+//! Tests of the meaning and of plain evaluation.
+#![tactic(auto)]
+
+#[cfg(test)]
+mod calls;
+#[cfg(test)]
+mod events;
+#[cfg(test)]
+mod flow;
+#[cfg(test)]
+mod meaning;
+#[cfg(test)]
+mod operators;
+#[cfg(test)]
+mod plain;
+#[cfg(test)]
+mod values;
