@@ -1,3 +1,2 @@
 pub mod Laws
-pub mod Reached
 pub mod Told

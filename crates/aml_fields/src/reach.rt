@@ -1,10 +1,10 @@
 // The fields of a namespace (ACPI 6.5, 19.6, Field, IndexField and BankField).
 
-ghost use Rattle.std.specs.Prelude.{◌≡◌, ◌%◌, ◌^◌, IfNone, IfSome};
+ghost use Rattle.std.specs.Prelude.{◌≡◌, ◌%◌, ◌^◌, IfSome};
 ghost use Rattle.aml_namespace.specs.Shows.{shown};
 ghost use Rattle.aml_namespace.specs.Widths.{bits_of};
 ghost use Rattle.aml_regions.specs.Fields.{IsSoundField};
-ghost use Rattle.aml_fields.specs.Reached.{IsReached, field_layout, in_region, named, other_bits, plain_field, reached, reached_through, unit_width};
+ghost use Rattle.aml_meaning.specs.Reached.{field_layout, in_region, is_sound_field, named, other_bits, plain_field, reached, reached_through, unit_width, usable};
 
 use crate::soundness::{is_known, sound};
 use aml_namespace::{AccessType, Field, Namespace, Object, Reference, Through, UpdateRule, Width};
@@ -18,9 +18,8 @@ use aml_regions::{
 /// is computed; its index, data or bank field is no field of a region of which all this holds; or it
 /// is not sound.
 pub fn field_in(namespace: &Namespace<'_>, field: &Field) -> Option<AnyField>
-    ensures found { IfSome result (IsReached (shown namespace.now) field.now) }
-    ensures none { IfNone result
-        ((any : _) → IsReached (shown namespace.now) field.now any → ⊥) }
+    ensures is { result ≡ usable (shown namespace.now) field.now }
+    ensures sound { IfSome result IsSoundField }
 {
     let any = reached_in(namespace, field)?;
     if sound(&any) { Some(any) } else { None }

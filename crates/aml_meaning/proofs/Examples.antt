@@ -14,7 +14,7 @@ use Rattle.aml_meaning.specs.Meaning.{Setting}
 use Rattle.aml_meaning.specs.Whole.{before, evaluated}
 
 abbrev of_width : ℕ → Setting
-of_width bits = record { table = 0; width = bits; link = λ at. Missing; object = λ id. None; call = λ p k values. stop_with (error cause.Outside p.table p.at) }
+of_width bits = record { table = 0; width = bits; link = λ at. Missing; field = λ k. None; object = λ id. None; call = λ p k values. stop_with (error cause.Outside p.table p.at) }
 
 -- so many steps, and nothing else
 abbrev steps : ℕ → State

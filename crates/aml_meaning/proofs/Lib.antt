@@ -6,3 +6,4 @@ pub mod Examples
 pub mod UnitReads
 pub mod Bits
 pub mod Told
+pub mod Reached

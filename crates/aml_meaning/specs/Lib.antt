@@ -10,9 +10,11 @@ pub mod Literals
 pub mod Notices
 pub mod Actions
 pub mod Meaning
+pub mod Reached
 pub mod Within
 pub mod Methods
 pub mod Runs
 pub mod Whole
 pub mod Causes
 pub mod Fields
+pub mod FieldValues

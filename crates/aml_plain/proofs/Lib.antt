@@ -7,3 +7,4 @@ pub mod Ruled
 pub mod Turns
 pub mod Branches
 pub mod Around
+pub mod Stored

@@ -3,6 +3,7 @@
 
 mod body;
 mod eval;
+mod field;
 mod form;
 mod frame;
 mod halt;

@@ -1,19 +1,20 @@
 // Names and targets: what is read by a name alone, and what a store does.
 
-ghost use Rattle.std.specs.Prelude.{◌≡◌, ◌≤◌, List};
+ghost use Rattle.std.specs.Prelude.{◌≡◌, ◌≤◌};
 ghost use Rattle.aml_kinds.specs.Views as values;
 ghost use Rattle.aml_operators.specs.Tree.{view, views};
-ghost use Rattle.aml_regions.specs.declared.event.Event.{Event};
 ghost use Rattle.aml_meaning.specs.Meaning.{named, named_target, put, store, unwritable};
 ghost use Rattle.aml_meaning.specs.Runs.{Runs};
 ghost use Rattle.aml_plain.specs.Tells.{now, setting_of, told, value_of, went};
 
+use crate::field::{field_read, field_stored};
 use crate::halt::{Halt, Setting, fails};
 use crate::machine::Machine;
 use aml_kinds::{Value, copy};
 use aml_meaning::{Action, AmlCause, action_of};
 use aml_namespace::Link;
 use aml_operators::Term;
+use aml_regions::World;
 use std::alloc::Global;
 
 /// Why a name alone cannot be read or written.
@@ -28,27 +29,30 @@ fn unwritable(link: Link) -> AmlCause
 }
 
 /// What a name alone means where it is read.
-pub fn named(
+pub fn named<W: World>(
     alloc: Global,
     here: Setting<'_>,
     at: usize,
-    machine: &Machine,
+    machine: &mut Machine,
+    world: &mut W,
 ) -> Result<Option<Value>, Halt>
-    ensures { (around : _) (log : List Event) → let s = setting_of here.entry around in
+    ensures means { (around : _) → let s = setting_of here.entry around in
         Runs (told value_of result) (named s (s.link at) at)
-        (now machine.now log) (now machine.now log) }
+        (now machine.old (W.log world.old)) (now machine.new (W.log world.new)) }
+    ensures falls { machine.new.steps ≤ machine.old.steps }
 {
     match here.namespace.link(here.method, here.bytes, at) {
         Link::Data(id) => {
             let content = machine.content(alloc, here, at, id)?;
             Ok(Some(content))
         }
+        Link::Field(id) => field_read(alloc, here, at, id, machine, world),
         link => Err(fails(unwritable(link), here, at)),
     }
 }
 
 /// What a target does.
-fn put(
+fn put<W: World>(
     alloc: Global,
     here: Setting<'_>,
     action: Action,
@@ -56,10 +60,11 @@ fn put(
     parts: &[Term],
     stored: &Value,
     machine: &mut Machine,
+    world: &mut W,
 ) -> Result<(), Halt>
-    ensures means { (around : _) (log : List Event) → Runs (went result)
+    ensures means { (around : _) → Runs (went result)
         (put (setting_of here.entry around) action at (views parts.now) (values.view stored.now))
-        (now machine.old log) (now machine.new log) }
+        (now machine.old (W.log world.old)) (now machine.new (W.log world.new)) }
     ensures falls { machine.new.steps ≤ machine.old.steps }
 {
     match action {
@@ -77,7 +82,7 @@ fn put(
             Ok(())
         }
         Action::Debug => machine.take_step(),
-        Action::Name => put_name(alloc, here, at, stored, machine),
+        Action::Name => put_name(alloc, here, at, stored, machine, world),
         _ => {
             machine.take_step()?;
             Err(fails(AmlCause::Outside, here, at))
@@ -86,16 +91,17 @@ fn put(
 }
 
 /// Stores into what a name means.
-fn put_name(
+fn put_name<W: World>(
     alloc: Global,
     here: Setting<'_>,
     at: usize,
     stored: &Value,
     machine: &mut Machine,
+    world: &mut W,
 ) -> Result<(), Halt>
-    ensures means { (around : _) (log : List Event) → let s = setting_of here.entry around in
+    ensures means { (around : _) → let s = setting_of here.entry around in
         Runs (went result) (named_target s (s.link at) at (values.view stored.now))
-        (now machine.old log) (now machine.new log) }
+        (now machine.old (W.log world.old)) (now machine.new (W.log world.new)) }
     ensures falls { machine.new.steps ≤ machine.old.steps }
 {
     match here.namespace.link(here.method, here.bytes, at) {
@@ -103,6 +109,7 @@ fn put_name(
             let copied = copy(alloc, stored)?;
             machine.set_name(here, at, id, copied)
         }
+        Link::Field(id) => field_stored(here, at, id, stored, machine, world),
         link => {
             machine.take_step()?;
             Err(fails(unwritable(link), here, at))
@@ -111,16 +118,17 @@ fn put_name(
 }
 
 /// Stores into a target.
-pub fn store(
+pub fn store<W: World>(
     alloc: Global,
     here: Setting<'_>,
     target: &Term,
     stored: &Value,
     machine: &mut Machine,
+    world: &mut W,
 ) -> Result<(), Halt>
-    ensures means { (around : _) (log : List Event) → Runs (went result)
+    ensures means { (around : _) → Runs (went result)
         (store (setting_of here.entry around) (view target.now) (values.view stored.now))
-        (now machine.old log) (now machine.new log) }
+        (now machine.old (W.log world.old)) (now machine.new (W.log world.new)) }
     ensures falls { machine.new.steps ≤ machine.old.steps }
 {
     let action = action_of(target.op);
@@ -132,5 +140,6 @@ pub fn store(
         &target.parts,
         stored,
         machine,
+        world,
     )
 }

@@ -14,4 +14,6 @@ mod operators;
 #[cfg(test)]
 mod plain;
 #[cfg(test)]
+mod region_fields;
+#[cfg(test)]
 mod values;

@@ -19,7 +19,7 @@ use std::test::Fail;
 
 /// What is wanted of an evaluation.
 #[derive(Clone, Copy, Debug)]
-enum Wanted {
+pub(crate) enum Wanted {
     Nothing,
     Int(u64),
     Buf(&'static [u8]),
@@ -40,7 +40,7 @@ fn gives(value: &Value, wanted: Wanted) -> bool {
 }
 
 /// Whether an outcome is the wanted one.
-fn ends(outcome: &Outcome, wanted: Wanted) -> bool {
+pub(crate) fn ends(outcome: &Outcome, wanted: Wanted) -> bool {
     match (outcome, wanted) {
         (Outcome::Done(Some(value)), _) => gives(value, wanted),
         (Outcome::Done(None), Wanted::Nothing) => true,

@@ -5,19 +5,22 @@ use Rattle.aml_plain.specs.Tells.{setting_of}
 use Rattle.aml_plain.proofs.target.put_name.Goals as goal
 
 pub returns-in_err-copied-in-Data-clause-means : goal.returns-in_err-copied-in-Data-clause-means
-returns-in_err-copied-in-Data-clause-means c = λ around log.
+returns-in_err-copied-in-Data-clause-means g c = λ around.
     let p = err_from_is_err_and c.from_residual.result c.from_residual.ensures.1 in
     rw (p.1, p.2) (runs_no_memory _ _)
 
 pub returns-in_ok-copied-in-Data-clause-means : goal.returns-in_ok-copied-in-Data-clause-means
-returns-in_ok-copied-in-Data-clause-means c = λ around log.
-    rw (← c.in-Data.ensures, ← c.in_ok-copied-in-Data.ensures) (c.set_name.ensures.means log)
+returns-in_ok-copied-in-Data-clause-means g c = λ around.
+    rw (← c.in-Data.ensures, ← c.in_ok-copied-in-Data.ensures) (c.set_name.ensures.means _)
 
 pub returns-in_err-take_step-in_default-clause-means : goal.returns-in_err-take_step-in_default-clause-means
-returns-in_err-take_step-in_default-clause-means c = λ around log.
+returns-in_err-take_step-in_default-clause-means g c = λ around.
     let p = err_from_is_err_and c.from_residual-in_err-take_step-in_default.result c.from_residual-in_err-take_step-in_default.ensures.1 in
-    rw (← c.link.ensures, target_elsewhere (setting_of c.args.here around) _ _ _ c.in_default.not-Data, p.1, p.2) (runs_stop _ (c.in_err-take_step-in_default.ensures.means log))
+    rw (← c.link.ensures, target_elsewhere (setting_of c.args.here around) _ _ _ c.in_default.not-Data c.in_default.not-Field, p.1, p.2) (runs_stop _ (c.in_err-take_step-in_default.ensures.means _))
 
 pub returns-in_ok-take_step-in_default-clause-means : goal.returns-in_ok-take_step-in_default-clause-means
-returns-in_ok-take_step-in_default-clause-means c = λ around log.
-    rw (← c.link.ensures, target_elsewhere (setting_of c.args.here around) _ _ _ c.in_default.not-Data, ← c.unwritable.ensures, c.fails.ensures) (runs_then _ (c.in_ok-take_step-in_default.ensures.means log) (runs_stop_with _ _))
+returns-in_ok-take_step-in_default-clause-means g c = λ around.
+    rw (← c.link.ensures, target_elsewhere (setting_of c.args.here around) _ _ _ c.in_default.not-Data c.in_default.not-Field, ← c.unwritable.ensures, c.fails.ensures) (runs_then _ (c.in_ok-take_step-in_default.ensures.means _) (runs_stop_with _ _))
+
+pub returns-in-Field-clause-means : goal.returns-in-Field-clause-means
+returns-in-Field-clause-means g c = λ around. rw (← c.in-Field.ensures) (c.field_stored.ensures.means around)

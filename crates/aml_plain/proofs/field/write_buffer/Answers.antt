@@ -1,0 +1,12 @@
+use Rattle.aml_meaning.proofs.Runs.{runs_give, runs_stop, runs_stop_with, runs_then}
+use Rattle.aml_plain.proofs.Stored.{buffer_refused, buffer_taken}
+use Rattle.aml_plain.specs.Tells.{setting_of}
+use Rattle.aml_plain.proofs.field.write_buffer.Goals as goal
+
+pub returns-then-not-takes_buffer-clause-means : goal.returns-then-not-takes_buffer-clause-means
+returns-then-not-takes_buffer-clause-means g c = λ around.
+    rw (buffer_refused (setting_of c.args.here around) c.args.at c.args.field.now c.args.bytes.now (rw (← c.layout.ensures, ← c.takes_buffer.ensures) c.if-not-takes_buffer.true), c.fails.ensures) (runs_stop _ (runs_stop_with _ _))
+
+pub returns-clause-means : goal.returns-clause-means
+returns-clause-means g c = λ around.
+    rw (buffer_taken (setting_of c.args.here around) c.args.at c.args.field.now c.args.bytes.now (rw (← c.layout.ensures, ← c.takes_buffer.ensures) c.if-not-takes_buffer.false)) (runs_then _ (runs_give _ _) c.write_bits.ensures.means)
