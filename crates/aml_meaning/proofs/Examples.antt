@@ -1,20 +1,22 @@
 -- Bodies and what they come to, computed.
-use Rattle.std.proofs.Common.{◌≡◌, ℕ, ◌-◌, ◌^◌, [], ◌∷◌, Some, refl, None}
-use Rattle.aml_operators.specs.declared.op.Op.TheVariants.{Return, Add, Subtract, Arg0, One, NullName, Local0, Timer, Store, Invocation, NameString, While, Decrement, Break, If, Else, Sleep, Notify}
-use Rattle.aml_operators.specs.Tree.{Trees, Node, none, more}
+use Rattle.std.proofs.Common.{◌≡◌, ℕ, true, ◌+◌, ◌-◌, ◌^◌, [], ◌∷◌, Some, refl, None}
+use Rattle.std.specs.Prelude.{nat_le, if◌then◌else◌}
+use Rattle.aml_operators.specs.declared.op.Op.TheVariants.{Return, Add, Subtract, Arg0, One, NullName, Local0, Timer, Store, Invocation, NameString, While, Decrement, Break, If, Else, Sleep, Notify, Name}
+use Rattle.aml_operators.specs.Tree.{Tree, Trees, Node, none, more}
 use Rattle.aml_kinds.specs.Values.{Int}
-use Rattle.aml_namespace.specs.declared.link.Link.TheVariants.{Missing}
+use Rattle.aml_namespace.specs.declared.link.Link.TheVariants.{Missing, Own}
 use Rattle.aml_meaning.specs.declared.error.AmlCause.TheVariants as cause
 use Rattle.aml_meaning.specs.State.{State, Goes, Halts, Spent, error}
 use Rattle.aml_regions.specs.declared.event.Event.TheVariants.{Slept}
 use Rattle.aml_meaning.specs.Parts.{◌>>=◌, give, stop_with, tick, paid, get_local, get_arg, set_local, set_arg, make_event}
+use Rattle.aml_meaning.specs.Owns.{get_own, define_own}
 use Rattle.aml_meaning.specs.Loops.{loop, spent, turned}
 use Rattle.aml_meaning.specs.Calls.{framed}
 use Rattle.aml_meaning.specs.Meaning.{Setting}
 use Rattle.aml_meaning.specs.Whole.{before, evaluated}
 
 abbrev of_width : ℕ → Setting
-of_width bits = record { table = 0; width = bits; link = λ at. Missing; field = λ k. None; object = λ id. None; call = λ p k values. stop_with (error cause.Outside p.table p.at) }
+of_width bits = record { table = 0; width = bits; link = λ at. Missing; lone = λ at. true; field = λ k. None; object = λ id. None; call = λ p k values. stop_with (error cause.Outside p.table p.at) }
 
 -- so many steps, and nothing else
 abbrev steps : ℕ → State
@@ -165,3 +167,33 @@ no_notice = refl
 a_local_is_not_notified : evaluated (of_width 64) (more (Node Notify 0 3 (more (Node Local0 1 2 none) (more (Node One 2 3 none) none))) none) [] [] (steps 2) ≡ Halts (error cause.Kind 0 1) (steps 0)
 unfolding framed ◌>>=◌ give stop_with tick paid
 a_local_is_not_notified = refl
+
+-- a body whose first own name stands from this place on
+abbrev owning_from : ℕ → Setting
+owning_from from = record (of_width 64) { link = λ at. if nat_le from at then Own 0 else Missing }
+
+-- Name (OWN0, One)
+abbrev definition : ℕ → Tree
+definition at = Node Name at (at + 6) (more (Node NameString (at + 1) (at + 5) none) (more (Node One (at + 5) (at + 6) none) none))
+
+-- Name (OWN0, One), Return (OWN0)
+abbrev own_returned : Trees
+own_returned = more (definition 0) (more (Node Return 6 11 (more (Node Invocation 7 11 (more (Node NameString 7 11 none) none)) none)) none)
+
+an_own_name : evaluated (owning_from 6) own_returned [] [] (steps 4) ≡ Goes (Some (Int 1)) (steps 0)
+unfolding framed ◌>>=◌ give stop_with tick paid get_own define_own
+an_own_name = refl
+
+one_step_less_of_it : evaluated (owning_from 6) own_returned [] [] (steps 3) ≡ Spent (steps 0)
+unfolding framed ◌>>=◌ give stop_with tick paid get_own define_own
+one_step_less_of_it = refl
+
+-- the same segment twice
+made_once : evaluated (owning_from 6) (more (definition 0) (more (definition 6) none)) [] [] (steps 3) ≡ Halts (error cause.Outside 0 6) (steps 0)
+unfolding framed ◌>>=◌ give stop_with tick paid define_own
+made_once = refl
+
+-- If (One) {Name (OWN0, One)}
+made_in_no_block : evaluated (owning_from 9) (more (Node If 0 9 (more (Node One 2 3 none) (more (definition 3) none))) none) [] [] (steps 3) ≡ Halts (error cause.Outside 0 3) (steps 0)
+unfolding framed ◌>>=◌ give stop_with tick paid
+made_in_no_block = refl

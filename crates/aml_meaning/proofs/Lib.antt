@@ -7,3 +7,4 @@ pub mod UnitReads
 pub mod Bits
 pub mod Told
 pub mod Reached
+pub mod Owned

@@ -6,12 +6,13 @@ use Rattle.aml_regions.specs.declared.event.Event.{Event}
 use Rattle.aml_meaning.specs.State.{State, with_steps}
 use Rattle.aml_meaning.specs.Parts.{Stays}
 use Rattle.aml_meaning.specs.Calls.{framed}
-use Rattle.aml_meaning.specs.Meaning.{Setting, mean_all}
+use Rattle.aml_meaning.specs.Meaning.{Setting}
+use Rattle.aml_meaning.specs.Definitions.{mean_body}
 use Rattle.aml_meaning.specs.Whole.{evaluated, DoneIsStable, ErrorIsStable}
 
 -- whatever comes of a method with so many steps
 evaluated_stays : (here : Setting) (body : Trees) (values : List Value) (script : List Event) (s : State) (k : ℕ) → Stays k (evaluated here body values script s) (evaluated here body values script (with_steps s (s.steps + k)))
-evaluated_stays here body values script s k = (framed here.table values (mean_all here body)).stays script s k
+evaluated_stays here body values script s k = (framed here.table values (mean_body here body)).stays script s k
 
 pub done_stays : DoneIsStable
 done_stays here body values script s more value last e =

@@ -1,5 +1,6 @@
 pub mod State
 pub mod Parts
+pub mod Owns
 pub mod Loops
 pub mod Calls
 pub mod Rules
@@ -11,6 +12,7 @@ pub mod Notices
 pub mod Actions
 pub mod Meaning
 pub mod Reached
+pub mod Definitions
 pub mod Within
 pub mod Methods
 pub mod Runs

@@ -12,7 +12,8 @@ use Rattle.aml_meaning.specs.Rules.{transform}
 use Rattle.aml_meaning.specs.State.{State, Names, with_steps, entered, Error, Out, Goes, Halts, NoAnswer}
 use Rattle.aml_meaning.specs.Parts.{read_unit, with_event}
 use Rattle.aml_meaning.specs.Calls.{framed}
-use Rattle.aml_meaning.specs.Meaning.{Setting, mean_all}
+use Rattle.aml_meaning.specs.Meaning.{Setting}
+use Rattle.aml_meaning.specs.Definitions.{mean_body}
 
 -- before a method begins: what names hold, so many steps, and the events so far
 abbrev pub before : Names → ℕ → List Event → State
@@ -20,7 +21,7 @@ before names n log = record { frame = entered []; names = names; steps = n; log 
 
 -- a method's evaluation where its body stands, with its arguments, fed with a script of answers, from a state
 abbrev pub evaluated : Setting → Trees → List Value → List Event → State → Out (Option Value)
-evaluated here body values script s = (framed here.table values (mean_all here body)).run script s
+evaluated here body values script s = (framed here.table values (mean_body here body)).run script s
 
 -- what is done with n steps is done with more, and they are left over
 abbrev pub DoneIsStable : Type 0

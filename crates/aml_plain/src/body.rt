@@ -7,7 +7,7 @@ ghost use Rattle.aml_operators.specs.Shape.{AreShaped};
 ghost use Rattle.aml_operators.specs.Tree.{views};
 ghost use Rattle.aml_plain.specs.Tells.{EvaluatesBody, names_of, outcome_of, setting_of};
 
-use crate::eval::eval_all;
+use crate::eval::eval_body;
 use crate::frame::Frame;
 use crate::halt::{Halt, Setting};
 use crate::machine::Machine;
@@ -46,11 +46,11 @@ pub fn evaluate_body<W: World>(
         result (names_of names.new) (W.log world.new) }
 {
     let mut machine = Machine {
-        frame: Frame::new(arguments),
+        frame: Frame::new(alloc, arguments),
         names: mem::replace(names, Names::new(alloc)),
         steps: fuel,
     };
-    let ended = eval_all(alloc, here, body, &mut machine, world);
+    let ended = eval_body(alloc, here, body, &mut machine, world);
     *names = machine.names;
     outcome_of(here.table, ended)
 }

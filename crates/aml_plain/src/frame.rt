@@ -7,20 +7,22 @@ ghost use Rattle.aml_meaning.specs.Runs.{content};
 ghost use Rattle.aml_plain.specs.Tells.{IsOrNoMemory, frame_of, told, value_of};
 
 use crate::halt::{Halt, Setting, fails};
-use aml_kinds::{Value, copy};
+use aml_kinds::{Names, Value, copy};
 use aml_meaning::AmlCause;
 use std::alloc::Global;
 
-/// Locals and arguments, unset or with a value.
+/// Locals and arguments, unset or with a value, and the names that the method has made so far, by their
+/// numbers in order of definition.
 #[derive(Drop)]
 pub struct Frame {
     pub locals: [Option<Value>; 8],
     pub args: [Option<Value>; 7],
+    pub owns: Names,
 }
 
 impl Frame {
     /// A method's frame as it begins, with its arguments; those behind the seventh are not looked at.
-    pub fn new(arguments: Vec<Value>) -> Self
+    pub fn new(alloc: Global, arguments: Vec<Value>) -> Self
         ensures { frame_of result ≡ entered (map view arguments.items) }
     {
         let mut given = arguments.into_iter();
@@ -35,6 +37,7 @@ impl Frame {
                 given.next(),
                 given.next(),
             ],
+            owns: Names::new(alloc),
         }
     }
 }

@@ -2,13 +2,13 @@
 
 ghost use Rattle.std.specs.Prelude.{◌≡◌};
 ghost use Rattle.aml_meaning.specs.declared.error.AmlCause.TheVariants as cause;
-ghost use Rattle.aml_meaning.specs.Runs.{By};
+ghost use Rattle.aml_meaning.specs.Runs.{By, method_result};
 ghost use Rattle.aml_meaning.specs.State.{error};
-ghost use Rattle.aml_plain.specs.Tells.{halted};
+ghost use Rattle.aml_plain.specs.Tells.{halted, told, value_of, went};
 
 use aml_kinds::Value;
 use aml_meaning::{AmlCause, AmlError};
-use aml_namespace::{Namespace, NoMemory, ObjectId, Width};
+use aml_namespace::{Namespace, NoMemory, ObjectId, OwnNames, Width};
 use std::alloc::AllocFailed;
 
 /// Where a body stands.
@@ -24,6 +24,8 @@ pub struct Setting<'a> {
     pub method: ObjectId,
     /// The table's bytes up to the body's end, in which its names stand.
     pub bytes: &'a [u8],
+    /// The names that the body makes itself.
+    pub owns: &'a OwnNames,
     /// How many methods more may be active in it.
     pub depth: u8,
 }
@@ -70,4 +72,23 @@ pub fn fails(cause: AmlCause, here: Setting<'_>, at: usize) -> Halt
         at,
         cause,
     })
+}
+
+/// What a call makes of how the statements of a method of a table ended. A6 at a Break or Continue
+/// outside any While.
+pub fn leave(table: usize, ended: Result<(), Halt>) -> Result<Option<Value>, Halt>
+    ensures { told value_of result ≡ method_result table (went ended) }
+{
+    match ended {
+        Ok(()) => Ok(None),
+        Err(Halt::Returned(returned)) => Ok(Some(returned)),
+        Err(Halt::Broke(at) | Halt::Continued(at)) => Err(Halt::Error(AmlError {
+            table,
+            at,
+            cause: AmlCause::Outside,
+        })),
+        Err(Halt::NoMemory) => Err(Halt::NoMemory),
+        Err(Halt::OutOfSteps) => Err(Halt::OutOfSteps),
+        Err(Halt::Error(error)) => Err(Halt::Error(error)),
+    }
 }

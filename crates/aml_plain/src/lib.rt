@@ -13,6 +13,7 @@ mod machine;
 mod method;
 mod notice;
 mod operand;
+mod own;
 mod rules;
 mod target;
 

@@ -4,6 +4,8 @@ ghost use Rattle.std.specs.Prelude.{◌≡◌, ◌≤◌, suc, List, OnOk, Some}
 ghost use Rattle.aml_kinds.specs.Contents.{content_at};
 ghost use Rattle.aml_kinds.specs.Views.{view};
 ghost use Rattle.aml_regions.specs.declared.event.Event.{Event};
+ghost use Rattle.aml_namespace.specs.Widths.{bits_of};
+ghost use Rattle.aml_meaning.specs.Owns.{define_own, set_own};
 ghost use Rattle.aml_meaning.specs.Parts.{set_name, tick, with_arg, with_local};
 ghost use Rattle.aml_meaning.specs.Runs.{Runs, content};
 ghost use Rattle.aml_plain.specs.Tells.{IsOrNoMemory, is_package, now, told, went};
@@ -112,6 +114,76 @@ impl Machine {
         } else {
             Err(fails(AmlCause::Kind, here, at))
         }
+    }
+
+    /// What an own name holds, where it stands. A1 at the term's place where it holds nothing.
+    pub fn own_seen(&self, here: Setting<'_>, at: usize, number: usize) -> Result<&Value, Halt>
+        ensures { (log : List Event) → told (λ v. view v.now) result
+            ≡ content here.entry.table at
+            (Some (content_at (now self.now log).frame.owns.contents number)) }
+    {
+        match self.frame.owns.get(ObjectId(number)) {
+            Some(value) => Ok(value),
+            None => Err(fails(AmlCause::Unset, here, at)),
+        }
+    }
+
+    /// A copy of what an own name holds. A1 at the term's place where it holds nothing.
+    pub fn own_content(
+        &self,
+        alloc: Global,
+        here: Setting<'_>,
+        at: usize,
+        number: usize,
+    ) -> Result<Value, Halt>
+        ensures { (log : List Event) → IsOrNoMemory (told view result) (content here.entry.table at
+            (Some (content_at (now self.now log).frame.owns.contents number))) }
+    {
+        match self.frame.owns.get(ObjectId(number)) {
+            Some(value) => {
+                let copied = copy(alloc, value)?;
+                Ok(copied)
+            }
+            None => Err(fails(AmlCause::Unset, here, at)),
+        }
+    }
+
+    /// Makes an own name hold a value of its kind, with a step. A2 at the target's place for a package
+    /// and a value of another kind.
+    pub fn set_own(
+        &mut self,
+        here: Setting<'_>,
+        at: usize,
+        number: usize,
+        value: Value,
+    ) -> Result<(), Halt>
+        ensures means { (log : List Event) → Runs (went result)
+            (set_own here.entry.table at number (view value)) (now self.old log) (now self.new log) }
+        ensures falls { self.new.steps ≤ self.old.steps }
+    {
+        if self.steps == 0 {
+            return Err(Halt::OutOfSteps);
+        }
+        self.steps -= 1;
+        if is_package(&value) {
+            return Err(fails(AmlCause::Kind, here, at));
+        }
+        if self.frame.owns.set(ObjectId(number), value).is_ok() {
+            Ok(())
+        } else {
+            Err(fails(AmlCause::Kind, here, at))
+        }
+    }
+
+    /// Makes an own name more, which holds this value first.
+    pub fn define_own(&mut self, alloc: Global, here: Setting<'_>, value: Value) -> Result<(), Halt>
+        ensures means { (log : List Event) → Runs (went result)
+            (define_own (bits_of here.entry.width) (view value))
+            (now self.old log) (now self.new log) }
+        ensures steps { self.new.steps ≡ self.old.steps }
+    {
+        self.frame.owns.push(alloc, here.width, Some(value))?;
+        Ok(())
     }
 }
 

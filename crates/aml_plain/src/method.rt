@@ -14,7 +14,7 @@ ghost use Rattle.aml_plain.specs.Tells.{names_of};
 use crate::body::{Outcome, evaluate_body};
 use crate::halt::Setting;
 use aml_kinds::{Names, Value};
-use aml_namespace::{Namespace, NoMemory, ObjectId};
+use aml_namespace::{Namespace, NoMemory, ObjectId, OwnNames};
 use aml_regions::World;
 use aml_tree::{Term, TreeFault};
 use std::alloc::Global;
@@ -44,12 +44,15 @@ pub fn evaluate_terms<W: World>(
         (names_of names.old) (W.log world.old)
         result (names_of names.new) (W.log world.new) }
 {
+    let bytes = namespace.body_bytes(method);
+    let owns = OwnNames::of(alloc, bytes, body)?;
     let here = Setting {
         table: namespace.method(method).unwrap().table,
         width: namespace.width(),
         namespace,
         method,
-        bytes: namespace.body_bytes(method),
+        bytes,
+        owns: &owns,
         depth: MOST_WITHIN,
     };
     evaluate_body(alloc, here, body, arguments, names, world, fuel)

@@ -12,6 +12,7 @@ ghost use Rattle.aml_plain.specs.Tells.{itself, now, place_in, setting_of, told,
 
 use crate::halt::{Halt, Setting, fails};
 use crate::machine::Machine;
+use crate::own::link_of;
 use aml_meaning::{Action, AmlCause, Pause};
 use aml_namespace::{Link, Object, ObjectId};
 use aml_regions::World;
@@ -31,7 +32,7 @@ fn notified_name(here: Setting<'_>, at: usize) -> Result<Option<ObjectId>, Halt>
     ensures { (around : _) (s : _) → let inside = setting_of here.entry around in
         Runs (told itself result) (notified_name inside (inside.link at) at) s s }
 {
-    match here.namespace.link(here.method, here.bytes, at) {
+    match link_of(here, at) {
         Link::Missing => Err(fails(AmlCause::Missing, here, at)),
         Link::Object(id) => {
             if is_notifiable(here.namespace.object(id)) {

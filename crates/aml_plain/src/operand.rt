@@ -17,6 +17,7 @@ use crate::frame::{held, seen};
 use crate::halt::{Halt, Setting, fails};
 use crate::integer::{truth, wrapped};
 use crate::machine::Machine;
+use crate::own::link_of;
 use crate::rules::sized;
 use aml_kinds::Value;
 use aml_meaning::{Action, AmlCause, action_of};
@@ -74,7 +75,6 @@ fn sizeless(link: Link) -> AmlCause
 {
     match link {
         Link::Missing => AmlCause::Missing,
-        Link::Own(_) => AmlCause::Outside,
         _ => AmlCause::Kind,
     }
 }
@@ -85,8 +85,9 @@ fn named_seen<'a>(here: Setting<'_>, at: usize, machine: &'a Machine) -> Result<
         Runs (told (λ v. view v.now) result) (named_seen s (s.link at) at)
         (now machine.now log) (now machine.now log) }
 {
-    match here.namespace.link(here.method, here.bytes, at) {
+    match link_of(here, at) {
         Link::Data(id) => machine.seen(here, at, id),
+        Link::Own(number) => machine.own_seen(here, at, number),
         link => Err(fails(sizeless(link), here, at)),
     }
 }
@@ -164,7 +165,7 @@ fn asked_name(
 {
     match target {
         Action::NoTarget => {
-            let there = is_there(here.namespace.link(here.method, here.bytes, from));
+            let there = is_there(link_of(here, from));
             Ok(Some(Value::Int(truth(here.width, there))))
         }
         _ => Err(fails(AmlCause::Outside, here, at)),

@@ -3,13 +3,14 @@
 ghost use Rattle.std.specs.Prelude.{◌≡◌, ◌≤◌};
 ghost use Rattle.aml_kinds.specs.Views as values;
 ghost use Rattle.aml_operators.specs.Tree.{view, views};
-ghost use Rattle.aml_meaning.specs.Meaning.{named, named_target, put, store, unwritable};
+ghost use Rattle.aml_meaning.specs.Meaning.{named, named_target, put, store, unreadable, unwritable};
 ghost use Rattle.aml_meaning.specs.Runs.{Runs};
 ghost use Rattle.aml_plain.specs.Tells.{now, setting_of, told, value_of, went};
 
 use crate::field::{field_read, field_stored};
 use crate::halt::{Halt, Setting, fails};
 use crate::machine::Machine;
+use crate::own::link_of;
 use aml_kinds::{Value, copy};
 use aml_meaning::{Action, AmlCause, action_of};
 use aml_namespace::Link;
@@ -28,6 +29,17 @@ fn unwritable(link: Link) -> AmlCause
     }
 }
 
+/// Why what a name means has no value.
+pub fn unreadable(link: Link) -> AmlCause
+    ensures { result ≡ unreadable link }
+{
+    match link {
+        Link::Missing => AmlCause::Missing,
+        Link::Object(_) => AmlCause::Kind,
+        _ => AmlCause::Outside,
+    }
+}
+
 /// What a name alone means where it is read.
 pub fn named<W: World>(
     alloc: Global,
@@ -41,9 +53,13 @@ pub fn named<W: World>(
         (now machine.old (W.log world.old)) (now machine.new (W.log world.new)) }
     ensures falls { machine.new.steps ≤ machine.old.steps }
 {
-    match here.namespace.link(here.method, here.bytes, at) {
+    match link_of(here, at) {
         Link::Data(id) => {
             let content = machine.content(alloc, here, at, id)?;
+            Ok(Some(content))
+        }
+        Link::Own(number) => {
+            let content = machine.own_content(alloc, here, at, number)?;
             Ok(Some(content))
         }
         Link::Field(id) => field_read(alloc, here, at, id, machine, world),
@@ -104,10 +120,14 @@ fn put_name<W: World>(
         (now machine.old (W.log world.old)) (now machine.new (W.log world.new)) }
     ensures falls { machine.new.steps ≤ machine.old.steps }
 {
-    match here.namespace.link(here.method, here.bytes, at) {
+    match link_of(here, at) {
         Link::Data(id) => {
             let copied = copy(alloc, stored)?;
             machine.set_name(here, at, id, copied)
+        }
+        Link::Own(number) => {
+            let copied = copy(alloc, stored)?;
+            machine.set_own(here, at, number, copied)
         }
         Link::Field(id) => field_stored(here, at, id, stored, machine, world),
         link => {

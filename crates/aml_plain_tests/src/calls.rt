@@ -21,7 +21,7 @@ const METHODS: &[u8] = b"\x14\x0bNEXT\x01\xa4\x72\x68\x01\x00\x14\x09SETS\x00\x7
     \x14\x07STOP\x00\xa5\x14\x07BAD0\x00\xfe\x14\x07BAD1\x01\xfe\x14\x0bLOOP\x00\xa4LOOP";
 
 /// The outcome of a method of this body with no arguments, before other definitions.
-fn outcome_before(
+pub(crate) fn outcome_before(
     rt: &impl Abort,
     alloc: Global,
     body: &[u8],

@@ -12,6 +12,8 @@ mod meaning;
 #[cfg(test)]
 mod operators;
 #[cfg(test)]
+mod own_names;
+#[cfg(test)]
 mod plain;
 #[cfg(test)]
 mod region_fields;

@@ -108,10 +108,10 @@ fn outcome_before(
 }
 
 /// A body, its table's revision, steps, and what is wanted.
-type Row = (&'static [u8], u8, u64, Wanted);
+pub(crate) type Row = (&'static [u8], u8, u64, Wanted);
 
 /// Each row's outcome is the wanted one.
-fn each_ends(rt: &impl Abort, alloc: Global, rows: &[Row]) -> Result<(), LoadFault> {
+pub(crate) fn each_ends(rt: &impl Abort, alloc: Global, rows: &[Row]) -> Result<(), LoadFault> {
     for (body, revision, fuel, wanted) in rows {
         let found = outcome_before(rt, alloc, *revision, body, *fuel)?;
         assert!(rt;

@@ -4,7 +4,7 @@ use Rattle.aml_plain.specs.Tells.{setting_of}
 use Rattle.aml_plain.proofs.notice.notified_name.Goals as goal
 
 pub returns-in-Missing : goal.returns-in-Missing
-returns-in-Missing c = λ around s. rw (← c.link.ensures, c.in-Missing.is, c.fails.ensures) (runs_stop_with _ s)
+returns-in-Missing c = λ around s. rw (← c.link_of.ensures, c.in-Missing.is, c.fails.ensures) (runs_stop_with _ s)
 
 pub returns-then-is_notifiable : goal.returns-then-is_notifiable
 returns-then-is_notifiable c = λ around s.
@@ -16,4 +16,4 @@ returns-else-is_notifiable c = λ around s.
 
 pub returns-in_default : goal.returns-in_default
 returns-in_default c = λ around s.
-    rw (← c.link.ensures, not_notified (setting_of c.args.here around) _ _ c.in_default.not-Missing c.in_default.not-Object) (runs_give _ s)
+    rw (← c.link_of.ensures, not_notified (setting_of c.args.here around) _ _ c.in_default.not-Missing c.in_default.not-Object) (runs_give _ s)

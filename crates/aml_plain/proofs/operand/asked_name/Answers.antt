@@ -4,7 +4,7 @@ use Rattle.aml_plain.specs.Tells.{setting_of}
 use Rattle.aml_plain.proofs.operand.asked_name.Goals as goal
 
 pub returns-in-NoTarget : goal.returns-in-NoTarget
-returns-in-NoTarget c = λ around s. rw (c.in-NoTarget.is, c.truth.ensures, c.is_there-there.ensures, c.link.ensures) (runs_give _ _)
+returns-in-NoTarget c = λ around s. rw (c.in-NoTarget.is, c.truth.ensures, c.is_there-there.ensures, c.link_of.ensures) (runs_give _ _)
 
 pub returns-in_default : goal.returns-in_default
 returns-in_default c = λ around s.

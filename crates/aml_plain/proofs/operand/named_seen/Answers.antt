@@ -1,4 +1,5 @@
 use Rattle.aml_meaning.proofs.Runs.{runs_get_name, runs_stop_with}
+use Rattle.aml_meaning.proofs.Owned.{runs_get_own}
 use Rattle.aml_plain.proofs.Forms.{seen_elsewhere}
 use Rattle.aml_plain.proofs.Ruled.{runs_as}
 use Rattle.aml_plain.specs.Tells.{now, setting_of}
@@ -8,6 +9,10 @@ pub returns-in-Data : goal.returns-in-Data
 returns-in-Data c = λ around log.
     rw (← c.in-Data.ensures) (runs_as (c.seen.ensures log) (runs_get_name _ _ _ (now c.args.machine.now log)))
 
+pub returns-in-Own : goal.returns-in-Own
+returns-in-Own c = λ around log.
+    rw (← c.in-Own.ensures) (runs_as (c.own_seen.ensures log) (runs_get_own _ _ _ (now c.args.machine.now log)))
+
 pub returns-in_default : goal.returns-in_default
 returns-in_default c = λ around log.
-    rw (← c.link.ensures, seen_elsewhere (setting_of c.args.here around) _ _ c.in_default.not-Data, ← c.sizeless.ensures, c.fails.ensures) (runs_stop_with _ _)
+    rw (← c.link_of.ensures, seen_elsewhere (setting_of c.args.here around) _ _ c.in_default.not-Data c.in_default.not-Own, ← c.sizeless.ensures, c.fails.ensures) (runs_stop_with _ _)

@@ -13,14 +13,23 @@ pub returns-in_ok-copied-in-Data-clause-means : goal.returns-in_ok-copied-in-Dat
 returns-in_ok-copied-in-Data-clause-means g c = λ around.
     rw (← c.in-Data.ensures, ← c.in_ok-copied-in-Data.ensures) (c.set_name.ensures.means _)
 
+pub returns-in_err-copied-in-Own-clause-means : goal.returns-in_err-copied-in-Own-clause-means
+returns-in_err-copied-in-Own-clause-means g c = λ around.
+    let p = err_from_is_err_and c.from_residual-in_err-copied-in-Own.result c.from_residual-in_err-copied-in-Own.ensures.1 in
+    rw (p.1, p.2) (runs_no_memory _ _)
+
+pub returns-in_ok-copied-in-Own-clause-means : goal.returns-in_ok-copied-in-Own-clause-means
+returns-in_ok-copied-in-Own-clause-means g c = λ around.
+    rw (← c.in-Own.ensures, ← c.in_ok-copied-in-Own.ensures) (c.set_own.ensures.means _)
+
 pub returns-in_err-take_step-in_default-clause-means : goal.returns-in_err-take_step-in_default-clause-means
 returns-in_err-take_step-in_default-clause-means g c = λ around.
     let p = err_from_is_err_and c.from_residual-in_err-take_step-in_default.result c.from_residual-in_err-take_step-in_default.ensures.1 in
-    rw (← c.link.ensures, target_elsewhere (setting_of c.args.here around) _ _ _ c.in_default.not-Data c.in_default.not-Field, p.1, p.2) (runs_stop _ (c.in_err-take_step-in_default.ensures.means _))
+    rw (← c.link_of.ensures, target_elsewhere (setting_of c.args.here around) _ _ _ c.in_default.not-Data c.in_default.not-Own c.in_default.not-Field, p.1, p.2) (runs_stop _ (c.in_err-take_step-in_default.ensures.means _))
 
 pub returns-in_ok-take_step-in_default-clause-means : goal.returns-in_ok-take_step-in_default-clause-means
 returns-in_ok-take_step-in_default-clause-means g c = λ around.
-    rw (← c.link.ensures, target_elsewhere (setting_of c.args.here around) _ _ _ c.in_default.not-Data c.in_default.not-Field, ← c.unwritable.ensures, c.fails.ensures) (runs_then _ (c.in_ok-take_step-in_default.ensures.means _) (runs_stop_with _ _))
+    rw (← c.link_of.ensures, target_elsewhere (setting_of c.args.here around) _ _ _ c.in_default.not-Data c.in_default.not-Own c.in_default.not-Field, ← c.unwritable.ensures, c.fails.ensures) (runs_then _ (c.in_ok-take_step-in_default.ensures.means _) (runs_stop_with _ _))
 
 pub returns-in-Field-clause-means : goal.returns-in-Field-clause-means
 returns-in-Field-clause-means g c = λ around. rw (← c.in-Field.ensures) (c.field_stored.ensures.means around)

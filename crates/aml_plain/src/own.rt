@@ -1,0 +1,61 @@
+// What names mean in a method's body, and which of them it makes itself.
+
+ghost use Rattle.std.specs.Prelude.{◌≡◌};
+ghost use Rattle.std.specs.Option.{option_map};
+ghost use Rattle.aml_lex.specs.Names.{name_of};
+ghost use Rattle.aml_lex.specs.Standing.{name_there};
+ghost use Rattle.aml_meaning.specs.Definitions.{is_own, makes_own};
+ghost use Rattle.aml_meaning.specs.Methods.{is_lone};
+ghost use Rattle.aml_plain.specs.Tells.{link_in, setting_of};
+
+use crate::halt::Setting;
+use aml_lex::{NameRef, name_string};
+use aml_namespace::Link;
+
+/// What the name at a place means.
+pub fn link_of(here: Setting<'_>, at: usize) -> Link
+    ensures { result ≡ link_in here.entry at }
+{
+    here.namespace
+        .link_with_owns(here.method, here.bytes, here.owns, at)
+}
+
+/// Whether what a name means is an own name.
+fn is_own(link: Link) -> bool
+    ensures { result ≡ is_own link }
+{
+    match link {
+        Link::Own(_) => true,
+        _ => false,
+    }
+}
+
+/// The name string that stands at a place, where one does.
+fn name_at(bytes: &[u8], at: usize) -> Option<NameRef<'_>>
+    ensures { option_map name_of result ≡ name_there bytes.now at }
+{
+    if at > bytes.len() {
+        return None;
+    }
+    match name_string(bytes, at) {
+        Ok((name, _)) => Some(name),
+        Err(_) => None,
+    }
+}
+
+/// Whether the name at a place of some bytes is one segment without prefix.
+fn is_lone(bytes: &[u8], at: usize) -> bool
+    ensures { result ≡ is_lone bytes.now at }
+{
+    match name_at(bytes, at) {
+        Some(name) => name.lone_segment().is_some(),
+        None => false,
+    }
+}
+
+/// Whether a definition makes an own name, by the place of its name.
+pub fn makes_own(here: Setting<'_>, at: usize) -> bool
+    ensures { (around : _) → result ≡ makes_own (setting_of here.entry around) at }
+{
+    is_lone(here.bytes, at) && !is_own(link_of(here, at))
+}
