@@ -1,4 +1,5 @@
 pub mod BelongLaws
+pub mod BodyData
 pub mod ContentLaws
 pub mod Elements
 pub mod FirstData

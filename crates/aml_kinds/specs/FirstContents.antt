@@ -1,9 +1,9 @@
 -- What data names hold first (ACPI 6.5, 19.6, Name, Buffer and Package).
-use Rattle.std.specs.Prelude.{◌-◌, ◌%◌, ◌^◌, ◌++◌, ◌&&◌, ℕ, zero, suc, List, [], map, length, take, replicate, nat_le, Option, Some, None, Result, Ok, Err, if◌then◌else◌}
+use Rattle.std.specs.Prelude.{◌-◌, ◌%◌, ◌^◌, ◌++◌, ◌&&◌, ℕ, zero, suc, List, [], map, length, take, replicate, nat_le, Option, Some, None, unwrap_or, Result, Ok, Err, if◌then◌else◌}
 use Rattle.aml_lex.specs.Standing.{bytes_between}
 use Rattle.aml_operators.specs.declared.op.Op.{Op}
 use Rattle.aml_operators.specs.declared.op.Op.TheVariants as op
-use Rattle.aml_operators.specs.Shape.{operator_of}
+use Rattle.aml_operators.specs.Literal.{literal_in}
 use Rattle.aml_operators.specs.Tree.{Tree, Trees, Node, none, more, stop_of}
 use Rattle.aml_tree.specs.declared.body.Span.{Span}
 use Rattle.aml_tree.specs.declared.fault.Refusal.{Refusal}
@@ -21,7 +21,7 @@ use Rattle.aml_namespace.specs.declared.width.Width.{Width}
 use Rattle.aml_namespace.specs.Bodies.{bytes_of}
 use Rattle.aml_namespace.specs.Entries.{own_object}
 use Rattle.aml_namespace.specs.Load.{Shown}
-use Rattle.aml_namespace.specs.Made.{at_of, content_of, literal}
+use Rattle.aml_namespace.specs.Made.{at_of, content_in}
 use Rattle.aml_namespace.specs.Paths.{Path}
 use Rattle.aml_namespace.specs.Settled.{named_at}
 use Rattle.aml_namespace.specs.Widths.{bits_of}
@@ -64,10 +64,14 @@ text_in bytes none = []
 text_in bytes (more text rest) = bytes_between bytes (at_of text) (stop_of text - 1)
 
 -- the bytes of a buffer or of a string
-abbrev pub bytes_in : List ℕ → Tree → List ℕ
-bytes_in bytes (Node op.Buffer at stop parts) = initialiser_in bytes parts
-bytes_in bytes (Node op.String at stop parts) = text_in bytes parts
-bytes_in bytes t = []
+abbrev pub bytes_in : List ℕ → Op → Trees → List ℕ
+bytes_in bytes op.Buffer parts = initialiser_in bytes parts
+bytes_in bytes op.String parts = text_in bytes parts
+bytes_in bytes o parts = []
+
+-- the number of an integer literal, and 0 of any other term
+abbrev pub number_of : Op → Trees → ℕ
+number_of o parts = unwrap_or (literal_in o parts) 0
 
 -- an element is a name, with what it names, or a value
 abbrev pub element_by : Op → Option ObjectId → Value → Element
@@ -81,16 +85,16 @@ module _ (ns : Shown) (table : ℕ) (scope : Scope) where
   named at = named_at ns.tables ns.entries (record { table = table; at = at; scope = scope })
 
   -- the value of a term of which it is told what it is, made of its number, its bytes or these elements
-  abbrev pub value_with : Content → Tree → Elements → Value
-  value_with told t es = value_told ns.width told (literal t) (bytes_in (bytes_of ns.tables table) t) es
+  abbrev pub value_with : Content → Op → Trees → Elements → Value
+  value_with told o parts es = value_told ns.width told (number_of o parts) (bytes_in (bytes_of ns.tables table) o parts) es
 
   -- the element that a term is, a package having these elements
-  abbrev pub element_with : Tree → Elements → Element
-  element_with t es = element_by (operator_of t) (named (at_of t)) (value_with (content_of t) t es)
+  abbrev pub element_with : Op → ℕ → Trees → Elements → Element
+  element_with o at parts es = element_by o (named at) (value_with (content_in o parts) o parts es)
 
   abbrev mutual
     pub element_in : Tree → Element
-    element_in (Node o at stop parts) = element_with (Node o at stop parts) (elements_behind parts)
+    element_in (Node o at stop parts) = element_with o at parts (elements_behind parts)
 
     pub elements_in : Trees → Elements
     elements_in none = value.none
@@ -101,9 +105,12 @@ module _ (ns : Shown) (table : ℕ) (scope : Scope) where
     elements_behind none = value.none
     elements_behind (more size ts) = elements_in ts
 
-  -- the value of a term of which it is told what it is
+  -- the value of a term of which it is told what it is, by its operator and its parts
+  abbrev pub value_of : Content → Op → Trees → Value
+  value_of told o parts = value_with told o parts (elements_behind parts)
+
   abbrev pub value_in : Content → Tree → Value
-  value_in told (Node o at stop parts) = value_with told (Node o at stop parts) (elements_behind parts)
+  value_in told (Node o at stop parts) = value_of told o parts
 
 -- a term that was read, else Zero
 abbrev pub term_or_zero : Result Tree Refusal → Tree

@@ -1,20 +1,20 @@
-// What the data of a Name holds, by its term (ACPI 6.5, 19.6, Name, Buffer and Package).
+// What data holds, by its term (ACPI 6.5, 19.6, Name, Buffer and Package).
 
 ghost use Rattle.std.specs.Prelude.{◌≡◌, ◌≤◌, ◌-◌, ◌++◌, IfOk, drop, length, map, replicate, take};
 ghost use Rattle.aml_lex.specs.Standing.{bytes_between};
 ghost use Rattle.aml_operators.specs.Tree.{view, views};
 ghost use Rattle.aml_namespace.specs.Shows.{shown};
-ghost use Rattle.aml_kinds.specs.FirstContents.{bytes_in, counted, elements_behind, elements_in, element_in, filled, first_bytes, initialiser_in, named, text_in, value_in, value_told};
+ghost use Rattle.aml_kinds.specs.FirstContents.{bytes_in, counted, elements_behind, elements_in, element_in, filled, first_bytes, initialiser_in, named, number_of, text_in, value_in, value_of, value_told};
 ghost use Rattle.aml_kinds.specs.Values.{Pkg, Unset, none};
 ghost use Rattle.aml_kinds.specs.Views as seen;
 
 use crate::bytes::Bytes;
 use crate::first_kinds::modulo;
 use crate::package::Package;
-use crate::told::{content_of, literal};
+use crate::told::content_in;
 use crate::value::{Element, Value};
 use aml_namespace::{Content, NamePlace, Namespace, ObjectId, Scope, Width};
-use aml_operators::{Op, Term};
+use aml_operators::{Op, Term, literal_in};
 use std::alloc::{AllocError, Global};
 
 /// Where data stands.
@@ -65,15 +65,21 @@ fn text_in<'a>(bytes: &'a [u8], parts: &[Term]) -> &'a [u8]
 }
 
 /// The bytes of a buffer's initialiser, and the characters of a string.
-#[tactic(auto, using(aml_operators::proofs::Views::view_out))]
-fn bytes_in<'a>(bytes: &'a [u8], term: &Term) -> &'a [u8]
-    ensures { result.now ≡ bytes_in bytes.now (view term.now) }
+fn bytes_in<'a>(bytes: &'a [u8], op: Op, parts: &[Term]) -> &'a [u8]
+    ensures { result.now ≡ bytes_in bytes.now op (views parts.now) }
 {
-    match term.op {
-        Op::Buffer => initialiser_in(bytes, &term.parts),
-        Op::String => text_in(bytes, &term.parts),
+    match op {
+        Op::Buffer => initialiser_in(bytes, parts),
+        Op::String => text_in(bytes, parts),
         _ => &[],
     }
+}
+
+/// The number of an integer literal, and 0 of any other term.
+fn number_of(op: Op, parts: &[Term]) -> u64
+    ensures { result ≡ number_of op (views parts.now) }
+{
+    literal_in(op, parts).unwrap_or(0)
 }
 
 /// So many bytes: the first of these, and zeros behind them.
@@ -129,7 +135,6 @@ pub(crate) fn plain_value(
 }
 
 /// The value of a term of which it is told what it is.
-#[cycle(first_data)]
 #[tactic(auto, using(aml_operators::proofs::Views::view_out))]
 pub(crate) fn value_in(
     alloc: Global,
@@ -141,13 +146,29 @@ pub(crate) fn value_in(
     ensures { IfOk result (λ v. seen.view v ≡
         value_in (shown namespace.now) site.table site.scope told (view term.now)) }
 {
-    let bytes = bytes_in(namespace.table_bytes(site.table), term);
+    value_of(alloc, namespace, site, told, term.op, &term.parts)
+}
+
+/// The same, by the term's operator and its parts.
+#[cycle(first_data)]
+pub(crate) fn value_of(
+    alloc: Global,
+    namespace: &Namespace<'_>,
+    site: Site,
+    told: Content,
+    op: Op,
+    parts: &[Term],
+) -> Result<Value, AllocError>
+    ensures { IfOk result (λ v. seen.view v ≡
+        value_of (shown namespace.now) site.table site.scope told op (views parts.now)) }
+{
+    let bytes = bytes_in(namespace.table_bytes(site.table), op, parts);
     match told {
-        Content::Integer => Ok(Value::Int(modulo(namespace.width(), literal(term)))),
+        Content::Integer => Ok(Value::Int(modulo(namespace.width(), number_of(op, parts)))),
         Content::Buffer(size) => Ok(Value::Buf(filled(alloc, size, bytes)?)),
         Content::String(size) => Ok(Value::Str(filled(alloc, size, bytes)?)),
         Content::Package(size) => {
-            package_of(elements_behind(alloc, namespace, site, size, &term.parts)?)
+            package_of(elements_behind(alloc, namespace, site, size, parts)?)
         }
     }
 }
@@ -206,7 +227,8 @@ fn element_in(
     match term.op {
         Op::NameString => Ok(Element::Name(named(namespace, site, term.at))),
         _ => {
-            let value = value_in(alloc, namespace, site, content_of(term), term)?;
+            let told = content_in(term.op, &term.parts);
+            let value = value_of(alloc, namespace, site, told, term.op, &term.parts)?;
             Ok(Element::Value(value))
         }
     }

@@ -1,6 +1,7 @@
 //! Values that evaluation moves, and the kinds by which they are judged (ACPI 6.5, 19.3.5).
 #![tactic(auto)]
 
+mod bodies;
 mod bytes;
 mod copies;
 mod first_contents;
@@ -20,6 +21,7 @@ mod shape;
 mod told;
 mod value;
 
+pub use bodies::{body_data, computed_size};
 pub use bytes::Bytes;
 pub use copies::copy;
 pub use fitting::fits;

@@ -3,13 +3,13 @@
 
 ghost use Rattle.std.specs.Prelude.{◌≡◌};
 ghost use Rattle.aml_operators.specs.Tree.{view, views};
-ghost use Rattle.aml_namespace.specs.Made.{buffer_content, content_of, literal, number_in, package_content, size_in, sized_package_content, string_content};
+ghost use Rattle.aml_namespace.specs.Made.{buffer_content, content_in, literal, number_in, package_content, size_in, sized_package_content, string_content};
 
 use aml_namespace::Content;
 use aml_operators::{Op, Term, literal_of};
 
 /// An integer literal, which a module's sizes and counts are.
-pub(crate) fn literal(term: &Term) -> u64
+fn literal(term: &Term) -> u64
     ensures { result ≡ literal (view term.now) }
 {
     literal_of(term).unwrap_or(0)
@@ -75,16 +75,15 @@ fn sized_package_content(parts: &[Term]) -> Content
     }
 }
 
-/// What a term of a package is.
-#[tactic(auto, using(aml_operators::proofs::Views::view_out))]
-pub(crate) fn content_of(term: &Term) -> Content
-    ensures { result ≡ content_of (view term.now) }
+/// What a term of data is, by its operator and its parts.
+pub(crate) fn content_in(op: Op, parts: &[Term]) -> Content
+    ensures { result ≡ content_in op (views parts.now) }
 {
-    match term.op {
-        Op::Buffer => buffer_content(&term.parts),
-        Op::String => string_content(&term.parts),
-        Op::Package => package_content(&term.parts),
-        Op::VarPackage => sized_package_content(&term.parts),
+    match op {
+        Op::Buffer => buffer_content(parts),
+        Op::String => string_content(parts),
+        Op::Package => package_content(parts),
+        Op::VarPackage => sized_package_content(parts),
         _ => Content::Integer,
     }
 }

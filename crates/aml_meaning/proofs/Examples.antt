@@ -16,7 +16,7 @@ use Rattle.aml_meaning.specs.Meaning.{Setting}
 use Rattle.aml_meaning.specs.Whole.{before, evaluated}
 
 abbrev of_width : ℕ → Setting
-of_width bits = record { table = 0; width = bits; link = λ at. Missing; lone = λ at. true; field = λ k. None; object = λ id. None; call = λ p k values. stop_with (error cause.Outside p.table p.at) }
+of_width bits = record { table = 0; width = bits; link = λ at. Missing; lone = λ at. true; field = λ k. None; object = λ id. None; literal = λ op parts. Int 0; call = λ p k values. stop_with (error cause.Outside p.table p.at) }
 
 -- so many steps, and nothing else
 abbrev steps : ℕ → State

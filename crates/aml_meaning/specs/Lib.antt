@@ -7,7 +7,6 @@ pub mod Rules
 pub mod Conversions
 pub mod Buffers
 pub mod Elements
-pub mod Literals
 pub mod Notices
 pub mod Actions
 pub mod Meaning

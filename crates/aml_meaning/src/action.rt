@@ -58,6 +58,8 @@ pub enum Pause {
 pub enum Action {
     /// An integer, by the operator that spells it (ACPI 6.5, 20.2.3).
     Literal(Op),
+    /// A string, a buffer or a package, by the operator that spells it (20.2.3 and 20.2.5.4).
+    Data(Op),
     /// A local, by its number below 8 (5.5.2.3).
     Local(u8),
     /// An argument, by its number below 7 (5.5.2.1).
@@ -129,6 +131,7 @@ pub fn action_of(op: Op) -> Action
         | Op::WordConst
         | Op::DWordConst
         | Op::QWordConst => Action::Literal(op),
+        Op::String | Op::Buffer | Op::Package | Op::VarPackage => Action::Data(op),
         Op::Local0 => Action::Local(0),
         Op::Local1 => Action::Local(1),
         Op::Local2 => Action::Local(2),

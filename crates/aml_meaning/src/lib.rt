@@ -1,8 +1,9 @@
 //! What AML means: the text that a reader must believe (ACPI 6.5, 5.5.2 and 19.6).
 //!
 //! The meaning itself stands in `specs/`: `State` (values, frames, states), `Parts` (what an
-//! evaluation is made of), `Meaning` (what each operator means), `Whole` (a method's body) and `Runs`
-//! (what an evaluator's answer says of it). `docs/MEANING.md` tells the same in plain words.
+//! evaluation is made of), `Meaning` (what each operator means), `Definitions` (what a Name at the top
+//! of a body makes), `Whole` (a method's body) and `Runs` (what an evaluator's answer says of it).
+//! `docs/MEANING.md` tells the same in plain words.
 #![tactic(auto)]
 
 mod action;

@@ -2,6 +2,7 @@
 #![tactic(auto)]
 
 mod body;
+mod data;
 mod eval;
 mod field;
 mod form;

@@ -8,6 +8,8 @@ mod events;
 #[cfg(test)]
 mod flow;
 #[cfg(test)]
+mod literals;
+#[cfg(test)]
 mod meaning;
 #[cfg(test)]
 mod operators;

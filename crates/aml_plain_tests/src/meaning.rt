@@ -38,6 +38,8 @@ fn calls(rt: HostRuntime) {
         (Op::Add, Action::Binary(Arithmetic::Add)),
         (Op::Arg6, Action::Argument(6)),
         (Op::LNot, Action::LNot),
+        (Op::VarPackage, Action::Data(Op::VarPackage)),
+        (Op::Revision, Action::Unwritten),
         (Op::Timer, Action::Unwritten),
     ];
     for (op, action) in rows {

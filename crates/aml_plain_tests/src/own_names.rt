@@ -219,3 +219,58 @@ fn want_of_memory_of_own_names(rt: HostRuntime) -> Result<(), Fail> {
     assert_eq!(rt; outcome, Ok(Ended::Done(Some(12))));
     Ok(())
 }
+
+/// Name (OWN0, Buffer (2) {1}), Store (Buffer (2) {7, 8}, OWN0), Return (OWN0)
+const BUFFER_STORED: &[u8] =
+    b"\x08OWN0\x11\x04\x0a\x02\x01\x70\x11\x05\x0a\x02\x07\x08OWN0\xa4OWN0";
+
+/// Name (OWN0, Buffer (2) {1}), Store (Buffer (3) {}, OWN0)
+const LONGER_STORED: &[u8] = b"\x08OWN0\x11\x04\x0a\x02\x01\x70\x11\x03\x0a\x03OWN0";
+
+/// Name (OWN0, Package (1) {1}), Store (Package (1) {1}, OWN0)
+const PACKAGE_STORED: &[u8] = b"\x08OWN0\x12\x03\x01\x01\x70\x12\x03\x01\x01OWN0";
+
+/// Name (OWN0, One), Return (DerefOf (Index (Package (1) {OWN0}, Zero)))
+const ELEMENT: &[u8] = b"\x08OWN0\x01\xa4\x83\x88\x12\x06\x01OWN0\x00\x00";
+
+#[test]
+fn buffers_strings_and_packages(rt: HostRuntime) -> Result<(), Fail> {
+    let kind = |at| Wanted::Error(AmlCause::Kind, at);
+    let rows: &[Row] = &[
+        // Name (OWN0, Buffer (2) {1}), Return (OWN0)
+        (
+            b"\x08OWN0\x11\x04\x0a\x02\x01\xa4OWN0",
+            2,
+            4,
+            Wanted::Buf(b"\x01\x00"),
+        ),
+        (BUFFER_STORED, 2, 7, Wanted::Buf(b"\x07\x08")),
+        (LONGER_STORED, 2, 5, kind(58)),
+        (PACKAGE_STORED, 2, 5, kind(57)),
+        // Return (SizeOf (OWN0)) of a buffer of 2 bytes, of "AB", of a package of 3 elements
+        (
+            b"\x08OWN0\x11\x04\x0a\x02\x01\xa4\x87OWN0",
+            2,
+            4,
+            Wanted::Int(2),
+        ),
+        (b"\x08OWN0\x0dAB\x00\xa4\x87OWN0", 2, 4, Wanted::Int(2)),
+        (
+            b"\x08OWN0\x12\x04\x03\x01\x01\xa4\x87OWN0",
+            2,
+            4,
+            Wanted::Int(3),
+        ),
+        // Return (DerefOf (Index (OWN0, Zero)))
+        (
+            b"\x08OWN0\x11\x04\x0a\x02\x01\xa4\x83\x88OWN0\x00\x00",
+            2,
+            7,
+            Wanted::Int(1),
+        ),
+        // an element is never an own name
+        (ELEMENT, 2, 7, kind(51)),
+    ];
+    each_ends(&rt, rt.alloc(), rows)?;
+    Ok(())
+}

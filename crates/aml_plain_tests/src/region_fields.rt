@@ -1,18 +1,11 @@
 // Fields of regions in evaluation: ACPI 6.5, 5.5.2.4 and 19.6, Field, IndexField and BankField. What is
 // accessed, in which order and with which values, was worked out by hand.
 
-ghost use Rattle.std.specs.Prelude.{IsSome};
-ghost use Rattle.aml_namespace.specs.Names.{method_at};
-ghost use Rattle.aml_namespace.specs.Shows.{shown};
-ghost use Rattle.aml_plain.specs.Methods.{Parses};
-
-use crate::plain::refused;
-use crate::values::{Wanted, ends};
+use crate::values::{Wanted, ends, outcome_in};
 use acpi_samples::{HOST, method_of, table_of};
-use aml_kinds::Names;
 use aml_meaning::AmlCause;
-use aml_namespace::{LoadFault, Namespace, NoMemory, ObjectId};
-use aml_plain::{Outcome, evaluate_plain};
+use aml_namespace::{LoadFault, Namespace, ObjectId};
+use aml_plain::Outcome;
 use aml_regions::{Access, Event, RegisterFile, RegistersFault};
 use std::alloc::Global;
 use std::process::Abort;
@@ -35,13 +28,41 @@ const FIELDS: &[u8] = b"\x5b\x80RGN0\x01\x0a\x70\x0a\x10\
 /// What stands in the ports from 0x70 on.
 const PORTS: &[u8] = b"io 70 112233445566778899aabbccdd\n";
 
-/// A unit of one byte among the ports.
-const fn port(address: u64) -> Access {
-    Access {
-        space: 1,
-        address,
-        width: 8,
+/// An access of a port of one byte.
+#[derive(Clone, Copy, Debug, PartialEq, Eq)]
+enum Port {
+    /// By its address, with what was answered.
+    Read(u64, u64),
+    /// By its address, with what it was given.
+    Written(u64, u64),
+}
+
+/// The access of a port that an event is.
+fn port_of(event: &Event) -> Option<Port> {
+    match event {
+        Event::Read(access, value) if is_port(access) => Some(Port::Read(access.address, *value)),
+        Event::Written(access, value) if is_port(access) => {
+            Some(Port::Written(access.address, *value))
+        }
+        _ => None,
     }
+}
+
+fn is_port(access: &Access) -> bool {
+    access.space == 1 && access.width == 8
+}
+
+/// Whether events are just these accesses.
+fn are_ports(events: &[Event], ports: &[Port]) -> bool {
+    if events.len() != ports.len() {
+        return false;
+    }
+    for (i, event) in events.iter().enumerate() {
+        if port_of(event) != Some(ports[i]) {
+            return false;
+        }
+    }
+    true
 }
 
 /// The ports as they stand first.
@@ -50,48 +71,6 @@ fn ports(alloc: Global) -> Result<RegisterFile, LoadFault> {
         Ok(file) => Ok(file),
         Err(RegistersFault::NoMemory) => Err(LoadFault::NoMemory),
         Err(_) => Ok(RegisterFile::new(alloc)),
-    }
-}
-
-/// The outcome of the first method, whose body parses, over the ports, and the events.
-fn outcome_of_method(
-    alloc: Global,
-    namespace: &Namespace<'_>,
-    fuel: u64,
-) -> Result<(Outcome, RegisterFile), LoadFault>
-    requires known { IsSome (method_at (shown namespace.now) 9) }
-    requires parses { Parses (shown namespace.now) 9 }
-{
-    let mut names = match Names::initial(alloc, namespace) {
-        Ok(names) => names,
-        Err(NoMemory) => return Err(LoadFault::NoMemory),
-    };
-    let mut world = ports(alloc)?;
-    match evaluate_plain(
-        alloc,
-        namespace,
-        &mut names,
-        ObjectId(9),
-        Vec::new(alloc),
-        &mut world,
-        fuel,
-    ) {
-        Ok(outcome) => Ok((outcome, world)),
-        Err(NoMemory) => Err(LoadFault::NoMemory),
-    }
-}
-
-/// The outcome of the first method, and the events.
-fn outcome_in(
-    alloc: Global,
-    namespace: &Namespace<'_>,
-    fuel: u64,
-) -> Result<(Outcome, RegisterFile), LoadFault>
-    requires { IsSome (method_at (shown namespace.now) 9) }
-{
-    match namespace.tree(alloc, ObjectId(9)) {
-        Ok(_) => outcome_of_method(alloc, namespace, fuel),
-        Err(fault) => Err(refused(fault)),
     }
 }
 
@@ -108,21 +87,40 @@ fn outcome_before(
     let table = table_of(alloc, *b"DSDT", revision, &module)?;
     let namespace = Namespace::load(alloc, &[&table], HOST)?;
     assert!(rt; namespace.method(ObjectId(9)).is_some());
-    outcome_in(alloc, &namespace, fuel)
+    let mut world = ports(alloc)?;
+    let outcome = outcome_in(alloc, &namespace, &mut world, fuel)?;
+    Ok((outcome, world))
 }
 
-/// A body, its table's revision, steps, what is wanted, and the events.
-type Row = (&'static [u8], u8, u64, Wanted, &'static [Event]);
+/// The same; where memory is wanted, once more.
+fn outcome_and_events(
+    rt: &impl Abort,
+    alloc: Global,
+    revision: u8,
+    body: &[u8],
+    fuel: u64,
+) -> Result<(Outcome, RegisterFile), LoadFault> {
+    match outcome_before(rt, alloc, revision, body, fuel) {
+        Err(LoadFault::NoMemory) => outcome_before(rt, alloc, revision, body, fuel),
+        answer => answer,
+    }
+}
 
-/// Each row's outcome and events are the wanted ones.
+/// A body, its table's revision, steps, what is wanted, and the accesses.
+type Row = (&'static [u8], u8, u64, Wanted, &'static [Port]);
+
+/// Each row's outcome and accesses are the wanted ones.
 fn each_ends(rt: &impl Abort, alloc: Global, rows: &[Row]) -> Result<(), LoadFault> {
-    for (body, revision, fuel, wanted, events) in rows {
-        let (found, world) = outcome_before(rt, alloc, *revision, body, *fuel)?;
+    for (body, revision, fuel, wanted, ports) in rows {
+        let (found, world) = outcome_and_events(rt, alloc, *revision, body, *fuel)?;
         assert!(rt;
             ends(&found, *wanted),
             "{body:?} {revision} {fuel} {wanted:?}"
         );
-        assert_eq!(rt; world.events(), *events, "{body:?} {revision} {fuel}");
+        assert!(rt;
+            are_ports(world.events(), ports),
+            "{body:?} {revision} {fuel}"
+        );
     }
     Ok(())
 }
@@ -134,29 +132,23 @@ const READS: [Row; 14] = [
         2,
         3,
         Wanted::Int(0x11),
-        &[Event::Read(port(0x70), 0x11)],
+        &[Port::Read(0x70, 0x11)],
     ),
     (b"\xa4FLD0", 2, 2, Wanted::OutOfSteps, &[]),
-    (
-        b"\xa4FLD1",
-        2,
-        3,
-        Wanted::Int(2),
-        &[Event::Read(port(0x71), 0x22)],
-    ),
+    (b"\xa4FLD1", 2, 3, Wanted::Int(2), &[Port::Read(0x71, 0x22)]),
     (
         b"\xa4FLD2",
         2,
         4,
         Wanted::Int(0x4433),
-        &[Event::Read(port(0x72), 0x33), Event::Read(port(0x73), 0x44)],
+        &[Port::Read(0x72, 0x33), Port::Read(0x73, 0x44)],
     ),
     (
         b"\xa4FLD2",
         2,
         3,
         Wanted::OutOfSteps,
-        &[Event::Read(port(0x72), 0x33)],
+        &[Port::Read(0x72, 0x33)],
     ),
     // Return (FLD3), of more bits than an integer has
     (
@@ -165,15 +157,15 @@ const READS: [Row; 14] = [
         11,
         Wanted::Buf(b"\x55\x66\x77\x88\x99\xaa\xbb\xcc\xdd"),
         &[
-            Event::Read(port(0x74), 0x55),
-            Event::Read(port(0x75), 0x66),
-            Event::Read(port(0x76), 0x77),
-            Event::Read(port(0x77), 0x88),
-            Event::Read(port(0x78), 0x99),
-            Event::Read(port(0x79), 0xaa),
-            Event::Read(port(0x7a), 0xbb),
-            Event::Read(port(0x7b), 0xcc),
-            Event::Read(port(0x7c), 0xdd),
+            Port::Read(0x74, 0x55),
+            Port::Read(0x75, 0x66),
+            Port::Read(0x76, 0x77),
+            Port::Read(0x77, 0x88),
+            Port::Read(0x78, 0x99),
+            Port::Read(0x79, 0xaa),
+            Port::Read(0x7a, 0xbb),
+            Port::Read(0x7b, 0xcc),
+            Port::Read(0x7c, 0xdd),
         ],
     ),
     // Return (FLD9), which is a buffer where integers have 32 bits
@@ -191,14 +183,14 @@ const READS: [Row; 14] = [
         2,
         4,
         Wanted::Int(0x22),
-        &[Event::Written(port(0x70), 1), Event::Read(port(0x71), 0x22)],
+        &[Port::Written(0x70, 1), Port::Read(0x71, 0x22)],
     ),
     (
         b"\xa4FLD7",
         2,
         4,
         Wanted::Int(3),
-        &[Event::Written(port(0x70), 3), Event::Read(port(0x70), 3)],
+        &[Port::Written(0x70, 3), Port::Read(0x70, 3)],
     ),
     // Return (FLD4), past the end of its region
     (b"\xa4FLD4", 2, 2, Wanted::Error(AmlCause::Region, 44), &[]),
@@ -215,12 +207,12 @@ const READS: [Row; 14] = [
 ];
 
 /// The reads of the first five ports.
-const FIVE: [Event; 5] = [
-    Event::Read(port(0x70), 0x11),
-    Event::Read(port(0x71), 0x22),
-    Event::Read(port(0x72), 0x33),
-    Event::Read(port(0x73), 0x44),
-    Event::Read(port(0x74), 0x55),
+const FIVE: [Port; 5] = [
+    Port::Read(0x70, 0x11),
+    Port::Read(0x71, 0x22),
+    Port::Read(0x72, 0x33),
+    Port::Read(0x73, 0x44),
+    Port::Read(0x74, 0x55),
 ];
 
 #[test]
@@ -236,7 +228,7 @@ const WRITES: [Row; 17] = [
         2,
         4,
         Wanted::Nothing,
-        &[Event::Written(port(0x70), 0xab)],
+        &[Port::Written(0x70, 0xab)],
     ),
     (b"\x70\x0b\xab\x01FLD0", 2, 3, Wanted::OutOfSteps, &[]),
     // Store (5, FLD1), under Preserve; Store (5, FLD8), under WriteAsOnes
@@ -245,24 +237,21 @@ const WRITES: [Row; 17] = [
         2,
         5,
         Wanted::Nothing,
-        &[
-            Event::Read(port(0x71), 0x22),
-            Event::Written(port(0x71), 0x25),
-        ],
+        &[Port::Read(0x71, 0x22), Port::Written(0x71, 0x25)],
     ),
     (
         b"\x70\x0a\x05FLD1",
         2,
         4,
         Wanted::OutOfSteps,
-        &[Event::Read(port(0x71), 0x22)],
+        &[Port::Read(0x71, 0x22)],
     ),
     (
         b"\x70\x0a\x05FLD8",
         2,
         4,
         Wanted::Nothing,
-        &[Event::Written(port(0x70), 0x5f)],
+        &[Port::Written(0x70, 0x5f)],
     ),
     // Increment (FLD0)
     (
@@ -270,10 +259,7 @@ const WRITES: [Row; 17] = [
         2,
         5,
         Wanted::Nothing,
-        &[
-            Event::Read(port(0x70), 0x11),
-            Event::Written(port(0x70), 0x12),
-        ],
+        &[Port::Read(0x70, 0x11), Port::Written(0x70, 0x12)],
     ),
     // Add (FLD0, FLD1, FLD1), of which four bits are kept
     (
@@ -282,10 +268,10 @@ const WRITES: [Row; 17] = [
         8,
         Wanted::Nothing,
         &[
-            Event::Read(port(0x70), 0x11),
-            Event::Read(port(0x71), 0x22),
-            Event::Read(port(0x71), 0x22),
-            Event::Written(port(0x71), 0x23),
+            Port::Read(0x70, 0x11),
+            Port::Read(0x71, 0x22),
+            Port::Read(0x71, 0x22),
+            Port::Written(0x71, 0x23),
         ],
     ),
     // Store (BUF0, FLD3), and an integer, with zeros behind it
@@ -295,15 +281,15 @@ const WRITES: [Row; 17] = [
         12,
         Wanted::Nothing,
         &[
-            Event::Written(port(0x74), 1),
-            Event::Written(port(0x75), 2),
-            Event::Written(port(0x76), 3),
-            Event::Written(port(0x77), 4),
-            Event::Written(port(0x78), 5),
-            Event::Written(port(0x79), 6),
-            Event::Written(port(0x7a), 7),
-            Event::Written(port(0x7b), 8),
-            Event::Written(port(0x7c), 9),
+            Port::Written(0x74, 1),
+            Port::Written(0x75, 2),
+            Port::Written(0x76, 3),
+            Port::Written(0x77, 4),
+            Port::Written(0x78, 5),
+            Port::Written(0x79, 6),
+            Port::Written(0x7a, 7),
+            Port::Written(0x7b, 8),
+            Port::Written(0x7c, 9),
         ],
     ),
     (
@@ -312,15 +298,15 @@ const WRITES: [Row; 17] = [
         12,
         Wanted::Nothing,
         &[
-            Event::Written(port(0x74), 0x88),
-            Event::Written(port(0x75), 0x77),
-            Event::Written(port(0x76), 0x66),
-            Event::Written(port(0x77), 0x55),
-            Event::Written(port(0x78), 0x44),
-            Event::Written(port(0x79), 0x33),
-            Event::Written(port(0x7a), 0x22),
-            Event::Written(port(0x7b), 0x11),
-            Event::Written(port(0x7c), 0),
+            Port::Written(0x74, 0x88),
+            Port::Written(0x75, 0x77),
+            Port::Written(0x76, 0x66),
+            Port::Written(0x77, 0x55),
+            Port::Written(0x78, 0x44),
+            Port::Written(0x79, 0x33),
+            Port::Written(0x7a, 0x22),
+            Port::Written(0x7b, 0x11),
+            Port::Written(0x7c, 0),
         ],
     ),
     // Store (One, FLD6), behind an index field; Store (One, FLD7), behind a bank field
@@ -329,14 +315,14 @@ const WRITES: [Row; 17] = [
         2,
         5,
         Wanted::Nothing,
-        &[Event::Written(port(0x70), 1), Event::Written(port(0x71), 1)],
+        &[Port::Written(0x70, 1), Port::Written(0x71, 1)],
     ),
     (
         b"\x70\x01FLD7",
         2,
         5,
         Wanted::Nothing,
-        &[Event::Written(port(0x70), 3), Event::Written(port(0x70), 1)],
+        &[Port::Written(0x70, 3), Port::Written(0x70, 1)],
     ),
     // what a field does not take: a buffer where it is an integer, or of another length; a string
     (

@@ -52,10 +52,11 @@ pub(crate) fn ends(outcome: &Outcome, wanted: Wanted) -> bool {
     }
 }
 
-/// The outcome of the first method, whose body parses, over what names hold first.
+/// The outcome of the first method, whose body parses, over what names hold first and a world.
 fn outcome_of_method(
     alloc: Global,
     namespace: &Namespace<'_>,
+    world: &mut RegisterFile,
     fuel: u64,
 ) -> Result<Outcome, LoadFault>
     requires known { IsSome (method_at (shown namespace.now) 9) }
@@ -65,7 +66,6 @@ fn outcome_of_method(
         Ok(names) => names,
         Err(NoMemory) => return Err(LoadFault::NoMemory),
     };
-    let mut world = RegisterFile::new(alloc);
     let given = Vec::new(alloc);
     match evaluate_plain(
         alloc,
@@ -73,7 +73,7 @@ fn outcome_of_method(
         &mut names,
         ObjectId(9),
         given,
-        &mut world,
+        world,
         fuel,
     ) {
         Ok(outcome) => Ok(outcome),
@@ -81,18 +81,23 @@ fn outcome_of_method(
     }
 }
 
-/// The outcome of the first method.
-fn outcome_in(alloc: Global, namespace: &Namespace<'_>, fuel: u64) -> Result<Outcome, LoadFault>
+/// The outcome of the first method over a world.
+pub(crate) fn outcome_in(
+    alloc: Global,
+    namespace: &Namespace<'_>,
+    world: &mut RegisterFile,
+    fuel: u64,
+) -> Result<Outcome, LoadFault>
     requires { IsSome (method_at (shown namespace.now) 9) }
 {
     match namespace.tree(alloc, ObjectId(9)) {
-        Ok(_) => outcome_of_method(alloc, namespace, fuel),
+        Ok(_) => outcome_of_method(alloc, namespace, world, fuel),
         Err(fault) => Err(refused(fault)),
     }
 }
 
 /// The outcome of a method of this body, before other definitions, in a DSDT of a revision.
-fn outcome_before(
+pub(crate) fn outcome_before(
     rt: &impl Abort,
     alloc: Global,
     revision: u8,
@@ -104,7 +109,7 @@ fn outcome_before(
     let table = table_of(alloc, *b"DSDT", revision, &module)?;
     let namespace = Namespace::load(alloc, &[&table], HOST)?;
     assert!(rt; namespace.method(ObjectId(9)).is_some());
-    outcome_in(alloc, &namespace, fuel)
+    outcome_in(alloc, &namespace, &mut RegisterFile::new(alloc), fuel)
 }
 
 /// A body, its table's revision, steps, and what is wanted.

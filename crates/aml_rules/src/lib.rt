@@ -7,7 +7,6 @@ mod conversions;
 mod elements;
 mod equality;
 mod law;
-mod literals;
 mod place;
 
 pub use buffers::{concatenated, size_of};
@@ -15,5 +14,4 @@ pub use conversions::{to_buffer, to_integer};
 pub use elements::{ByteStore, byte_stored, element_at};
 pub use equality::equal;
 pub use law::integers_are_given_back;
-pub use literals::{buffer_of, package_of, string_of};
 pub use place::{Place, RuleFault};

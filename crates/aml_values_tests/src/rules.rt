@@ -2,12 +2,11 @@
 // 19.6. Places are 10 of the operator, 20 of its first operand and 30 of its second, in table 1.
 
 use crate::kinds::{Sample, value_of};
-use aml_kinds::{Bytes, Element, Value, is_same_value};
+use aml_kinds::{Bytes, Value, is_same_value};
 use aml_meaning::{AmlCause, AmlError};
 use aml_namespace::Width::{self, Bits32, Bits64};
 use aml_rules::{
-    Place, RuleFault, buffer_of, byte_stored, concatenated, element_at, equal, package_of, size_of,
-    string_of, to_buffer, to_integer,
+    Place, RuleFault, byte_stored, concatenated, element_at, equal, size_of, to_buffer, to_integer,
 };
 use std::alloc::{AllocError, Global};
 use std::test::Fail;
@@ -472,132 +471,6 @@ fn rows_of_byte_stores(rt: HostRuntime) -> Result<(), Fail> {
             Err(AllocError) => store_of(rt.alloc(), *content, *at, *stored)?,
         };
         assert!(rt; found == *wanted, "row {i}");
-    }
-    Ok(())
-}
-
-/// Whether a buffer of a size with first bytes is the one that is wanted.
-fn is_buffer(alloc: Global, size: u64, first: &[u8], wanted: Given) -> Result<bool, RuleFault> {
-    let value = buffer_of(alloc, size, first)?;
-    Ok(is_same_value(&value, &made(alloc, wanted)?))
-}
-
-#[test]
-fn rows_of_buffer_literals(rt: HostRuntime) -> Result<(), Fail> {
-    use Given::{Buf, Of};
-    let rows: &[(u64, &[u8], Given)] = &[
-        (0, &[], Buf(&[])),
-        (3, &[], Buf(&[0, 0, 0])),
-        (3, &[1], Buf(&[1, 0, 0])),
-        (3, &[1, 2, 3], Buf(&[1, 2, 3])),
-        (1, &[1, 2, 3], Buf(&[1, 2, 3])),
-        (0, &[1], Buf(&[1])),
-        (65_536, &[7; 65_536], Of(Sample::Buf(65_536))),
-    ];
-    for (i, (size, first, wanted)) in rows.iter().enumerate() {
-        let found = match is_buffer(rt.alloc(), *size, first, *wanted) {
-            Err(RuleFault::NoMemory) => is_buffer(rt.alloc(), *size, first, *wanted),
-            found => found,
-        };
-        assert!(rt; matches!(found, Ok(true)), "row {i}");
-    }
-    Ok(())
-}
-
-/// Whether a string of these characters is one of them.
-fn is_string(alloc: Global, characters: &[u8]) -> Result<bool, RuleFault> {
-    let value = string_of(alloc, characters)?;
-    let wanted = Value::Str(bytes_of(alloc, characters)?);
-    Ok(is_same_value(&value, &wanted))
-}
-
-#[test]
-fn rows_of_string_literals(rt: HostRuntime) -> Result<(), Fail> {
-    let rows: &[&[u8]] = &[b"", b"a", b"ab", &[7; 65_536]];
-    for (i, characters) in rows.iter().enumerate() {
-        let found = match is_string(rt.alloc(), characters) {
-            Err(RuleFault::NoMemory) => is_string(rt.alloc(), characters),
-            found => found,
-        };
-        assert!(rt; matches!(found, Ok(true)), "row {i}");
-    }
-    Ok(())
-}
-
-/// An element of a row.
-#[derive(Clone, Copy)]
-enum Part {
-    Value(Given),
-    NoName,
-    Unset,
-}
-
-fn element_of(alloc: Global, part: Part) -> Result<Element, AllocError> {
-    match part {
-        Part::Value(given) => Ok(Element::Value(made(alloc, given)?)),
-        Part::NoName => Ok(Element::Name(None)),
-        Part::Unset => Ok(Element::Unset),
-    }
-}
-
-/// Whether a package of a number of elements, of which these come first, is what is wanted.
-fn is_package(alloc: Global, size: u64, parts: &[Part], wanted: Wanted) -> Result<bool, RuleFault> {
-    let mut elements = Vec::new(alloc);
-    for part in parts {
-        elements
-            .push(element_of(alloc, *part)?)
-            .map_err(|_| RuleFault::NoMemory)?;
-    }
-    is_wanted(alloc, package_of(OPERATOR, size, elements), wanted)
-}
-
-#[test]
-fn rows_of_package_literals(rt: HostRuntime) -> Result<(), Fail> {
-    use Given::{Int, Of};
-    let nine = Part::Value(Int(9));
-    let deep = Part::Value(Of(Sample::Nested(64)));
-    let less = Part::Value(Of(Sample::Nested(63)));
-    let rows: &[(u64, &[Part], Wanted)] = &[
-        (0, &[], Wanted::Value(Of(Sample::Unset(0)))),
-        (3, &[], Wanted::Value(Of(Sample::Unset(3)))),
-        (1, &[nine], Wanted::Value(Of(Sample::OfInt(9)))),
-        (2, &[nine], Wanted::Value(Of(Sample::NineAndUnset))),
-        (
-            2,
-            &[nine, Part::Unset],
-            Wanted::Value(Of(Sample::NineAndUnset)),
-        ),
-        (
-            2,
-            &[nine, Part::NoName],
-            Wanted::Value(Of(Sample::NineAndName)),
-        ),
-        (
-            2,
-            &[nine, Part::NoName, nine],
-            Wanted::Value(Of(Sample::NineAndName)),
-        ),
-        (
-            1,
-            &[nine, Part::NoName],
-            Wanted::Value(Of(Sample::OfInt(9))),
-        ),
-        (
-            0,
-            &[nine, Part::NoName],
-            Wanted::Value(Of(Sample::Unset(0))),
-        ),
-        (65_535, &[], Wanted::Value(Of(Sample::Unset(65_535)))),
-        (1, &[less], Wanted::Value(Of(Sample::Nested(64)))),
-        (1, &[deep], Wanted::Error(AmlCause::Outside, 10)),
-        (0, &[deep], Wanted::Value(Of(Sample::Unset(0)))),
-    ];
-    for (i, (size, parts, wanted)) in rows.iter().enumerate() {
-        let found = match is_package(rt.alloc(), *size, parts, *wanted) {
-            Err(RuleFault::NoMemory) => is_package(rt.alloc(), *size, parts, *wanted),
-            found => found,
-        };
-        assert!(rt; matches!(found, Ok(true)), "row {i}");
     }
     Ok(())
 }

@@ -11,8 +11,8 @@ abbrev pub invariant-elements_in-loop-term : goal.invariant-elements_in-loop-ter
 invariant-elements_in-loop-term l =
     map element l.made.items ≡ map (λ t. element_in (shown l.namespace) l.site.table l.site.scope (view t)) (take l.term-index l.terms)
 
-abbrev pub decreases-value_in : goal.decreases-value_in
-decreases-value_in l = 2 * weight (view l.term.now)
+abbrev pub decreases-value_of : goal.decreases-value_of
+decreases-value_of l = 2 * weights (views l.parts.now) + 2
 
 abbrev pub decreases-element_in : goal.decreases-element_in
 decreases-element_in l = 2 * weight (view l.term.now) + 1

@@ -1,0 +1,35 @@
+// Literals of strings, buffers and packages.
+
+ghost use Rattle.aml_kinds.specs.BodyData.{body_data, computed_size};
+ghost use Rattle.aml_operators.specs.Tree.{views};
+ghost use Rattle.aml_meaning.specs.declared.action.Action.TheVariants as does;
+ghost use Rattle.aml_meaning.specs.Meaning.{act};
+ghost use Rattle.aml_meaning.specs.Runs.{Runs};
+ghost use Rattle.aml_plain.specs.Tells.{setting_of, told, value_of};
+
+use crate::halt::{Halt, Setting, fails};
+use aml_kinds::{Value, body_data, computed_size};
+use aml_meaning::AmlCause;
+use aml_operators::{Op, Term};
+use std::alloc::Global;
+
+/// The value of a literal of a string, a buffer or a package. A6 at the first buffer or package in it
+/// whose size is computed.
+pub fn data_literal(
+    alloc: Global,
+    here: Setting<'_>,
+    op: Op,
+    at: usize,
+    parts: &[Term],
+) -> Result<Option<Value>, Halt>
+    ensures { (around : _) (s : _) → Runs (told value_of result)
+        (act (setting_of here.entry around) (does.Data op) at (views parts.now)) s s }
+{
+    match computed_size(op, at, parts) {
+        Some(from) => Err(fails(AmlCause::Outside, here, from)),
+        None => {
+            let value = body_data(alloc, here.namespace, here.table, here.method, op, parts)?;
+            Ok(Some(value))
+        }
+    }
+}
