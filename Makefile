@@ -1,4 +1,4 @@
-.PHONY: run test cases growths edits bench check fmt
+.PHONY: run test cases growths edits bench loops check fmt
 
 # Builds acpicheck, proofs included, and evaluates the method of the stored run.
 run:
@@ -24,6 +24,10 @@ edits:
 # Loops timed beside ACPICA's acpiexec (apt-get install acpica-tools), by the program that `make run` builds.
 bench:
 	@python3 bench/speed.py
+
+# Loops over single calls, beside loops in C, by the program that `make test` leaves.
+loops:
+	@python3 bench/loops.py
 
 # Every crate, over what earlier checks kept.
 check:

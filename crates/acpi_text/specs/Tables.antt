@@ -15,26 +15,19 @@ use Rattle.acpi_tables.specs.declared.rsdp.RsdpExtension.{RsdpExtension}
 use Rattle.acpi_tables.specs.declared.fadt.Fadt.{Fadt}
 use Rattle.acpi_tables.specs.declared.madt.Madt.{Madt}
 
--- the first part of a header's line: signature, length and revision
-unfoldable pub name_part : List ℕ → ℕ → ℕ → List ℕ
-name_part signature length revision = joined (
-    codes "table " ∷ signature
-    ∷ codes " length " ∷ decimal length
-    ∷ codes " revision " ∷ decimal revision ∷ [])
-
--- the rest of a header's line: OEM id, OEM table id and OEM revision
-unfoldable pub oem_part : List ℕ → List ℕ → ℕ → List ℕ
-oem_part oem_id oem_table_id oem_revision = joined (
-    codes " oem \"" ∷ oem_id
-    ∷ codes "\" \"" ∷ oem_table_id
-    ∷ codes "\" 0x" ∷ hex oem_revision
-    ∷ codes "\n" ∷ [])
+-- the words of a line, each behind what leads to it
+abbrev pub words : List (List ℕ × List ℕ) → List ℕ
+words line = flat_map (λ word. word.0 ++ word.1) line
 
 -- the line of a table by its header
 unfoldable pub header_line : Header → List ℕ
-header_line header =
-    name_part (escaped header.signature.now) header.length header.revision
-    ++ oem_part (escaped header.oem_id.now) (escaped header.oem_table_id.now) header.oem_revision
+header_line header = words (
+    (codes "table ", escaped header.signature.now)
+    ∷ (codes " length ", decimal header.length)
+    ∷ (codes " revision ", decimal header.revision)
+    ∷ (codes " oem \"", escaped header.oem_id.now)
+    ∷ (codes "\" \"", escaped header.oem_table_id.now)
+    ∷ (codes "\" 0x", hex header.oem_revision) ∷ []) ++ codes "\n"
 
 abbrev pub xsdt_part : Option RsdpExtension → List ℕ
 xsdt_part None = []

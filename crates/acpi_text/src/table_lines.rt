@@ -1,8 +1,9 @@
 // The lines of tables, but those of a MADT's structures.
 
-ghost use Rattle.std.specs.Prelude.{◌≡◌, ◌++◌, IfOk, OnOk, string_bytes};
+ghost use Rattle.std.specs.Prelude.{◌≡◌, ◌++◌, IfOk, OnOk, codes, decimal, string_bytes};
 ghost use Rattle.std.specs.List.{flat_map};
-ghost use Rattle.acpi_text.specs.Tables.{name_part, oem_part, field_line, header_line, pointer_line, address_line, fixed_lines, interrupt_lines, decimal_or_absent, hex_or_absent, yes_or_no, yes_or_absent};
+ghost use Rattle.acpi_text.specs.Text.{hex};
+ghost use Rattle.acpi_text.specs.Tables.{field_line, header_line, pointer_line, address_line, fixed_lines, interrupt_lines, decimal_or_absent, hex_or_absent, yes_or_no, yes_or_absent};
 
 use crate::escaped::escaped_text;
 use acpi_tables::{Fadt, Header, Madt, Rsdp};
@@ -14,37 +15,49 @@ use std::fmt::Write;
 pub fn header(alloc: Global, header: &Header<'_>) -> Result<String, AllocError>
     ensures { IfOk result (λ line. string_bytes line ≡ header_line header.now) }
 {
-    let signature = escaped_text(alloc, header.signature)?;
-    let name = name_of(alloc, signature.as_str(), header.length, header.revision)?;
-    let oem_id = escaped_text(alloc, header.oem_id)?;
-    let oem_table_id = escaped_text(alloc, header.oem_table_id)?;
-    let oem = oem_of(
-        alloc,
-        oem_id.as_str(),
-        oem_table_id.as_str(),
-        header.oem_revision,
-    )?;
-    format!(in alloc; "{name}{oem}")
+    let words = [
+        ("table ", escaped_text(alloc, header.signature)?),
+        (" length ", decimal_text(alloc, u64::from(header.length))?),
+        (
+            " revision ",
+            decimal_text(alloc, u64::from(header.revision))?,
+        ),
+        (" oem \"", escaped_text(alloc, header.oem_id)?),
+        ("\" \"", escaped_text(alloc, header.oem_table_id)?),
+        ("\" 0x", hex_text(alloc, header.oem_revision)?),
+    ];
+    line_of_words(alloc, &words)
 }
 
-#[tactic(auto, unfolding(crate::specs::Tables::name_part))]
-fn name_of(alloc: Global, signature: &str, length: u32, revision: u8) -> Result<String, AllocError>
-    ensures { IfOk result (λ part. string_bytes part ≡ name_part signature.now length revision) }
+fn decimal_text(alloc: Global, n: u64) -> Result<String, AllocError>
+    ensures { IfOk result (λ text. string_bytes text ≡ decimal n) }
 {
-    format!(in alloc; "table {signature} length {length} revision {revision}")
+    format!(in alloc; "{n}")
 }
 
-#[tactic(auto, unfolding(crate::specs::Tables::oem_part))]
-fn oem_of(
-    alloc: Global,
-    oem_id: &str,
-    oem_table_id: &str,
-    oem_revision: u32,
-) -> Result<String, AllocError>
-    ensures { IfOk result
-        (λ part. string_bytes part ≡ oem_part oem_id.now oem_table_id.now oem_revision) }
+fn hex_text(alloc: Global, n: u32) -> Result<String, AllocError>
+    ensures { IfOk result (λ text. string_bytes text ≡ hex n) }
 {
-    format!(in alloc; " oem \"{oem_id}\" \"{oem_table_id}\" 0x{oem_revision:x}\n")
+    format!(in alloc; "{n:x}")
+}
+
+// A line of words, each behind what leads to it.
+fn line_of_words(alloc: Global, words: &[(&str, String)]) -> Result<String, AllocError>
+    ensures { IfOk result (λ line. string_bytes line
+        ≡ flat_map (λ word. word.0.now ++ string_bytes word.1) words.now ++ codes "\n") }
+{
+    let mut line = String::new(alloc);
+    for (lead, word) in words {
+        push_word(&mut line, lead, word.as_str())?;
+    }
+    line.push_str("\n")?;
+    Ok(line)
+}
+
+fn push_word(line: &mut String, lead: &str, word: &str) -> Result<(), AllocError>
+    ensures { OnOk result (string_bytes line.new ≡ string_bytes line.old ++ (lead.now ++ word.now)) }
+{
+    write!(line, "{lead}{word}")
 }
 
 /// `rsdp revision N rsdt 0xA`, from revision 2 on also ` xsdt 0xA`.

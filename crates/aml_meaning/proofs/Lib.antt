@@ -2,6 +2,8 @@ pub mod Runs
 pub mod Loops
 pub mod Called
 pub mod Stable
+pub mod InOrder
+pub mod Quiet
 pub mod Examples
 pub mod UnitReads
 pub mod Bits

@@ -1,8 +1,7 @@
 -- What is found sound can be read and written, and nothing else can.
-use Rattle.std.proofs.Common.{◌≡◌, ◌<◌, ◌≤◌, ◌+◌, ◌^◌, ℕ, Bool, true, false, ◌&&◌, ◌==◌, IsTrue, ◌↔◌, Option, Some, None, if◌then◌else◌, refl, sym, ◌∙◌}
-use Rattle.std.specs.Prelude.{nat_le, nat_lt, option_and_then}
+use Rattle.std.proofs.Common.{◌≡◌, Bool, true, false, IsTrue, ◌↔◌, refl, sym}
 use Rattle.std.proofs.lemmas.Bool.{true≢false, and_from, and_parts, ltb-true, leb-true, eqb-true, lt-ltb, le-leb, eq-eqb, false_from_ne_true}
-use Rattle.aml_regions.specs.Fields.{IsLaidOut, IsSound, IsSoundField, bits_of, end, is_known_space, unit_place}
+use Rattle.aml_regions.specs.Fields.{IsLaidOut, IsSound, IsSoundField}
 use Rattle.aml_regions.specs.declared.field.AnyField.{AnyField}
 use Rattle.aml_regions.specs.declared.field.AnyField.TheVariants.{Plain, Banked, Indexed}
 use Rattle.aml_regions.specs.declared.field.FieldLayout.{FieldLayout}

@@ -16,6 +16,8 @@ pub mod Within
 pub mod Methods
 pub mod Runs
 pub mod Whole
+pub mod Laws
+pub mod Quiet
 pub mod Causes
 pub mod Fields
 pub mod FieldValues

@@ -1,5 +1,7 @@
 // Laws of the meaning, over its definitions alone.
 
+ghost use Rattle.aml_meaning.specs.Laws.{BodiesAreInOrder, CallsKeepTheFrame, ListsAreInOrder, TermsTakeAStep};
+ghost use Rattle.aml_meaning.specs.Quiet.{QuietTermsKeep};
 ghost use Rattle.aml_meaning.specs.Whole.{DoneIsStable, ErrorIsStable, LeftBitIsHighest, OtherAnswerIsNone, ReadIsAnswered, RightBitIsLowest, ZeroHasNoBit};
 
 /// A body that is done with so many steps is done with more, just so, and they are left; and one that
@@ -22,4 +24,26 @@ pub fn set_bits_are_found()
     ensures left { LeftBitIsHighest }
     ensures right { RightBitIsLowest }
     ensures zero { ZeroHasNoBit }
+{}
+
+/// A list of statements is its first part and then the rest, wherever it is parted.
+pub fn lists_are_in_order()
+    ensures lists { ListsAreInOrder }
+    ensures bodies { BodiesAreInOrder }
+{}
+
+/// A term takes a step, whatever it is: with none left, it is out of steps.
+pub fn terms_take_a_step()
+    ensures { TermsTakeAStep }
+{}
+
+/// However a call ends, the caller's locals, arguments and own names stand as before.
+pub fn calls_keep_the_frame()
+    ensures { CallsKeepTheFrame }
+{}
+
+/// A term without calls, stores and loops changes no name, no local and no argument, whatever comes
+/// of it.
+pub fn quiet_terms_keep()
+    ensures { QuietTermsKeep }
 {}

@@ -12,4 +12,7 @@ mod law;
 
 pub use action::{Action, Arithmetic, Bitwise, Comparison, Conversion, Pause, action_of};
 pub use error::{AmlCause, AmlError};
-pub use law::{done_is_stable, reads_are_answered, set_bits_are_found};
+pub use law::{
+    calls_keep_the_frame, done_is_stable, lists_are_in_order, quiet_terms_keep, reads_are_answered,
+    set_bits_are_found, terms_take_a_step,
+};

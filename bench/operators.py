@@ -1,0 +1,208 @@
+#!/usr/bin/env python3
+"""What operators give, here, in ACPICA's acpiexec and by the specification's text: operators.py [ACPICHECK].
+
+Each row is a body in ASL and what it gives: each operator over integers with each pair of the values 0, 1, 2, counts about both
+widths, the sign bit and its neighbours, and the greatest, at both widths; and operators over buffers and strings, empty ones and
+such of 65,536 bytes among them. What a row gives is worked out here from the text of ACPI 6.5, 19.6, as the lines of `JOINED` and
+`MADE` say it. Rows in which the profile and ACPICA differ by choice stand in `OWN`, and are asked of acpicheck alone.
+
+`iasl` and `acpiexec` are of Debian's acpica-tools (apt-get install acpica-tools).
+"""
+import re
+import subprocess
+import sys
+import tempfile
+from pathlib import Path
+
+ACPICHECK = Path(__file__).resolve().parent.parent / "crates/acpicheck/out/acpicheck"
+MOST_BYTES = 65_536
+
+
+def truth(holds, greatest):
+    return greatest if holds else 0
+
+
+def bit_of(number, first):
+    """The number of a bit that is set, counted from 1: the first from the top or from the bottom, and 0 where none is."""
+    bits = [n for n in range(64) if number >> n & 1]
+    return 0 if not bits else (bits[-1] if first == "left" else bits[0]) + 1
+
+
+# an operator of two integers, and what it gives before the result is cut to the width
+JOINED = {
+    "Add": lambda a, b, m: a + b,
+    "Subtract": lambda a, b, m: a - b,
+    "Multiply": lambda a, b, m: a * b,
+    "And": lambda a, b, m: a & b,
+    "NAnd": lambda a, b, m: ~(a & b),
+    "Or": lambda a, b, m: a | b,
+    "NOr": lambda a, b, m: ~(a | b),
+    "XOr": lambda a, b, m: a ^ b,
+    "ShiftLeft": lambda a, b, m: a << b if b < 64 else 0,
+    "ShiftRight": lambda a, b, m: a >> b if b < 64 else 0,
+    "LAnd": lambda a, b, m: truth(a and b, m),
+    "LOr": lambda a, b, m: truth(a or b, m),
+    "LEqual": lambda a, b, m: truth(a == b, m),
+    "LGreater": lambda a, b, m: truth(a > b, m),
+    "LLess": lambda a, b, m: truth(a < b, m),
+}
+# where the second is no zero
+DIVIDED = {"Mod": lambda a, b: a % b, "Divide": lambda a, b: a // b}
+# an operator of one
+MADE = {
+    "Not": lambda a, m: ~a,
+    "FindSetLeftBit": lambda a, m: bit_of(a, "left"),
+    "FindSetRightBit": lambda a, m: bit_of(a, "right"),
+    "LNot": lambda a, m: truth(a == 0, m),
+    "ToInteger": lambda a, m: a,
+}
+
+
+def values(width):
+    top = 2**width - 1
+    sign = 2 ** (width - 1)
+    return sorted({0, 1, 2, 31, 32, 33, 63, 64, 65, sign - 1, sign, sign + 1, top - 1, top})
+
+
+def integer_rows(width):
+    top = 2**width - 1
+    for a in values(width):
+        for b in values(width):
+            begin = f"Store ({a:#x}, Local0) Store ({b:#x}, Local1) "
+            for name, gives in JOINED.items():
+                yield f"{begin}Return ({name} (Local0, Local1))", gives(a, b, top) & top
+            if b:
+                yield f"{begin}Return (Mod (Local0, Local1))", a % b
+                yield f"{begin}Return (Divide (Local0, Local1, Local2, Local3))", a // b
+                yield f"{begin}Divide (Local0, Local1, Local2, Local3) Return (Local2)", a % b
+        begin = f"Store ({a:#x}, Local0) "
+        for name, gives in MADE.items():
+            yield f"{begin}Return ({name} (Local0))", gives(a, top) & top
+        yield f"{begin}Return (Increment (Local0))", (a + 1) & top
+        yield f"{begin}Decrement (Local0) Return (Local0)", (a - 1) & top
+        yield f"{begin}Return (ToBuffer (Local0))", a.to_bytes(width // 8, "little")
+
+
+def bytes_text(these):
+    return "Buffer () {" + ", ".join(map(str, these)) + "}" if these else "Buffer (0) {}"
+
+
+def data_rows(width):
+    top = 2**width - 1
+    size = width // 8
+    for these in (bytes([7]), bytes(range(1, size)), bytes(range(1, size + 1)), bytes(range(1, 2 * size + 1))):
+        yield f"Return (ToInteger ({bytes_text(these)}))", int.from_bytes(these[:size], "little")
+        yield f"Store ({bytes_text(these)}, Local0) Return (SizeOf (Local0))", len(these)
+        for i in range(len(these)):
+            yield f"Store ({bytes_text(these)}, Local0) Return (DerefOf (Index (Local0, {i})))", these[i]
+        for other in (b"", these, these + b"\0", these[:-1]):
+            yield f"Store ({bytes_text(these)}, Local0) Store ({bytes_text(other)}, Local1) Return (LEqual (Local0, Local1))", truth(these == other, top)
+            yield f"Return (Concatenate ({bytes_text(these)}, {bytes_text(other)}))", these + other
+    for one in ("", "A", "AB", "ABCD"):
+        yield f'Store ("{one}", Local0) Return (SizeOf (Local0))', len(one)
+        for two in ("", "A", "AC", "ABCDE"):
+            yield f'Store ("{one}", Local0) Store ("{two}", Local1) Return (LEqual (Local0, Local1))', truth(one == two, top)
+            yield f'Return (Concatenate ("{one}", "{two}"))', one + two
+    yield "Return (SizeOf (LONG))", MOST_BYTES
+    yield f"Return (DerefOf (Index (LONG, {MOST_BYTES - 1})))", 0
+    yield "Return (DerefOf (Index (LONG, 1)))", 2
+    yield "Return (ToInteger (LONG))", 0x0201
+    yield "Store (Concatenate (LONG, Buffer (0) {}), Local0) Return (SizeOf (Local0))", MOST_BYTES
+    yield "Store (LONG, Local0) Return (LEqual (Local0, LONG))", top
+
+
+# what acpicheck alone is asked: the body, and the line that it prints, by the places of the DSDT that `own_rows` makes
+def own_rows(width):
+    yield "Return (SizeOf (NONE))", 0
+    yield "Return (Concatenate (NONE, NONE))", b""
+    yield "Store (ToInteger (NONE), Local0)", "A4 Index"
+    yield "Return (Concatenate (LONG, Buffer (1) {}))", "A6 Outside"
+    yield "Return (DerefOf (Index (NONE, Zero)))", "A4 Index"
+    yield f"Return (DerefOf (Index (LONG, {MOST_BYTES})))", "A4 Index"
+    yield "Store (Zero, Local1) Return (Mod (One, Local1))", "A3 Divisor"
+    yield "Store (Zero, Local1) Return (Divide (One, Local1))", "A3 Divisor"
+    yield 'Store ("1", Local0) Return (Add (Local0, One))', "A2 Kind"
+    yield 'Store ("1", Local0) Return (ToInteger (Local0))', "A2 Kind"
+    yield "If (Zero) { Store (One, Local0) } Return (Add (Local0, One))", "A1 Unset"
+
+
+def source(width, bodies):
+    methods = "".join(f"Method (T{n:03X}) {{ {body} }}\n" for n, body in enumerate(bodies))
+    return f"""
+DefinitionBlock ("", "DSDT", {2 if width == 64 else 1}, "ACPICK", "OPERATOR", 1) {{
+Name (LONG, Buffer ({MOST_BYTES}) {{ 1, 2 }})
+Name (NONE, Buffer (0) {{}})
+{methods}}}
+"""
+
+
+def told_here(said):
+    found = re.search(r'^result (?:0x([0-9a-f]+)|buffer ([0-9a-f]+|-)|string "(.*)")$', said, re.M)
+    if found:
+        if found[1]:
+            return int(found[1], 16)
+        return found[3] if found[2] is None else bytes.fromhex(found[2].replace("-", ""))
+    found = re.search(r"^error \d+ \d+ (.*)$", said, re.M)
+    return found[1] if found else said.strip()[-60:]
+
+
+def ours(program, table, method):
+    command = [program, "eval", "--plain", "100000", "--method", "\\" + method, table]
+    return told_here(subprocess.run(command, capture_output=True, text=True, check=False).stdout)
+
+
+def told_there(said):
+    found = re.search(r"\[Integer\] = ([0-9A-F]+)", said)
+    if found:
+        return int(found[1], 16)
+    found = re.search(r'\[String\] Length [0-9A-F]+ = "(.*)"', said)
+    if found:
+        return found[1]
+    found = re.search(r"\[Buffer\] Length ([0-9A-F]+) =(.*)", said, re.S)
+    if not found:
+        return said.strip()[-60:]
+    rows = re.findall(r"^ *(?:[0-9A-F]{4}:)? *((?:[0-9A-F]{2} ){1,16})", found[2], re.M)
+    return bytes.fromhex("".join(rows))[:int(found[1], 16)]
+
+
+def theirs(table, count):
+    asked = "".join(f"execute T{n:03X}\n" for n in range(count)) + "quit\n"
+    said = subprocess.run(["acpiexec", "-di", table], input=asked, capture_output=True, text=True, check=False).stdout
+    return {answer[:4]: told_there(answer) for answer in re.split(r"Evaluating \\", said)[1:]}
+
+
+def compiled(folder, width, bodies):
+    asl = Path(folder) / f"rows{width}.asl"
+    asl.write_text(source(width, bodies))
+    subprocess.run(["iasl", "-oa", "-p", f"{folder}/rows{width}", asl], capture_output=True, check=True)
+    return f"{folder}/rows{width}.aml"
+
+
+def compare(program, folder, width):
+    """The numbers of rows and of differences."""
+    rows = [*integer_rows(width), *data_rows(width)]
+    own = list(own_rows(width))
+    table = compiled(folder, width, [body for body, _ in rows + own])
+    there = theirs(table, len(rows))
+    differences = 0
+    for n, (body, wanted) in enumerate(rows + own):
+        method = f"T{n:03X}"
+        answers = {"acpicheck": ours(program, table, method)} | ({"acpiexec": there.get(method)} if n < len(rows) else {})
+        for who, answer in answers.items():
+            if answer != wanted:
+                differences += 1
+                print(f"{width} bits: {body}: wanted {wanted!r}, {who} gives {answer!r}")
+    return len(rows) + len(own), differences
+
+
+def main(words):
+    program = words[0] if words else str(ACPICHECK)
+    with tempfile.TemporaryDirectory() as folder:
+        counts = [compare(program, folder, width) for width in (64, 32)]
+    rows, differences = (sum(column) for column in zip(*counts))
+    print(f"{rows} rows, {differences} differences")
+    return differences != 0
+
+
+if __name__ == "__main__":
+    sys.exit(main(sys.argv[1:]))
