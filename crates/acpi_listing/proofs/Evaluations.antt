@@ -1,9 +1,10 @@
 -- Laws of listing names and of evaluating methods.
-use Rattle.std.proofs.Common.{◌≡◌, ℕ, List, Option, Result, Ok, Err}
+use Rattle.std.proofs.Common.{◌≡◌, ◌∙◌, ℕ, List, [], Bor, Option, Result, Ok, Err, ap}
 use Rattle.std.specs.Prelude.{IsErrAnd}
 use Rattle.aml_namespace.specs.declared.object.Method.{Method}
-use Rattle.aml_namespace.specs.Load.{Shown, IsLoaded}
+use Rattle.aml_namespace.specs.Load.{Shown}
 use Rattle.aml_namespace.specs.Names.{IsBodyOf}
+use Rattle.aml_namespace.specs.Shows.{bytes_in}
 use Rattle.aml_operators.specs.Tree.{Tree, trees}
 use Rattle.aml_kinds.specs.Values.{Value}
 use Rattle.aml_plain.specs.declared.body.Outcome.{Outcome}
@@ -13,7 +14,7 @@ use Rattle.acpi_text.specs.Names.{names_text}
 use Rattle.acpi_listing.specs.Arguments.{ListsArguments}
 use Rattle.acpi_listing.specs.Files.{Answers}
 use Rattle.acpi_listing.specs.Inputs.{OpensInputs, ReadsInputs, tables_of}
-use Rattle.acpi_listing.specs.Loading.{Loads, os_name}
+use Rattle.acpi_listing.specs.Loading.{IsNamespace, Loads, interfaces_of}
 use Rattle.acpi_listing.specs.Registers.{OpensRegisters, ReadsRegisters}
 use Rattle.aml_regions.specs.declared.registers.RegisterFile.{RegisterFile}
 use Rattle.acpi_listing.specs.Steps.{Step, Then, Gives, Still, Tells, Writes}
@@ -25,101 +26,106 @@ use Rattle.acpi_listing.specs.declared.inputs.InputNames.{InputNames}
 use Rattle.acpi_listing.specs.declared.inputs.Inputs.{Inputs}
 use Rattle.acpi_listing.proofs.Chains.{given, given_fault, quiet, quiet_fault, still}
 
+-- a namespace with texts that are these
+pub known_texts : (interfaces : List (List ℕ)) (tables : List (List ℕ)) (ns : Shown) (passed known : List (Bor (List ℕ)))
+    → passed ≡ known → bytes_in known ≡ interfaces → IsNamespace (bytes_in passed) tables ns → IsNamespace interfaces tables ns
+known_texts interfaces tables ns passed known same are loaded = (loaded.0, loaded.1 ∙ ap bytes_in same ∙ are)
+
 -- what stands behind the load
 abbrev behind_load : List ℕ → List Value → ℕ → Shown → Step (Unit {0}) ℕ
 behind_load word arguments steps ns =
     Then (Gives (Finds ns word)) (λ found. Then (Gives (ReadsBody ns found.0 found.1)) (EvaluatesBody ns found arguments steps))
 
 -- behind the load
-pub after_load : (word : List ℕ) (arguments : List Value) (steps : ℕ) (tables : List (List ℕ)) (ns : Shown) (held holds : Option (List ℕ)) (r : Result ℕ Stop)
-    → IsLoaded tables os_name ns → Writes (behind_load word arguments steps ns) tt tt held holds r
-    → Writes (EvaluatesTables word arguments steps tables) tt tt held holds r
-after_load word arguments steps tables ns held holds r loaded = given (Loads tables) (behind_load word arguments steps) tt tt held holds ns r loaded
+pub after_load : (word : List ℕ) (arguments : List Value) (steps : ℕ) (interfaces : List (List ℕ)) (tables : List (List ℕ)) (ns : Shown) (held holds : Option (List ℕ)) (r : Result ℕ Stop)
+    → IsNamespace interfaces tables ns → Writes (behind_load word arguments steps ns) tt tt held holds r
+    → Writes (EvaluatesTables word arguments steps interfaces tables) tt tt held holds r
+after_load word arguments steps interfaces tables ns held holds r loaded = given (Loads interfaces tables) (behind_load word arguments steps) tt tt held holds ns r loaded
 
 -- behind the method
-pub after_find : (word : List ℕ) (arguments : List Value) (steps : ℕ) (tables : List (List ℕ)) (ns : Shown) (id : ℕ) (m : Method) (held holds : Option (List ℕ)) (r : Result ℕ Stop)
-    → IsLoaded tables os_name ns → IsMethodAt ns word id m
+pub after_find : (word : List ℕ) (arguments : List Value) (steps : ℕ) (interfaces : List (List ℕ)) (tables : List (List ℕ)) (ns : Shown) (id : ℕ) (m : Method) (held holds : Option (List ℕ)) (r : Result ℕ Stop)
+    → IsNamespace interfaces tables ns → IsMethodAt ns word id m
     → Writes (Then (Gives (ReadsBody ns id m)) (EvaluatesBody ns (id, m) arguments steps)) tt tt held holds r
-    → Writes (EvaluatesTables word arguments steps tables) tt tt held holds r
-after_find word arguments steps tables ns id m held holds r loaded names does =
-    after_load word arguments steps tables ns held holds r loaded
+    → Writes (EvaluatesTables word arguments steps interfaces tables) tt tt held holds r
+after_find word arguments steps interfaces tables ns id m held holds r loaded names does =
+    after_load word arguments steps interfaces tables ns held holds r loaded
     (given (Finds ns word) (λ found. Then (Gives (ReadsBody ns found.0 found.1)) (EvaluatesBody ns found arguments steps)) tt tt held holds (id, m) r names does)
 
 -- behind the body's reading
-pub after_body : (word : List ℕ) (arguments : List Value) (steps : ℕ) (tables : List (List ℕ)) (ns : Shown) (id : ℕ) (m : Method) (body : Result (List Tree) Refusal) (held holds : Option (List ℕ)) (r : Result ℕ Stop)
-    → IsLoaded tables os_name ns → IsMethodAt ns word id m → ReadsBody ns id m (Ok body)
+pub after_body : (word : List ℕ) (arguments : List Value) (steps : ℕ) (interfaces : List (List ℕ)) (tables : List (List ℕ)) (ns : Shown) (id : ℕ) (m : Method) (body : Result (List Tree) Refusal) (held holds : Option (List ℕ)) (r : Result ℕ Stop)
+    → IsNamespace interfaces tables ns → IsMethodAt ns word id m → ReadsBody ns id m (Ok body)
     → Writes (EvaluatesBody ns (id, m) arguments steps body) tt tt held holds r
-    → Writes (EvaluatesTables word arguments steps tables) tt tt held holds r
-after_body word arguments steps tables ns id m body held holds r loaded names reads does =
-    after_find word arguments steps tables ns id m held holds r loaded names
+    → Writes (EvaluatesTables word arguments steps interfaces tables) tt tt held holds r
+after_body word arguments steps interfaces tables ns id m body held holds r loaded names reads does =
+    after_find word arguments steps interfaces tables ns id m held holds r loaded names
     (given (ReadsBody ns id m) (EvaluatesBody ns (id, m) arguments steps) tt tt held holds body r reads does)
 
 -- behind the evaluation
-pub after_outcome : (word : List ℕ) (arguments : List Value) (steps : ℕ) (tables : List (List ℕ)) (ns : Shown) (id : ℕ) (m : Method) (ts : List Tree) (outcome : Outcome × List Event) (held holds : Option (List ℕ)) (r : Result ℕ Stop)
-    → IsLoaded tables os_name ns → IsMethodAt ns word id m → IsBodyOf ns id m ts → Takes ns m arguments → IsMeant ns id m (trees ts) arguments steps (Ok outcome)
+pub after_outcome : (word : List ℕ) (arguments : List Value) (steps : ℕ) (interfaces : List (List ℕ)) (tables : List (List ℕ)) (ns : Shown) (id : ℕ) (m : Method) (ts : List Tree) (outcome : Outcome × List Event) (held holds : Option (List ℕ)) (r : Result ℕ Stop)
+    → IsNamespace interfaces tables ns → IsMethodAt ns word id m → IsBodyOf ns id m ts → Takes ns m arguments → IsMeant ns id m (trees ts) arguments steps (Ok outcome)
     → Writes (Tells (evaluation_text ns.entries outcome) (outcome_status outcome.0)) (tt {0}) (tt {0}) held holds r
-    → Writes (EvaluatesTables word arguments steps tables) tt tt held holds r
-after_outcome word arguments steps tables ns id m ts outcome held holds r loaded names body takes meant does =
-    after_body word arguments steps tables ns id m (Ok ts) held holds r loaded names body
+    → Writes (EvaluatesTables word arguments steps interfaces tables) tt tt held holds r
+after_outcome word arguments steps interfaces tables ns id m ts outcome held holds r loaded names body takes meant does =
+    after_body word arguments steps interfaces tables ns id m (Ok ts) held holds r loaded names body
     (given (Fit ns m arguments) (λ _. Then (Gives (IsMeant ns id m (trees ts) arguments steps)) (λ o. Tells (evaluation_text ns.entries o) (outcome_status o.0))) tt tt held holds tt r takes
     (given (IsMeant ns id m (trees ts) arguments steps) (λ o. Tells (evaluation_text ns.entries o) (outcome_status o.0)) tt tt held holds outcome r meant does))
 
 -- an evaluation that wants memory
-pub no_outcome : (word : List ℕ) (arguments : List Value) (steps : ℕ) (tables : List (List ℕ)) (ns : Shown) (id : ℕ) (m : Method) (ts : List Tree) (f : Fault) (held : Option (List ℕ)) (r : Result ℕ Stop)
-    → IsErrAnd r (λ s. s ≡ Faulty f) → IsLoaded tables os_name ns → IsMethodAt ns word id m → IsBodyOf ns id m ts → Takes ns m arguments → IsMeant ns id m (trees ts) arguments steps (Err f)
-    → Writes (EvaluatesTables word arguments steps tables) tt tt held held r
-no_outcome word arguments steps tables ns id m ts f held r is loaded names body takes meant =
-    after_body word arguments steps tables ns id m (Ok ts) held held r loaded names body
+pub no_outcome : (word : List ℕ) (arguments : List Value) (steps : ℕ) (interfaces : List (List ℕ)) (tables : List (List ℕ)) (ns : Shown) (id : ℕ) (m : Method) (ts : List Tree) (f : Fault) (held : Option (List ℕ)) (r : Result ℕ Stop)
+    → IsErrAnd r (λ s. s ≡ Faulty f) → IsNamespace interfaces tables ns → IsMethodAt ns word id m → IsBodyOf ns id m ts → Takes ns m arguments → IsMeant ns id m (trees ts) arguments steps (Err f)
+    → Writes (EvaluatesTables word arguments steps interfaces tables) tt tt held held r
+no_outcome word arguments steps interfaces tables ns id m ts f held r is loaded names body takes meant =
+    after_body word arguments steps interfaces tables ns id m (Ok ts) held held r loaded names body
     (given (Fit ns m arguments) (λ _. Then (Gives (IsMeant ns id m (trees ts) arguments steps)) (λ o. Tells (evaluation_text ns.entries o) (outcome_status o.0))) tt tt held held tt r takes
     (given_fault (IsMeant ns id m (trees ts) arguments steps) (λ o. Tells (evaluation_text ns.entries o) (outcome_status o.0)) tt held f r is meant))
 
 -- what stands behind the inputs, behind the registers, and behind the arguments
-abbrev behind_inputs : {F : Type 0} → List ℕ → List Value → ℕ → Inputs → Step F ℕ
-behind_inputs word arguments steps inputs = Still (EvaluatesTables word arguments steps (tables_of inputs))
+abbrev behind_inputs : {F : Type 0} → List ℕ → List Value → ℕ → Option (List ℕ) → Inputs → Step F ℕ
+behind_inputs word arguments steps osi inputs = Still (EvaluatesTables word arguments steps (interfaces_of osi) (tables_of inputs))
 
-abbrev behind_registers : {F : Type 0} → Answers F → InputNames → List ℕ → ℕ → List Value → RegisterFile → Step F ℕ
-behind_registers answers names word steps arguments registers = Then (ReadsInputs answers names) (behind_inputs word arguments steps)
+abbrev behind_registers : {F : Type 0} → Answers F → InputNames → List ℕ → ℕ → Option (List ℕ) → List Value → RegisterFile → Step F ℕ
+behind_registers answers names word steps osi arguments registers = Then (ReadsInputs answers names) (behind_inputs word arguments steps osi)
 
-abbrev behind_arguments : {F : Type 0} → Answers F → InputNames → List ℕ → Option (List ℕ) → ℕ → List Value → Step F ℕ
-behind_arguments answers names word regs steps arguments =
-    Then (ReadsRegisters answers regs) (behind_registers answers names word steps arguments)
+abbrev behind_arguments : {F : Type 0} → Answers F → InputNames → List ℕ → Option (List ℕ) → ℕ → Option (List ℕ) → List Value → Step F ℕ
+behind_arguments answers names word regs steps osi arguments =
+    Then (ReadsRegisters answers regs) (behind_registers answers names word steps osi arguments)
 
 -- arguments that cannot be read
-pub no_arguments : {F : Type 0} (answers : Answers F) (old : F) (names : InputNames) (word : List ℕ) (args regs : Option (List ℕ)) (steps : ℕ) (held : Option (List ℕ)) (f : Fault) (r : Result ℕ Stop)
-    → IsErrAnd r (λ s. s ≡ Faulty f) → ReadsArguments args (Err f) → Writes (EvaluatesFiles answers names word args regs steps) old old held held r
-no_arguments answers old names word args regs steps held f r is bad =
-    given_fault (ReadsArguments args) (behind_arguments answers names word regs steps) old held f r is bad
+pub no_arguments : {F : Type 0} (answers : Answers F) (old : F) (names : InputNames) (word : List ℕ) (args regs : Option (List ℕ)) (steps : ℕ) (osi : Option (List ℕ)) (held : Option (List ℕ)) (f : Fault) (r : Result ℕ Stop)
+    → IsErrAnd r (λ s. s ≡ Faulty f) → ReadsArguments args (Err f) → Writes (EvaluatesFiles answers names word args regs steps osi) old old held held r
+no_arguments answers old names word args regs steps osi held f r is bad =
+    given_fault (ReadsArguments args) (behind_arguments answers names word regs steps osi) old held f r is bad
 
 -- registers that cannot be set
-pub no_registers : {F : Type 0} (answers : Answers F) (old new : F) (names : InputNames) (word : List ℕ) (args regs : Option (List ℕ)) (arguments : List Value) (steps : ℕ) (held : Option (List ℕ)) (f : Fault) (r : Result ℕ Stop)
-    → IsErrAnd r (λ s. s ≡ Faulty f) → ListsArguments args arguments → OpensRegisters answers old regs (Err f) new → Writes (EvaluatesFiles answers names word args regs steps) old new held held r
-no_registers answers old new names word args regs arguments steps held f r is lists opens =
-    given (ReadsArguments args) (behind_arguments answers names word regs steps) old new held held arguments r lists
-    (quiet_fault (λ o x n. OpensRegisters answers o regs x n) (behind_registers answers names word steps arguments) old new held f r is opens)
+pub no_registers : {F : Type 0} (answers : Answers F) (old new : F) (names : InputNames) (word : List ℕ) (args regs : Option (List ℕ)) (arguments : List Value) (steps : ℕ) (osi : Option (List ℕ)) (held : Option (List ℕ)) (f : Fault) (r : Result ℕ Stop)
+    → IsErrAnd r (λ s. s ≡ Faulty f) → ListsArguments args arguments → OpensRegisters answers old regs (Err f) new → Writes (EvaluatesFiles answers names word args regs steps osi) old new held held r
+no_registers answers old new names word args regs arguments steps osi held f r is lists opens =
+    given (ReadsArguments args) (behind_arguments answers names word regs steps osi) old new held held arguments r lists
+    (quiet_fault (λ o x n. OpensRegisters answers o regs x n) (behind_registers answers names word steps osi arguments) old new held f r is opens)
 
 -- inputs that cannot be read
-pub no_inputs : {F : Type 0} (answers : Answers F) (old mid new : F) (names : InputNames) (word : List ℕ) (args regs : Option (List ℕ)) (arguments : List Value) (registers : RegisterFile) (steps : ℕ) (held : Option (List ℕ)) (f : Fault) (r : Result ℕ Stop)
+pub no_inputs : {F : Type 0} (answers : Answers F) (old mid new : F) (names : InputNames) (word : List ℕ) (args regs : Option (List ℕ)) (arguments : List Value) (registers : RegisterFile) (steps : ℕ) (osi : Option (List ℕ)) (held : Option (List ℕ)) (f : Fault) (r : Result ℕ Stop)
     → IsErrAnd r (λ s. s ≡ Faulty f) → ListsArguments args arguments → OpensRegisters answers old regs (Ok registers) mid → OpensInputs answers mid names (Err f) new
-    → Writes (EvaluatesFiles answers names word args regs steps) old new held held r
-no_inputs answers old mid new names word args regs arguments registers steps held f r is lists sets opens =
-    given (ReadsArguments args) (behind_arguments answers names word regs steps) old new held held arguments r lists
-    (quiet (λ o x n. OpensRegisters answers o regs x n) (behind_registers answers names word steps arguments) old mid new held held registers r sets
-    (quiet_fault (λ o x n. OpensInputs answers o names x n) (behind_inputs word arguments steps) mid new held f r is opens))
+    → Writes (EvaluatesFiles answers names word args regs steps osi) old new held held r
+no_inputs answers old mid new names word args regs arguments registers steps osi held f r is lists sets opens =
+    given (ReadsArguments args) (behind_arguments answers names word regs steps osi) old new held held arguments r lists
+    (quiet (λ o x n. OpensRegisters answers o regs x n) (behind_registers answers names word steps osi arguments) old mid new held held registers r sets
+    (quiet_fault (λ o x n. OpensInputs answers o names x n) (behind_inputs word arguments steps osi) mid new held f r is opens))
 
 -- inputs that were read
-pub inputs_evaluated : {F : Type 0} (answers : Answers F) (old mid new : F) (names : InputNames) (word : List ℕ) (args regs : Option (List ℕ)) (arguments : List Value) (registers : RegisterFile) (inputs : Inputs) (steps : ℕ) (held holds : Option (List ℕ)) (r : Result ℕ Stop)
+pub inputs_evaluated : {F : Type 0} (answers : Answers F) (old mid new : F) (names : InputNames) (word : List ℕ) (args regs : Option (List ℕ)) (arguments : List Value) (registers : RegisterFile) (inputs : Inputs) (steps : ℕ) (osi : Option (List ℕ)) (held holds : Option (List ℕ)) (r : Result ℕ Stop)
     → ListsArguments args arguments → OpensRegisters answers old regs (Ok registers) mid → OpensInputs answers mid names (Ok inputs) new
-    → Writes (EvaluatesTables word arguments steps (tables_of inputs)) tt tt held holds r
-    → Writes (EvaluatesFiles answers names word args regs steps) old new held holds r
-inputs_evaluated answers old mid new names word args regs arguments registers inputs steps held holds r lists sets opens does =
-    given (ReadsArguments args) (behind_arguments answers names word regs steps) old new held holds arguments r lists
-    (quiet (λ o x n. OpensRegisters answers o regs x n) (behind_registers answers names word steps arguments) old mid new held holds registers r sets
-    (quiet (λ o x n. OpensInputs answers o names x n) (behind_inputs word arguments steps) mid new new held holds inputs r opens
-    (still (EvaluatesTables word arguments steps (tables_of inputs)) new held holds r does)))
+    → Writes (EvaluatesTables word arguments steps (interfaces_of osi) (tables_of inputs)) tt tt held holds r
+    → Writes (EvaluatesFiles answers names word args regs steps osi) old new held holds r
+inputs_evaluated answers old mid new names word args regs arguments registers inputs steps osi held holds r lists sets opens does =
+    given (ReadsArguments args) (behind_arguments answers names word regs steps osi) old new held holds arguments r lists
+    (quiet (λ o x n. OpensRegisters answers o regs x n) (behind_registers answers names word steps osi arguments) old mid new held holds registers r sets
+    (quiet (λ o x n. OpensInputs answers o names x n) (behind_inputs word arguments steps osi) mid new new held holds inputs r opens
+    (still (EvaluatesTables word arguments steps (interfaces_of osi) (tables_of inputs)) new held holds r does)))
 
 -- what stands behind the inputs of `names`, and behind their load
 abbrev behind_tables : {F : Type 0} → Inputs → Step F ℕ
-behind_tables inputs = Then (Gives (Loads (tables_of inputs))) (λ ns. Tells (names_text ns) 0)
+behind_tables inputs = Then (Gives (Loads [] (tables_of inputs))) (λ ns. Tells (names_text ns) 0)
 
 -- no names: inputs that cannot be read, or tables that cannot be loaded
 pub no_names : {F : Type 0} (answers : Answers F) (old new : F) (names : InputNames) (held : Option (List ℕ)) (f : Fault) (r : Result ℕ Stop)
@@ -127,15 +133,15 @@ pub no_names : {F : Type 0} (answers : Answers F) (old new : F) (names : InputNa
 no_names answers old new names held f r is opens = quiet_fault (λ o x n. OpensInputs answers o names x n) behind_tables old new held f r is opens
 
 pub no_namespace : {F : Type 0} (answers : Answers F) (old new : F) (names : InputNames) (inputs : Inputs) (held : Option (List ℕ)) (f : Fault) (r : Result ℕ Stop)
-    → IsErrAnd r (λ s. s ≡ Faulty f) → OpensInputs answers old names (Ok inputs) new → Loads (tables_of inputs) (Err f) → Writes (ListsNames answers names) old new held held r
+    → IsErrAnd r (λ s. s ≡ Faulty f) → OpensInputs answers old names (Ok inputs) new → Loads [] (tables_of inputs) (Err f) → Writes (ListsNames answers names) old new held held r
 no_namespace answers old new names inputs held f r is opens fails =
     quiet (λ o x n. OpensInputs answers o names x n) behind_tables old new new held held inputs r opens
-    (given_fault (Loads (tables_of inputs)) (λ ns. Tells (names_text ns) 0) new held f r is fails)
+    (given_fault (Loads [] (tables_of inputs)) (λ ns. Tells (names_text ns) 0) new held f r is fails)
 
 -- the names of tables that were loaded
 pub names_listed : {F : Type 0} (answers : Answers F) (old new : F) (names : InputNames) (inputs : Inputs) (ns : Shown) (held holds : Option (List ℕ)) (r : Result ℕ Stop)
-    → OpensInputs answers old names (Ok inputs) new → Loads (tables_of inputs) (Ok ns) → Writes (Tells (names_text ns) 0) new new held holds r
+    → OpensInputs answers old names (Ok inputs) new → Loads [] (tables_of inputs) (Ok ns) → Writes (Tells (names_text ns) 0) new new held holds r
     → Writes (ListsNames answers names) old new held holds r
 names_listed answers old new names inputs ns held holds r opens loaded tells =
     quiet (λ o x n. OpensInputs answers o names x n) behind_tables old new new held holds inputs r opens
-    (given (Loads (tables_of inputs)) (λ shown. Tells (names_text shown) 0) new new held holds ns r loaded tells)
+    (given (Loads [] (tables_of inputs)) (λ shown. Tells (names_text shown) 0) new new held holds ns r loaded tells)

@@ -43,6 +43,10 @@ plain_rule = record (option_rule (codes "plain")) {
   parser = Some (Unsigned 0 18446744073709551615);
 }
 
+-- the text that `_OSI` knows
+abbrev pub osi_rule : Rule
+osi_rule = option_rule (codes "osi")
+
 -- a command that takes files alone
 abbrev pub files_app : List ℕ → App
 files_app name = with_rule (new_app name) files_rule
@@ -50,12 +54,12 @@ files_app name = with_rule (new_app name) files_rule
 abbrev pub names_app : App
 names_app = with_rule (with_rule (new_app (codes "names")) dead_externals_rule) files_rule
 
--- `eval` without the options of its tables
+-- `eval` without the options of its tables and of the system
 abbrev pub method_app : App
 method_app = with_rule (with_rule (with_rule (with_rule (new_app (codes "eval")) method_rule) args_rule) regs_rule) plain_rule
 
 abbrev pub eval_app : App
-eval_app = with_rule (with_rule method_app dead_externals_rule) files_rule
+eval_app = with_rule (with_rule (with_rule method_app osi_rule) dead_externals_rule) files_rule
 
 -- the words have no program's name in front, and one of the commands is wanted
 abbrev pub commands_app : App

@@ -26,7 +26,7 @@ use Rattle.acpi_text.specs.Outcome.{outcome_line, refusal_line}
 use Rattle.acpi_listing.specs.Faults.{fault_line, nowhere}
 use Rattle.acpi_listing.specs.Files.{Answers, ListsFiles}
 use Rattle.acpi_listing.specs.Inputs.{ReadsInputs, tables_of}
-use Rattle.acpi_listing.specs.Loading.{Loads}
+use Rattle.acpi_listing.specs.Loading.{Loads, interfaces_of}
 use Rattle.acpi_listing.specs.Registers.{ReadsRegisters}
 use Rattle.acpi_listing.specs.Steps.{Step, Then, Gives, Still, Tells, Tries}
 use Rattle.acpi_listing.specs.FirstLine.{StartsWith, FailsToStart}
@@ -118,7 +118,7 @@ with_events (Err f) events = Err f
 abbrev pub ListsNames : {F : Type 0} → Answers F → InputNames → Step F ℕ
 ListsNames answers names =
     Then (ReadsInputs answers names) (λ inputs.
-    Then (Gives (Loads (tables_of inputs))) (λ ns.
+    Then (Gives (Loads [] (tables_of inputs))) (λ ns.
     Tells (names_text ns) 0))
 
 -- the first path of the object with a number, as it is printed
@@ -133,20 +133,20 @@ EvaluatesBody ns (id, m) arguments steps (Ok ts) =
     Then (Gives (IsMeant ns id m (trees ts) arguments steps)) (λ ended.
     Tells (evaluation_text ns.entries ended) (outcome_status ended.0)))
 
--- `eval` of tables: the load, the method of that path, its body
-abbrev pub EvaluatesTables : List ℕ → List Value → ℕ → List (List ℕ) → Step (Unit {0}) ℕ
-EvaluatesTables word arguments steps tables =
-    Then (Gives (Loads tables)) (λ ns.
+-- `eval` of tables, where `_OSI` knows these texts: the load, the method of that path, its body
+abbrev pub EvaluatesTables : List ℕ → List Value → ℕ → List (List ℕ) → List (List ℕ) → Step (Unit {0}) ℕ
+EvaluatesTables word arguments steps interfaces tables =
+    Then (Gives (Loads interfaces tables)) (λ ns.
     Then (Gives (Finds ns word)) (λ found.
     Then (Gives (ReadsBody ns found.0 found.1)) (EvaluatesBody ns found arguments steps)))
 
--- `eval`: the arguments, the registers, the files, their tables
-abbrev pub EvaluatesFiles : {F : Type 0} → Answers F → InputNames → List ℕ → Option (List ℕ) → Option (List ℕ) → ℕ → Step F ℕ
-EvaluatesFiles answers names word args regs steps =
+-- `eval`: the arguments, the registers, the files, their tables, where `_OSI` knows the text of `--osi`
+abbrev pub EvaluatesFiles : {F : Type 0} → Answers F → InputNames → List ℕ → Option (List ℕ) → Option (List ℕ) → ℕ → Option (List ℕ) → Step F ℕ
+EvaluatesFiles answers names word args regs steps osi =
     Then (Gives (ReadsArguments args)) (λ arguments.
     Then (ReadsRegisters answers regs) (λ registers.
     Then (ReadsInputs answers names) (λ inputs.
-    Still (EvaluatesTables word arguments steps (tables_of inputs)))))
+    Still (EvaluatesTables word arguments steps (interfaces_of osi) (tables_of inputs)))))
 
 -- what the words ask for, or why there is nothing
 abbrev pub Asks : List (List ℕ) → Result Request Fault → Type 0
@@ -156,7 +156,7 @@ Asks words = Tries (AsksFor words) (λ f. (f ≡ nowhere cause.CommandLine) × A
 abbrev pub Obeys : {F : Type 0} → Answers F → Request → Step F ℕ
 Obeys answers (Tables names) = ListsFiles answers 0 (map (λ name. name.now) (vec_items names))
 Obeys answers (Names names) = ListsNames answers names
-Obeys answers (Eval request) = EvaluatesFiles answers request.inputs request.method.now (option_map (λ text. text.now) request.args) (option_map (λ name. name.now) request.regs) request.steps
+Obeys answers (Eval request) = EvaluatesFiles answers request.inputs request.method.now (option_map (λ text. text.now) request.args) (option_map (λ name. name.now) request.regs) request.steps (option_map (λ text. text.now) request.osi)
 
 -- a command: its words, and what they ask for
 abbrev pub ObeysWords : {F : Type 0} → Answers F → List (List ℕ) → Step F ℕ

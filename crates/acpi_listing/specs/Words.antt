@@ -33,6 +33,7 @@ HasParts rows request =
     × (first_of (codes "args") rows ≡ option_map (λ text. text.now) request.args)
     × (first_of (codes "regs") rows ≡ option_map (λ name. name.now) request.regs)
     × ((text : Text) × (one_of (codes "plain") rows ≡ Some text) × IsCount text request.steps)
+    × (first_of (codes "osi") rows ≡ option_map (λ text. text.now) request.osi)
 
 -- a command and what its words gave is a request
 abbrev pub IsRequest : Option (Text × List Row) → Request → Type 0

@@ -5,7 +5,7 @@ ghost use Rattle.std.specs.Prelude.{IfOk, IfErr, length, map, option_map, vec_it
 ghost use Rattle.acpi_listing.specs.Arguments.{ListsArguments, ListsBadArguments};
 ghost use Rattle.aml_kinds.specs.Views.{view};
 ghost use Rattle.aml_namespace.specs.Names.{method_at};
-ghost use Rattle.aml_namespace.specs.Shows.{shown};
+ghost use Rattle.aml_namespace.specs.Shows.{bytes_in, shown};
 ghost use Rattle.acpi_listing.specs.Commands.{EvaluatesFiles, EvaluatesTables, IsMethodAt, IsNoMethodAt, printed_path};
 ghost use Rattle.acpi_listing.specs.Commands.{IsMeant, Takes, are_taken, evaluation_text, is_taken, outcome_status, with_events};
 ghost use Rattle.aml_operators.specs.declared.row.Code.TheVariants as code;
@@ -13,6 +13,7 @@ ghost use Rattle.aml_operators.specs.Shape.{AreShaped};
 ghost use Rattle.aml_operators.specs.Tree.{views};
 ghost use Rattle.acpi_listing.specs.Steps.{Tells, Tries, Writes};
 ghost use Rattle.acpi_listing.specs.Inputs.{tables_of};
+ghost use Rattle.acpi_listing.specs.Loading.{interfaces_of};
 ghost use Rattle.acpi_text.specs.Lists.{Lists};
 ghost use Rattle.acpi_text.specs.Outcome.{refusal_line};
 ghost use Rattle.acpi_listing.specs.Faults.{nowhere};
@@ -45,7 +46,8 @@ pub fn evaluate<F: Source, W: Write>(
     ensures status { IfOk result (λ status. status ≤ 3) }
     ensures printed { Writes (EvaluatesFiles F.answers request.now.inputs request.now.method.now
         (option_map (λ text. text.now) request.now.args)
-        (option_map (λ name. name.now) request.now.regs) request.now.steps)
+        (option_map (λ name. name.now) request.now.regs) request.now.steps
+        (option_map (λ text. text.now) request.now.osi))
         files.old files.new (W.contents out.old) (W.contents out.new) result }
 {
     let arguments = arguments_of(alloc, request)?;
@@ -65,6 +67,19 @@ fn arguments_of(alloc: Global, request: &EvalRequest<'_>) -> Result<Vec<Value>, 
     }
 }
 
+// The texts that `_OSI` knows.
+fn interfaces_of<'a>(alloc: Global, osi: Option<&'a str>) -> Result<Vec<&'a [u8]>, Fault>
+    ensures known { let texts = interfaces_of (option_map (λ text. text.now) osi.entry) in
+        IfOk result (λ known. bytes_in (vec_items known) ≡ texts) }
+    ensures fault { IfErr result (λ f. f ≡ nowhere cause.NoMemory) }
+{
+    let mut known = Vec::new(alloc);
+    if let Some(text) = osi {
+        known.push(text.as_bytes())?;
+    }
+    Ok(known)
+}
+
 // Evaluates a method of the tables that were read, over registers.
 fn evaluate_inputs<F: Source, W: Write>(
     alloc: Global,
@@ -78,10 +93,11 @@ fn evaluate_inputs<F: Source, W: Write>(
     requires { registers.events.items ≡ [] }
     ensures status { IfOk result (λ status. status ≤ 3) }
     ensures printed { Writes (EvaluatesTables request.now.method.now (map view (vec_items arguments))
-        request.now.steps (tables_of inputs.now)) tt tt (W.contents out.old) (W.contents out.new)
-        result }
+        request.now.steps (interfaces_of (option_map (λ text. text.now) request.now.osi))
+        (tables_of inputs.now)) tt tt (W.contents out.old) (W.contents out.new) result }
 {
-    let namespace = load(alloc, inputs, files)?;
+    let known = interfaces_of(alloc, request.osi)?;
+    let namespace = load(alloc, inputs, known.as_slice(), files)?;
     let (id, method) = find_method(&namespace, request.method)?;
     let body = match namespace.tree(alloc, id) {
         Ok(body) => body,

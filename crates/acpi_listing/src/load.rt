@@ -2,9 +2,8 @@
 
 ghost use Rattle.std.specs.Prelude.{◌≡◌, IfOk, length, map, vec_items};
 ghost use Rattle.acpi_listing.specs.Inputs.{tables_of};
-ghost use Rattle.acpi_listing.specs.Loading.{FailsToLoad, os_name};
+ghost use Rattle.acpi_listing.specs.Loading.{FailsToLoad, IsNamespace};
 ghost use Rattle.acpi_listing.specs.Steps.{Tries};
-ghost use Rattle.aml_namespace.specs.Load.{IsLoaded};
 ghost use Rattle.aml_namespace.specs.Shows.{bytes_in, shown};
 
 use crate::fault::Fault;
@@ -18,22 +17,21 @@ use std::alloc::{AllocError, Global};
 /// The text of `_OS_`.
 const OS_NAME: &[u8] = b"acpicheck";
 
-/// Loads the tables that were read, each with its number in the order of the files.
+/// Loads the tables that were read, each with its number in the order of the files, with the texts that
+/// `_OSI` knows.
 ///
 /// Faults: E101 to E104, E201 to E209, E301 to E304, with table and place; E524.
 pub fn load<'a, F: Source>(
     alloc: Global,
     inputs: &'a Inputs,
+    osi: &'a [&'a [u8]],
     files: &F,
 ) -> Result<Namespace<'a>, Fault>
     ensures { let tables = tables_of inputs.now in
-        Tries (λ ns. IsLoaded tables os_name (shown ns)) (FailsToLoad tables) result }
+        Tries (λ ns. IsNamespace (bytes_in osi.entry.now) tables (shown ns)) (FailsToLoad tables) result }
 {
     let tables = slices_of(alloc, inputs.files.as_slice())?;
-    let host = Host {
-        os: OS_NAME,
-        osi: &[],
-    };
+    let host = Host { os: OS_NAME, osi };
     match Namespace::load(alloc, tables.as_slice(), host) {
         Ok(namespace) => Ok(namespace),
         Err(fault) => {

@@ -24,7 +24,7 @@ pub fn list_names_of<F: Source, W: Write>(
         files.old files.new (W.contents out.old) (W.contents out.new) result }
 {
     let inputs = Inputs::read(alloc, names, files)?;
-    let namespace = load(alloc, &inputs, &*files)?;
+    let namespace = load(alloc, &inputs, &[], &*files)?;
     list_names(alloc, out, &namespace)?;
     Ok(0)
 }

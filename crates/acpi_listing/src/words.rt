@@ -40,6 +40,8 @@ pub struct EvalRequest<'a> {
     pub regs: Option<&'a str>,
     /// The number of steps.
     pub steps: u64,
+    /// The text that `_OSI` knows.
+    pub osi: Option<&'a str>,
 }
 
 /// Reads the words: a command, its options, and last its files.
@@ -120,11 +122,12 @@ fn eval_command<'a>(alloc: Global) -> Result<Command<'a>, AllocError>
     ensures local { IfOk result (λ c. (fields_of c).has_globals ≡ false) }
 {
     method_command(alloc)?
+        .arg(option_arg(alloc, "osi"))?
         .arg(flag_arg(alloc, "dead-externals"))?
         .arg(files_arg(alloc))
 }
 
-// The command that evaluates a method, without the options of its tables.
+// The command that evaluates a method, without the options of its tables and of the system.
 fn method_command<'a>(alloc: Global) -> Result<Command<'a>, AllocError>
     ensures app { IfOk result (λ c. app_of c ≡ method_app) }
     ensures local { IfOk result (λ c. (fields_of c).has_globals ≡ false) }
@@ -248,5 +251,6 @@ fn eval_of<'a>(alloc: Global, found: &ArgMatches<'a>) -> Result<EvalRequest<'a>,
         args: found.get_str("args"),
         regs: found.get_str("regs"),
         steps,
+        osi: found.get_str("osi"),
     })
 }

@@ -1,5 +1,5 @@
 -- Bytes that a field's bits are put into, a run at a time.
-use Rattle.std.proofs.Common.{◌≡◌, ℕ, zero, suc, ◌+◌, ◌-◌, ◌*◌, ◌<◌, ◌≤◌, Bool, true, false, List, length, get_or, map, ⊎_elim, refl, sym, ap, ◌∙◌, arith}
+use Rattle.std.proofs.Common.{◌≡◌, ℕ, zero, suc, ◌+◌, ◌-◌, ◌*◌, ◌^◌, ◌<◌, ◌≤◌, Bool, true, false, List, length, get_or, map, ⊎_elim, refl, sym, ap, ◌∙◌, arith}
 use Rattle.std.proofs.lemmas.Bool.{cases_lt}
 use Rattle.std.proofs.lemmas.Bool.Decides.{nat_tests}
 use Rattle.std.proofs.lemmas.List.FromFn.{fill_by_all, length-map-range_with_len, get_or-map-range_with_len}
@@ -7,7 +7,7 @@ use Rattle.std.specs.Prelude.{nat_lt, if◌then◌else◌}
 use Rattle.std.specs.List.{range_with_len}
 use Rattle.std.specs.Int.{bit_at}
 use Rattle.aml_regions.specs.Bits.{number}
-use Rattle.aml_fields.proofs.Numbers.{number_same, bit_at-number}
+use Rattle.aml_fields.proofs.Numbers.{number-add, number_same, bit_at-number}
 use Rattle.aml_regions.specs.Fields.{has, mixed}
 use Rattle.aml_regions.specs.BufferFields.{bytes_of, in_bytes, stored}
 use Rattle.aml_fields.proofs.Tests.{below_lt, past_lt, within_lt}
@@ -67,7 +67,25 @@ unfolding number
 zero_number zero x h = refl
 zero_number (suc n) x h = let t = h n in let l = zero_number n x h in rw (t, l) (omega arith)
 
+zero_number_of : (x : ℕ → ℕ) → number 0 x ≡ 0
+unfolding number
+zero_number_of x = refl
+
 -- before the first bit there are zeros
 pub bytes_none : (bytes : List ℕ) (size : ℕ) (b : ℕ → ℕ) → length bytes ≡ size → ((k : ℕ) → k < size → get_or bytes k 0 ≡ 0) → bytes ≡ bytes_of size 0 b
 unfolding bytes_of
 bytes_none bytes size b len zeros = fill_by_all _ bytes size 0 len (λ k lt. zeros k lt ∙ sym (zero_number 8 _ (λ i. so_far_out 0 b (k * 8 + i) (omega arith))))
+
+-- a byte of the bits that are there: those that it has, and zeros behind them
+pub byte_so_far : (n take m : ℕ) (f : ℕ → ℕ) → take ≤ 8 → m * 8 + take ≤ n → (take < 8 → n ≤ m * 8 + take) → number take (λ i. f (m * 8 + i)) ≡ number 8 (λ i. so_far n f (m * 8 + i))
+byte_so_far n take m f most within last =
+    let g = λ (i : ℕ). so_far n f (m * 8 + i) in
+    let e : take + (8 - take) ≡ 8 = omega arith in
+    let past : number (8 - take) (λ i. g (take + i)) ≡ 0 = ⊎_elim
+    (λ (some : take < 8). let l = last some in zero_number (8 - take) _ (λ i. so_far_out n f (m * 8 + (take + i)) (omega (arith, l))))
+    (λ (all : 8 ≤ take). let z : 8 - take ≡ 0 = omega arith in rw z (zero_number_of (λ i. g (take + i))))
+    (cases_lt take 8) in
+    let low : number take (λ i. f (m * 8 + i)) ≡ number take g = number_same take _ _ (λ i lt. sym (so_far_in n f (m * 8 + i) (omega arith))) in
+    let whole : number (take + (8 - take)) g ≡ number (8 - take) (λ i. g (take + i)) * 2 ^ take + number take g = number-add take (8 - take) g in
+    let none : 0 * 2 ^ take + number take g ≡ number take g = omega arith in
+    low ∙ sym (ap (λ k. number k g) (sym e) ∙ whole ∙ ap (λ x. x * 2 ^ take + number take g) past ∙ none)

@@ -1,8 +1,8 @@
 // Fields of buffers (ACPI 6.5, 19.6, CreateField and its kin).
 
-ghost use Rattle.std.specs.Prelude.{◌≡◌, ◌<◌, ◌≤◌, ◌+◌, ◌*◌, ◌^◌, length};
+ghost use Rattle.std.specs.Prelude.{◌≡◌, ◌<◌, ◌≤◌, ◌+◌, ◌*◌, ◌/◌, ◌^◌, length};
 ghost use Rattle.aml_regions.specs.Bits.{byte_bit, number};
-ghost use Rattle.aml_regions.specs.BufferFields.{stored};
+ghost use Rattle.aml_regions.specs.BufferFields.{bytes_of, stored};
 
 use crate::bytes::{are_bytes, part_of_bytes};
 use crate::kernel::byte_replaced;
@@ -17,6 +17,22 @@ pub fn read_buffer_field(buffer: &[u8], at: u64, bits: u32) -> u64
     ensures { result ≡ number bits (λ i. byte_bit buffer.now (at + i)) }
 {
     part_of_bytes(buffer, at, bits)
+}
+
+/// The bytes of a field of a buffer, as many as its bits want: zeros stand behind its last bit. It takes
+/// no memory.
+pub fn read_wide_buffer_field(buffer: &[u8], at: u64, bits: u64, bytes: &mut [u8])
+    requires size { length bytes.old ≡ (bits + 7) / 8 }
+    requires most { bits < 2 ^ 32 }
+    requires fits { at + bits < 2 ^ 64 }
+    ensures { bytes.new ≡ bytes_of ((bits + 7) / 8) bits (λ i. byte_bit buffer.now (at + i)) }
+{
+    let mut done = 0;
+    for place in 0..bytes.len() {
+        let take = (bits - done).min(8);
+        bytes[place] = part_of_bytes(buffer, at + done, take as u32) as u8;
+        done += take;
+    }
 }
 
 /// Gives a field of a buffer bits, those of an integer or of bytes: the lowest that it has room for,

@@ -102,7 +102,7 @@ fn region_in(
 }
 
 // An integer of a width.
-fn wrapped(width: Width, value: u64) -> u64
+pub(crate) fn wrapped(width: Width, value: u64) -> u64
     ensures { result ≡ value % 2 ^ bits_of width }
 {
     match width {

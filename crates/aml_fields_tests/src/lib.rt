@@ -2,6 +2,8 @@
 #![tactic(auto)]
 
 #[cfg(test)]
+mod buffer_parts;
+#[cfg(test)]
 mod field_sums;
 #[cfg(test)]
 mod fields;

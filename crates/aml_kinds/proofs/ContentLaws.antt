@@ -12,7 +12,7 @@ use Rattle.aml_kinds.specs.FirstKinds.{kind_by, shape_by, place_by, first_kind, 
 use Rattle.aml_namespace.specs.declared.width.Width.{Width}
 use Rattle.aml_namespace.specs.Widths.{bits_of}
 use Rattle.aml_kinds.specs.Belongs.{greatest_of}
-use Rattle.aml_kinds.specs.Contents.{Contents, ContentKinds, are_fitting, changed_byte, content_at, is_fitting, may_hold, with_byte, with_content}
+use Rattle.aml_kinds.specs.Contents.{Contents, ContentKinds, HoldTheirKinds, are_fitting, changed_byte, content_at, fits_kind, is_fitting, may_hold, with_byte, with_content}
 use Rattle.aml_kinds.specs.declared.value.Value as program
 use Rattle.aml_kinds.specs.declared.kind.Kind as program_kind
 use Rattle.aml_kinds.specs.ContentViews.{content, contents_of, content_kind, content_kinds_of}
@@ -110,6 +110,19 @@ changed_are_fitting (x ∷ vs) (k ∷ ks) zero at byte f =
     ap (λ b. b && are_fitting vs ks) (byte_fitting x k at byte) ∙ f
 changed_are_fitting (x ∷ vs) (k ∷ ks) (suc i) at byte f =
     are_both (is_fitting x k) (are_fitting (changed_byte vs i at byte) ks) (both_first (is_fitting x k) (are_fitting vs ks) f) (changed_are_fitting vs ks i at byte (both_second (is_fitting x k) (are_fitting vs ks) f))
+
+-- what is held is of its kind
+held_fits : (x : Option Value) (k : Option Kind) (v : Value) → is_fitting x k ≡ true → x ≡ Some v → fits_kind v k ≡ true
+held_fits (Some x) (Some k) v f e = subst (λ o. is_fitting o (Some k) ≡ true) e f
+held_fits (Some x) None v f e = absurd cc
+held_fits None k v f e = absurd cc
+
+pub holding_their_kinds : (vs : Contents) (ks : ContentKinds) → are_fitting vs ks ≡ true → HoldTheirKinds vs ks
+holding_their_kinds [] ks f zero v e = absurd cc
+holding_their_kinds [] ks f (suc i) v e = absurd cc
+holding_their_kinds (x ∷ vs) [] f i v e = absurd cc
+holding_their_kinds (x ∷ vs) (k ∷ ks) f zero v e = held_fits x k v (both_first (is_fitting x k) (are_fitting vs ks) f) e
+holding_their_kinds (x ∷ vs) (k ∷ ks) f (suc i) v e = holding_their_kinds vs ks (both_second (is_fitting x k) (are_fitting vs ks) f) i v e
 
 within_itself : (n : ℕ) → nat_le n n ≡ true
 within_itself n = grind (arith, nat_tests)

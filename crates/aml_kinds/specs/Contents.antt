@@ -1,5 +1,5 @@
 -- What data names hold, by the numbers of their objects.
-use Rattle.std.specs.Prelude.{ℕ, List, [], ◌∷◌, length, Option, Some, None, option_and_then, slice_get, slice_set, nat_lt, ◌&&◌, Bool, true, false}
+use Rattle.std.specs.Prelude.{◌≡◌, ℕ, List, [], ◌∷◌, length, Option, Some, None, option_and_then, slice_get, slice_set, nat_lt, ◌&&◌, Bool, true, false}
 use Rattle.std.specs.Option.{option_map}
 use Rattle.aml_kinds.specs.Values.{Value, Buf}
 use Rattle.aml_kinds.specs.Kinds.{Kind}
@@ -49,6 +49,10 @@ fits_kind v (Some k) = fits v k
 -- whether the name with a number may hold a value
 abbrev pub may_hold : ContentKinds → ℕ → Value → Bool
 may_hold kinds i v = fits_kind v (kind_at kinds i)
+
+-- what a name holds is of its kind, so it may hold it
+abbrev pub HoldTheirKinds : Contents → ContentKinds → Type 0
+HoldTheirKinds names kinds = (i : ℕ) (v : Value) → content_at names i ≡ Some v → may_hold kinds i v ≡ true
 
 -- a content fits its kind, and there is a kind just where there is a content
 abbrev pub is_fitting : Option Value → Option Kind → Bool

@@ -4,7 +4,7 @@ ghost use Rattle.std.specs.Prelude.{◌≡◌, ◌<◌, ◌↔◌, ◌++◌, ◌
 ghost use Rattle.std.specs.Option.{option_map};
 ghost use Rattle.aml_namespace.specs.Shows.{shown};
 ghost use Rattle.aml_kinds.specs.Belongs.{Belong, greatest_of, is_kind_of, is_kind_told};
-ghost use Rattle.aml_kinds.specs.Contents.{are_fitting, changed_byte, content_at, has_byte, kind_at, may_hold, with_byte, with_content};
+ghost use Rattle.aml_kinds.specs.Contents.{HoldTheirKinds, are_fitting, changed_byte, content_at, has_byte, kind_at, may_hold, with_byte, with_content};
 ghost use Rattle.aml_kinds.specs.ContentViews.{content, content_kind, content_kinds_of, contents_of};
 ghost use Rattle.aml_kinds.specs.FirstKinds.{first_kind, held_first, within_width};
 ghost use Rattle.aml_kinds.specs.KindViews.{kind_of};
@@ -172,6 +172,11 @@ impl Names {
         self.contents[id.0] = Some(value);
         Ok(())
     }
+
+    /// What each name holds is of its kind.
+    pub fn hold_their_kinds(&self)
+        ensures { HoldTheirKinds (contents self.now) (content_kinds self.now) }
+    {}
 
     /// Sets a byte of the buffer that a name holds; false where there is no such byte.
     pub fn set_byte(&mut self, id: ObjectId, at: usize, byte: u8) -> bool

@@ -1,22 +1,24 @@
 -- Bodies and what they come to, computed.
-use Rattle.std.proofs.Common.{◌≡◌, ℕ, true, ◌+◌, ◌-◌, ◌^◌, [], ◌∷◌, Some, refl, None}
+use Rattle.std.proofs.Common.{◌≡◌, ℕ, List, true, false, ◌+◌, ◌-◌, ◌^◌, [], ◌∷◌, Some, refl, None}
 use Rattle.std.specs.Prelude.{nat_le, if◌then◌else◌}
-use Rattle.aml_operators.specs.declared.op.Op.TheVariants.{Return, Add, Subtract, Arg0, One, NullName, Local0, Timer, Store, Invocation, NameString, While, Decrement, Break, If, Else, Sleep, Notify, Name}
+use Rattle.aml_operators.specs.declared.op.Op.{Op}
+use Rattle.aml_operators.specs.declared.op.Op.TheVariants.{Index, Return, Add, Subtract, Arg0, One, NullName, Local0, Timer, Store, Invocation, NameString, While, Decrement, Break, If, Else, Sleep, Notify, Name}
 use Rattle.aml_operators.specs.Tree.{Tree, Trees, Node, none, more}
-use Rattle.aml_kinds.specs.Values.{Int}
-use Rattle.aml_namespace.specs.declared.link.Link.TheVariants.{Missing, Own}
+use Rattle.aml_kinds.specs.Values.{Buf, Int}
+use Rattle.aml_namespace.specs.declared.link.Link.TheVariants.{Data, Missing, Own}
 use Rattle.aml_meaning.specs.declared.error.AmlCause.TheVariants as cause
 use Rattle.aml_meaning.specs.State.{State, Goes, Halts, Spent, error}
 use Rattle.aml_regions.specs.declared.event.Event.TheVariants.{Slept}
 use Rattle.aml_meaning.specs.Parts.{◌>>=◌, give, stop_with, tick, paid, get_local, get_arg, set_local, set_arg, make_event}
 use Rattle.aml_meaning.specs.Owns.{get_own, define_own}
+use Rattle.aml_meaning.specs.Changes.{change}
 use Rattle.aml_meaning.specs.Loops.{loop, spent, turned}
 use Rattle.aml_meaning.specs.Calls.{framed}
 use Rattle.aml_meaning.specs.Meaning.{Setting}
 use Rattle.aml_meaning.specs.Whole.{before, evaluated}
 
 abbrev of_width : ℕ → Setting
-of_width bits = record { table = 0; width = bits; link = λ at. Missing; lone = λ at. true; field = λ k. None; object = λ id. None; literal = λ op parts. Int 0; call = λ p k values. stop_with (error cause.Outside p.table p.at) }
+of_width bits = record { table = 0; width = bits; link = λ at. Missing; lone = λ at. true; field = λ k. None; buffer_field = λ k. None; object = λ id. None; literal = λ op parts. Int 0; call = λ p k values. stop_with (error cause.Outside p.table p.at); is_interface = λ text. false }
 
 -- so many steps, and nothing else
 abbrev steps : ℕ → State
@@ -197,3 +199,32 @@ made_once = refl
 made_in_no_block : evaluated (owning_from 9) (more (Node If 0 9 (more (Node One 2 3 none) (more (definition 3) none))) none) [] [] (steps 3) ≡ Halts (error cause.Outside 0 3) (steps 0)
 unfolding framed ◌>>=◌ give stop_with tick paid
 made_in_no_block = refl
+
+-- a body whose names all name one data name
+abbrev over_data : Setting
+over_data = record (of_width 64) { link = λ at. Data (record { 0 = 0 }) }
+
+-- so many steps, and a buffer that this name holds
+abbrev over_buffer : List ℕ → ℕ → State
+over_buffer bytes n = before (record { contents = Some (Buf bytes) ∷ []; kinds = [] }) n []
+
+-- Store (One, Index (BUF0, at)), by the opcode of the index
+abbrev byte_stored_at : Op → Trees
+byte_stored_at index = more (Node Store 0 9 (more (Node One 1 2 none) (more (Node Index 2 9 (more (Node Invocation 3 7 (more (Node NameString 3 7 none) none)) (more (Node index 7 8 none) (more (Node NullName 8 9 none) none)))) none))) none
+
+a_byte_stored : evaluated over_data (byte_stored_at One) [] [] (over_buffer (7 ∷ 8 ∷ []) 4) ≡ Goes None (over_buffer (7 ∷ 1 ∷ []) 0)
+unfolding framed ◌>>=◌ give stop_with tick paid change
+a_byte_stored = refl
+
+no_step_for_the_byte : evaluated over_data (byte_stored_at One) [] [] (over_buffer (7 ∷ 8 ∷ []) 3) ≡ Spent (over_buffer (7 ∷ 8 ∷ []) 0)
+unfolding framed ◌>>=◌ give stop_with tick paid change
+no_step_for_the_byte = refl
+
+past_the_end : evaluated over_data (byte_stored_at One) [] [] (over_buffer (7 ∷ []) 4) ≡ Halts (error cause.Index 0 2) (over_buffer (7 ∷ []) 0)
+unfolding framed ◌>>=◌ give stop_with tick paid change
+past_the_end = refl
+
+-- where nothing has that name, its index is not evaluated
+no_buffer_there : evaluated (of_width 64) (byte_stored_at Local0) [] [] (steps 3) ≡ Halts (error cause.Missing 0 3) (steps 0)
+unfolding framed ◌>>=◌ give stop_with tick paid
+no_buffer_there = refl

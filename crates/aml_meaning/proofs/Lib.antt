@@ -10,3 +10,4 @@ pub mod Bits
 pub mod Told
 pub mod Reached
 pub mod Owned
+pub mod Changed

@@ -1,6 +1,7 @@
 pub mod State
 pub mod Parts
 pub mod Owns
+pub mod Changes
 pub mod Loops
 pub mod Calls
 pub mod Rules
@@ -9,6 +10,7 @@ pub mod Buffers
 pub mod Elements
 pub mod Notices
 pub mod Actions
+pub mod Interfaces
 pub mod Meaning
 pub mod Reached
 pub mod Definitions
@@ -21,3 +23,4 @@ pub mod Quiet
 pub mod Causes
 pub mod Fields
 pub mod FieldValues
+pub mod BufferFields

@@ -9,6 +9,7 @@
 mod action;
 mod error;
 mod law;
+mod part;
 
 pub use action::{Action, Arithmetic, Bitwise, Comparison, Conversion, Pause, action_of};
 pub use error::{AmlCause, AmlError};
@@ -16,3 +17,4 @@ pub use law::{
     calls_keep_the_frame, done_is_stable, lists_are_in_order, quiet_terms_keep, reads_are_answered,
     set_bits_are_found, terms_take_a_step,
 };
+pub use part::BufferPart;

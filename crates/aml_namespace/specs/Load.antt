@@ -57,14 +57,15 @@ abbrev pub AllDeclare : ℕ → List (List ℕ) → Entries → List External �
 AllDeclare n [] before externals = externals ≡ []
 AllDeclare n (bytes ∷ more) before externals = (next : Entries) × (makes : Makes n bytes before next) × (rest : List External) × AllDeclare (suc n) more next rest × (externals ≡ all_declared (at_root n bytes) before (trees makes.terms) ++ rest)
 
--- what a namespace shows: its tables' bytes, the text of `_OS_`, the width of integers, its entries in order of definition, and what
--- the tables declare as others' methods
+-- what a namespace shows: its tables' bytes, the text of `_OS_`, the width of integers, its entries in order of definition, what the
+-- tables declare as others' methods, and the texts that `_OSI` knows
 pub record Shown : Type 0 where
   pub tables : List (List ℕ)
   pub os : List ℕ
   pub width : Width
   pub entries : Entries
   pub externals : List External
+  pub interfaces : List (List ℕ)
 
 -- the revision of the first table tells the width
 abbrev pub first_width : List (List ℕ) → Width

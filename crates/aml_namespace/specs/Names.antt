@@ -1,5 +1,6 @@
 -- What a namespace's names name (ACPI 6.5, 5.3).
-use Rattle.std.specs.Prelude.{ℕ, List, take, Option, Some, None, option_and_then, unwrap_or, Result}
+use Rattle.std.specs.Prelude.{ℕ, Bool, List, take, bytes_eq, Option, Some, None, option_and_then, unwrap_or, Result}
+use Rattle.std.specs.List.{list_any}
 use Rattle.aml_lex.specs.NameStrings.{NameString}
 use Rattle.aml_lex.specs.Standing.{name_there}
 use Rattle.aml_operators.specs.Tree.{Tree}
@@ -32,6 +33,10 @@ method_in o = None
 -- the method with a number
 abbrev pub method_at : Shown → ℕ → Option Method
 method_at ns i = option_and_then method_in (object_at ns.entries i)
+
+-- whether `_OSI` knows a text
+abbrev pub is_interface : Shown → List ℕ → Bool
+is_interface ns text = list_any (λ known. bytes_eq known text) ns.interfaces
 
 -- how many arguments what is named takes: a method its own number, `_OSI` one
 abbrev pub args_of : Option Object → ℕ

@@ -12,7 +12,7 @@ abbrev pub bytes_in : List (Bor (List ℕ)) → List (List ℕ)
 bytes_in tables = map (λ t. t.now) tables
 
 abbrev pub shown : Namespace → Shown
-shown ns = record { tables = bytes_in ns.tables.items; os = ns.host.os.now; width = ns.width; entries = entries_seen ns.objects; externals = ns.externals.items }
+shown ns = record { tables = bytes_in ns.tables.items; os = ns.host.os.now; width = ns.width; entries = entries_seen ns.objects; externals = ns.externals.items; interfaces = bytes_in ns.host.osi.now }
 
 -- the answer of a load
 abbrev pub Loads : List (List ℕ) → List ℕ → Result Namespace LoadFault → Type 0

@@ -61,7 +61,7 @@ impl<'a> Namespace<'a> {
     ghost use Rattle.std.specs.Option.{option_map};
     ghost use Rattle.aml_tree.specs.Body.{trees_read};
     ghost use Rattle.aml_namespace.specs.LookUp.{looked_up};
-    ghost use Rattle.aml_namespace.specs.Names.{ReadsBodyOf, body_bytes, element_at, link_at, link_with_owns, method_at, told_within};
+    ghost use Rattle.aml_namespace.specs.Names.{ReadsBodyOf, body_bytes, element_at, is_interface, link_at, link_with_owns, method_at, told_within};
     ghost use Rattle.aml_namespace.specs.Entries.{entry_numbered, object_at, path_numbered};
     ghost use Rattle.aml_namespace.specs.OwnNamesSeen.{owns_seen};
     ghost use Rattle.aml_namespace.specs.Printed.{printed_object};
@@ -80,7 +80,9 @@ impl<'a> Namespace<'a> {
     #[tactic(auto, using(crate::proofs::Sound::bodies_within))]
     pub fn load(alloc: Global, tables: &[&'a [u8]], host: Host<'a>) -> Result<Self, LoadFault>
         requires { 0 < length tables.now }
-        ensures { Loads (bytes_in tables.now) host.entry.os.now result }
+        ensures loads { Loads (bytes_in tables.now) host.entry.os.now result }
+        ensures interfaces { IfOk result
+            (λ ns. (shown ns).interfaces ≡ bytes_in host.entry.osi.now) }
     {
         let mut objects = predefined(alloc, host.os.len() as u64)?;
         let loaded = match load_tables(alloc, tables, &mut objects) {
@@ -253,6 +255,18 @@ impl<'a> Namespace<'a> {
         ensures { result.now ≡ (shown self.now).os }
     {
         self.host.os
+    }
+
+    /// Whether `_OSI` knows a text.
+    pub fn has_interface(&self, text: &[u8]) -> bool
+        ensures { result ≡ is_interface (shown self.now) text.now }
+    {
+        for known in self.host.osi {
+            if *known == text {
+                return true;
+            }
+        }
+        false
     }
 
     /// The number of the object that the name at a place of a table names, from the scope in which it

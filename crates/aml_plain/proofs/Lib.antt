@@ -8,3 +8,7 @@ pub mod Turns
 pub mod Branches
 pub mod Around
 pub mod Stored
+pub mod Written
+pub mod Known
+pub mod Bodies
+pub mod Parts

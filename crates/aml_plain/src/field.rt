@@ -107,7 +107,7 @@ pub fn field_read<W: World>(
 }
 
 /// Whether a field of so many bits takes a buffer.
-fn takes_buffer(width: Width, bits: u64, bytes: &[u8]) -> bool
+pub fn takes_buffer(width: Width, bits: u64, bytes: &[u8]) -> bool
     requires { bits ≤ 2048 }
     ensures { result ≡ takes_buffer (bits_of width) bits bytes.now }
 {

@@ -1,34 +1,18 @@
-// Where a body stands, and why an evaluation ends before its end.
+// Why an evaluation ends before its end.
 
 ghost use Rattle.std.specs.Prelude.{◌≡◌};
 ghost use Rattle.aml_meaning.specs.declared.error.AmlCause.TheVariants as cause;
-ghost use Rattle.aml_meaning.specs.Runs.{By, method_result};
+ghost use Rattle.aml_kinds.specs.Views.{view};
+ghost use Rattle.aml_meaning.specs.Meaning.{want};
+ghost use Rattle.aml_meaning.specs.Runs.{By, Runs, method_result};
 ghost use Rattle.aml_meaning.specs.State.{error};
-ghost use Rattle.aml_plain.specs.Tells.{halted, told, value_of, went};
+ghost use Rattle.aml_plain.specs.Tells.{halted, setting_of, told, value_of, went};
 
+pub use crate::setting::Setting;
 use aml_kinds::Value;
 use aml_meaning::{AmlCause, AmlError};
-use aml_namespace::{Namespace, NoMemory, ObjectId, OwnNames, Width};
+use aml_namespace::NoMemory;
 use std::alloc::AllocFailed;
-
-/// Where a body stands.
-#[derive(Clone, Copy)]
-pub struct Setting<'a> {
-    /// The number of its table.
-    pub table: usize,
-    /// How wide integers are.
-    pub width: Width,
-    /// Whose objects its names name.
-    pub namespace: &'a Namespace<'a>,
-    /// The method whose body it is, within which its names stand.
-    pub method: ObjectId,
-    /// The table's bytes up to the body's end, in which its names stand.
-    pub bytes: &'a [u8],
-    /// The names that the body makes itself.
-    pub owns: &'a OwnNames,
-    /// How many methods more may be active in it.
-    pub depth: u8,
-}
 
 /// Why an evaluation ends before its end.
 #[derive(Drop)]
@@ -72,6 +56,17 @@ pub fn fails(cause: AmlCause, here: Setting<'_>, at: usize) -> Halt
         at,
         cause,
     })
+}
+
+/// A term's value where one is wanted.
+pub fn want(here: Setting<'_>, at: usize, value: Option<Value>) -> Result<Value, Halt>
+    ensures { (around : _) (s : _) → Runs (told view result)
+        (want (setting_of here.entry around) at (value_of value)) s s }
+{
+    match value {
+        Some(value) => Ok(value),
+        None => Err(fails(AmlCause::NoValue, here, at)),
+    }
 }
 
 /// What a call makes of how the statements of a method of a table ended. A6 at a Break or Continue

@@ -2,20 +2,27 @@
 #![tactic(auto)]
 
 mod body;
+mod callee;
 mod data;
 mod eval;
 mod field;
 mod form;
 mod frame;
 mod halt;
+mod index;
 mod integer;
+mod interfaces;
 mod law;
+mod links;
 mod machine;
 mod method;
 mod notice;
 mod operand;
 mod own;
+mod part;
+mod prepared;
 mod rules;
+mod setting;
 mod target;
 
 pub use body::Outcome;

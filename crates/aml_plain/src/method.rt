@@ -13,6 +13,8 @@ ghost use Rattle.aml_plain.specs.Tells.{names_of};
 
 use crate::body::{Outcome, evaluate_body};
 use crate::halt::Setting;
+use crate::links::Links;
+use crate::prepared::Bodies;
 use aml_kinds::{Names, Value};
 use aml_namespace::{Namespace, NoMemory, ObjectId, OwnNames};
 use aml_regions::World;
@@ -46,6 +48,8 @@ pub fn evaluate_terms<W: World>(
 {
     let bytes = namespace.body_bytes(method);
     let owns = OwnNames::of(alloc, bytes, body)?;
+    let links = Links::of(alloc, namespace, method, bytes, &owns, body)?;
+    let bodies = Bodies::of(alloc, namespace, &links)?;
     let here = Setting {
         table: namespace.method(method).unwrap().table,
         width: namespace.width(),
@@ -53,6 +57,8 @@ pub fn evaluate_terms<W: World>(
         method,
         bytes,
         owns: &owns,
+        links: &links,
+        bodies: &bodies,
         depth: MOST_WITHIN,
     };
     evaluate_body(alloc, here, body, arguments, names, world, fuel)

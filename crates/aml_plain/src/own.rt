@@ -12,12 +12,17 @@ use crate::halt::Setting;
 use aml_lex::{NameRef, name_string};
 use aml_namespace::Link;
 
-/// What the name at a place means.
+/// What the name at a place means. A place that is not kept is looked up: so nothing rests on all being
+/// kept, and what is kept needs to be right alone.
 pub fn link_of(here: Setting<'_>, at: usize) -> Link
     ensures { result ≡ link_in here.entry at }
 {
-    here.namespace
-        .link_with_owns(here.method, here.bytes, here.owns, at)
+    match here.links.at(at) {
+        Some(link) => link,
+        None => here
+            .namespace
+            .link_with_owns(here.method, here.bytes, here.owns, at),
+    }
 }
 
 /// Whether what a name means is an own name.

@@ -7,7 +7,7 @@ ghost use Rattle.aml_meaning.specs.Rules.{Place, combined, compared, divided, di
 ghost use Rattle.aml_meaning.specs.Runs.{ruled};
 ghost use Rattle.aml_namespace.specs.Widths.{bits_of};
 ghost use Rattle.aml_meaning.specs.Buffers.{concatenated, size_of};
-ghost use Rattle.aml_meaning.specs.Elements.{element_at};
+ghost use Rattle.aml_meaning.specs.Elements.{byte_stored, element_at};
 ghost use Rattle.aml_meaning.specs.Conversions.{converted};
 ghost use Rattle.aml_meaning.specs.declared.error.AmlError.{AmlError};
 ghost use Rattle.aml_rules.specs.Tells.{Obeys, place_of};
@@ -18,7 +18,7 @@ use crate::halt::{Halt, Setting, fails};
 use crate::integer::{holds, joined, transformed_bits, truth};
 use aml_kinds::Value;
 use aml_meaning::{AmlCause, AmlError, Arithmetic, Bitwise, Comparison, Conversion};
-use aml_rules::{Place, RuleFault};
+use aml_rules::{ByteStore, Place, RuleFault};
 use std::alloc::Global;
 
 /// An integer. A2 at the place of what is none.
@@ -191,6 +191,16 @@ fn given_integer(answer: Result<u64, AmlError>) -> Result<Value, Halt>
     }
 }
 
+/// The byte that a rule gives, and where it is written.
+fn given_store(answer: Result<ByteStore, AmlError>) -> Result<ByteStore, Halt>
+    ensures { told rules.store_of result ≡ ruled (rules.told rules.store_of answer) }
+{
+    match answer {
+        Ok(written) => Ok(written),
+        Err(error) => Err(Halt::Error(error)),
+    }
+}
+
 /// A value as one of another kind.
 pub fn converted(
     alloc: Global,
@@ -248,6 +258,26 @@ pub fn element_at(
     let first = place(here, x_at);
     let second = place(here, i_at);
     obeyed(aml_rules::element_at(alloc, operator, first, x, second, i))
+}
+
+/// The byte that a store into an Index writes, and where.
+pub fn byte_stored(
+    here: Setting<'_>,
+    at: usize,
+    x_at: usize,
+    x: &Value,
+    i_at: usize,
+    i: &Value,
+    y: &Value,
+) -> Result<ByteStore, Halt>
+    ensures { told rules.store_of result ≡ ruled (byte_stored (place_in here.entry at)
+        (place_in here.entry x_at) (view x.now) (place_in here.entry i_at) (view i.now)
+        (view y.now)) }
+{
+    let operator = place(here, at);
+    let first = place(here, x_at);
+    let second = place(here, i_at);
+    given_store(aml_rules::byte_stored(operator, first, x, second, i, y))
 }
 
 /// How large a value is.

@@ -2,8 +2,7 @@
 
 ghost use Rattle.std.specs.Prelude.{◌≡◌, ◌≤◌};
 ghost use Rattle.aml_kinds.specs.Views as values;
-ghost use Rattle.aml_operators.specs.Tree.{view, views};
-ghost use Rattle.aml_meaning.specs.Meaning.{named, named_target, put, store, unreadable, unwritable};
+ghost use Rattle.aml_meaning.specs.Meaning.{named, named_target, put, unreadable, unwritable};
 ghost use Rattle.aml_meaning.specs.Runs.{Runs};
 ghost use Rattle.aml_plain.specs.Tells.{now, setting_of, told, value_of, went};
 
@@ -11,10 +10,10 @@ use crate::field::{field_read, field_stored};
 use crate::halt::{Halt, Setting, fails};
 use crate::machine::Machine;
 use crate::own::link_of;
+use crate::part::{part_read, part_stored};
 use aml_kinds::{Value, copy};
-use aml_meaning::{Action, AmlCause, action_of};
+use aml_meaning::{Action, AmlCause};
 use aml_namespace::Link;
-use aml_operators::Term;
 use aml_regions::World;
 use std::alloc::Global;
 
@@ -63,23 +62,23 @@ pub fn named<W: World>(
             Ok(Some(content))
         }
         Link::Field(id) => field_read(alloc, here, at, id, machine, world),
+        Link::BufferField(id) => part_read(alloc, here, at, id, machine),
         link => Err(fails(unwritable(link), here, at)),
     }
 }
 
-/// What a target does.
-fn put<W: World>(
+/// What a target that evaluates nothing does.
+pub fn put<W: World>(
     alloc: Global,
     here: Setting<'_>,
     action: Action,
     at: usize,
-    parts: &[Term],
     stored: &Value,
     machine: &mut Machine,
     world: &mut W,
 ) -> Result<(), Halt>
     ensures means { (around : _) → Runs (went result)
-        (put (setting_of here.entry around) action at (views parts.now) (values.view stored.now))
+        (put (setting_of here.entry around) action at (values.view stored.now))
         (now machine.old (W.log world.old)) (now machine.new (W.log world.new)) }
     ensures falls { machine.new.steps ≤ machine.old.steps }
 {
@@ -130,36 +129,10 @@ fn put_name<W: World>(
             machine.set_own(here, at, number, copied)
         }
         Link::Field(id) => field_stored(here, at, id, stored, machine, world),
+        Link::BufferField(id) => part_stored(alloc, here, at, id, stored, machine),
         link => {
             machine.take_step()?;
             Err(fails(unwritable(link), here, at))
         }
     }
-}
-
-/// Stores into a target.
-pub fn store<W: World>(
-    alloc: Global,
-    here: Setting<'_>,
-    target: &Term,
-    stored: &Value,
-    machine: &mut Machine,
-    world: &mut W,
-) -> Result<(), Halt>
-    ensures means { (around : _) → Runs (went result)
-        (store (setting_of here.entry around) (view target.now) (values.view stored.now))
-        (now machine.old (W.log world.old)) (now machine.new (W.log world.new)) }
-    ensures falls { machine.new.steps ≤ machine.old.steps }
-{
-    let action = action_of(target.op);
-    put(
-        alloc,
-        here,
-        action,
-        target.at,
-        &target.parts,
-        stored,
-        machine,
-        world,
-    )
 }

@@ -125,3 +125,43 @@ fn methods(rt: HostRuntime) -> Result<(), Fail> {
     }
     Ok(())
 }
+
+/// Method (DOWN, 1) {If (Arg0) {Return (Add (DOWN (Subtract (Arg0, One)), 3))} Return (4)},
+/// Alias (DOWN, ALIA), Method (OWNS, 1) {Name (OWN0, 5) Increment (OWN0) Return (Add (OWN0, Arg0))},
+/// Method (BAD0) that is no list of terms, Method (CALL) {Return (BAD0)}.
+const CALLED_AGAIN: &[u8] =
+    b"\x14\x19DOWN\x01\xa0\x0f\x68\xa4\x72DOWN\x74\x68\x01\x00\x0a\x03\x00\xa4\x0a\x04\
+    \x06DOWNALIA\x14\x1aOWNS\x01\x08OWN0\x0a\x05\x75OWN0\xa4\x72OWN0\x68\x00\
+    \x14\x07BAD0\x00\xfe\x14\x0bCALL\x00\xa4BAD0";
+
+/// A body, steps, and the outcome: what is called is called again.
+#[test]
+fn methods_called_again(rt: HostRuntime) -> Result<(), Fail> {
+    let rows: &[(&[u8], u64, Ended)] = &[
+        // Return (DOWN (2)), Return (DOWN (62)): the same body many times
+        (b"\xa4DOWN\x0a\x02", 25, Ended::Done(Some(10))),
+        (b"\xa4DOWN\x0a\x02", 24, Ended::OutOfSteps),
+        (b"\xa4DOWN\x0a\x3e", 565, Ended::Done(Some(190))),
+        (b"\xa4DOWN\x0a\x3e", 564, Ended::OutOfSteps),
+        // Return (DOWN (63))
+        (b"\xa4DOWN\x0a\x3f", 600, error(AmlCause::Depth, 62)),
+        // Return (ALIA (One)), Return (Add (ALIA (Zero), DOWN (Zero)))
+        (b"\xa4ALIA\x01", 16, Ended::Done(Some(7))),
+        (b"\xa4\x72ALIA\x00DOWN\x00\x00", 14, Ended::Done(Some(8))),
+        // Return (Add (OWNS (One), OWNS (One)))
+        (b"\xa4\x72OWNS\x01OWNS\x01\x00", 24, Ended::Done(Some(14))),
+        (b"\xa4\x72OWNS\x01OWNS\x01\x00", 23, Ended::OutOfSteps),
+        // If (Zero) {BAD0 ()} Return (BAD0 ()), and with CALL () in its place
+        (b"\xa0\x06\x00BAD0\xa4BAD0", 4, error(AmlCause::Outside, 51)),
+        (
+            b"\xa0\x06\x00BAD0\xa4CALL",
+            6,
+            error(AmlCause::Outside, 133),
+        ),
+    ];
+    for (body, fuel, outcome) in rows {
+        let found = outcome_before(&rt, rt.alloc(), body, CALLED_AGAIN, *fuel)?;
+        assert_eq!(rt; found, *outcome, "{body:?} {fuel}");
+    }
+    Ok(())
+}

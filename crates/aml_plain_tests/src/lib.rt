@@ -2,11 +2,15 @@
 #![tactic(auto)]
 
 #[cfg(test)]
+mod buffer_fields;
+#[cfg(test)]
 mod calls;
 #[cfg(test)]
 mod events;
 #[cfg(test)]
 mod flow;
+#[cfg(test)]
+mod index_stores;
 #[cfg(test)]
 mod literals;
 #[cfg(test)]

@@ -433,3 +433,38 @@ fn rows_of_packages_in_one_another(rt: HostRuntime) -> Result<(), Fail> {
     }
     Ok(())
 }
+
+/// `_OSI` knows the text `Other` alone (5.7.2).
+#[test]
+fn rows_of_os_interfaces(rt: HostRuntime) -> Result<(), Fail> {
+    use Step::Int;
+    use Wanted::{Error, Nothing, OutOfSteps, Value};
+    let rows: &[Row] = &[
+        // Return (_OSI ("Other")), in tables of both widths
+        (b"\xa4_OSI\x0dOther\0", 2, 3, Value(&[Int(u64::MAX)])),
+        (b"\xa4_OSI\x0dOther\0", 2, 2, OutOfSteps),
+        (b"\xa4_OSI\x0dOther\0", 1, 3, Value(&[Int(0xffff_ffff)])),
+        // _OSI ("Other") as a statement
+        (b"_OSI\x0dOther\0", 2, 2, Nothing),
+        // Return (_OSI ("Othe")), of a longer text, of another case, of none
+        (b"\xa4_OSI\x0dOthe\0", 2, 3, Value(&[Int(0)])),
+        (b"\xa4_OSI\x0dOthers\0", 2, 3, Value(&[Int(0)])),
+        (b"\xa4_OSI\x0dother\0", 2, 3, Value(&[Int(0)])),
+        (b"\xa4_OSI\x0d\0", 2, 3, Value(&[Int(0)])),
+        // Return (\_OSI (Concatenate ("Oth", "er"))), whose argument costs three steps
+        (
+            b"\xa4\\_OSI\x73\x0dOth\0\x0der\0\0",
+            2,
+            5,
+            Value(&[Int(u64::MAX)]),
+        ),
+        (b"\xa4\\_OSI\x73\x0dOth\0\x0der\0\0", 2, 4, OutOfSteps),
+        // Return (_OSI (One)), (Buffer (One) {}) and (Local0)
+        (b"\xa4_OSI\x01", 2, 2, OutOfSteps),
+        (b"\xa4_OSI\x01", 2, 3, Error(AmlCause::Kind, 48)),
+        (b"\xa4_OSI\x11\x02\x01", 2, 3, Error(AmlCause::Kind, 48)),
+        (b"\xa4_OSI\x60", 2, 3, Error(AmlCause::Unset, 48)),
+    ];
+    each_is_right(&rt, rt.alloc(), rows)?;
+    Ok(())
+}

@@ -268,7 +268,7 @@ const SCOPE: &[u8] = b"\x14\x0bM027\x00\xa4_SB_";
 /// Return (_REV), a name of data.
 const DATA: &[u8] = b"\x14\x0bM028\x00\xa4_REV";
 
-/// Return (_OSI (One)).
+/// Return (_OSI (One)), whose argument is no string.
 const OS_INTERFACES: &[u8] = b"\x14\x0cM029\x00\xa4_OSI\x01";
 
 /// Store (One, _SB), a scope.
@@ -307,7 +307,8 @@ fn bodies(rt: HostRuntime) -> Result<(), Fail> {
         (SCOPE, &[], 2, error(AmlCause::Kind, 44)),
         (DATA, &[], 2, Ended::Done(Some(2))),
         (DATA, &[], 1, Ended::OutOfSteps),
-        (OS_INTERFACES, &[], 2, error(AmlCause::Outside, 44)),
+        (OS_INTERFACES, &[], 2, Ended::OutOfSteps),
+        (OS_INTERFACES, &[], 3, error(AmlCause::Kind, 48)),
         (STORED_SCOPE, &[], 3, error(AmlCause::Kind, 45)),
         (STORED_DATA, &[], 3, Ended::Done(None)),
         (STORED_DATA, &[], 2, Ended::OutOfSteps),

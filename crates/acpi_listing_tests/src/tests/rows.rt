@@ -3,6 +3,55 @@
 /// Words of `eval`, revision and body of the DSDT, what is printed, and the status.
 pub const EVAL: &[(&str, u8, &str, &str, u8)] = &[
     (
+        "--plain 3 --osi X --method \\M020",
+        2,
+        "140e4d30323000a45f4f53490d5800",
+        "result 0xffffffffffffffff\n",
+        0,
+    ),
+    (
+        "--plain 3 --osi X --method \\M020",
+        1,
+        "140e4d30323000a45f4f53490d5800",
+        "result 0xffffffff\n",
+        0,
+    ),
+    (
+        "--plain 3 --osi XY --method \\M020",
+        2,
+        "140e4d30323000a45f4f53490d5800",
+        "result 0x0\n",
+        0,
+    ),
+    (
+        "--plain 3 --method \\M020",
+        2,
+        "140e4d30323000a45f4f53490d5800",
+        "result 0x0\n",
+        0,
+    ),
+    (
+        "--plain 2 --osi X --method \\M020",
+        2,
+        "140e4d30323000a45f4f53490d5800",
+        "out of steps\n",
+        3,
+    ),
+    (
+        "--plain 3 --osi X --method \\_OSI",
+        2,
+        "140e4d30323000a45f4f53490d5800",
+        "fault E525 NoSuchObject\n",
+        1,
+    ),
+    (
+        "--plain 3 --method \\M020 --osi X --osi X",
+        2,
+        "140e4d30323000a45f4f53490d5800",
+        "fault E520 CommandLine\n",
+        2,
+    ),
+    (
         "--plain 9 --method \\M022",
         2,
         "5b82054445563014134d3032320086444556300a805b22015b2101",

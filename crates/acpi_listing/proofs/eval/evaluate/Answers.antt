@@ -8,7 +8,8 @@ returns-in_err-arguments-clause-printed g c =
     let request = c.args.request.now in
     let args = option_map (λ text. text.now) request.args in
     let regs = option_map (λ name. name.now) request.regs in
-    no_arguments g.F.Source.answers c.args.files.now request.inputs request.method.now args regs request.steps _ _ c.from_residual.result
+    let osi = option_map (λ text. text.now) request.osi in
+    no_arguments g.F.Source.answers c.args.files.now request.inputs request.method.now args regs request.steps osi _ _ c.from_residual.result
     c.from_residual.ensures.1 c.in_err-arguments.ensures
 
 pub returns-in_err-registers-clause-printed : goal.returns-in_err-registers-clause-printed
@@ -16,7 +17,8 @@ returns-in_err-registers-clause-printed g c =
     let request = c.args.request.now in
     let args = option_map (λ text. text.now) request.args in
     let regs = option_map (λ name. name.now) request.regs in
-    no_registers g.F.Source.answers c.args.files.now _ request.inputs request.method.now args regs (map view c.in_ok-arguments.arguments.items) request.steps _ _ c.from_residual-in_err-registers.result
+    let osi = option_map (λ text. text.now) request.osi in
+    no_registers g.F.Source.answers c.args.files.now _ request.inputs request.method.now args regs (map view c.in_ok-arguments.arguments.items) request.steps osi _ _ c.from_residual-in_err-registers.result
     c.from_residual-in_err-registers.ensures.1 c.in_ok-arguments.ensures c.in_err-registers.ensures.read
 
 pub returns-in_err-inputs-clause-printed : goal.returns-in_err-inputs-clause-printed
@@ -24,7 +26,8 @@ returns-in_err-inputs-clause-printed g c =
     let request = c.args.request.now in
     let args = option_map (λ text. text.now) request.args in
     let regs = option_map (λ name. name.now) request.regs in
-    no_inputs g.F.Source.answers c.args.files.now _ _ request.inputs request.method.now args regs (map view c.in_ok-arguments.arguments.items) c.in_ok-registers.registers request.steps _ _ c.from_residual-in_err-inputs.result
+    let osi = option_map (λ text. text.now) request.osi in
+    no_inputs g.F.Source.answers c.args.files.now _ _ request.inputs request.method.now args regs (map view c.in_ok-arguments.arguments.items) c.in_ok-registers.registers request.steps osi _ _ c.from_residual-in_err-inputs.result
     c.from_residual-in_err-inputs.ensures.1 c.in_ok-arguments.ensures c.in_ok-registers.ensures.read c.in_err-inputs.ensures
 
 pub returns-clause-printed : goal.returns-clause-printed
@@ -32,5 +35,6 @@ returns-clause-printed g c =
     let request = c.args.request.now in
     let args = option_map (λ text. text.now) request.args in
     let regs = option_map (λ name. name.now) request.regs in
-    inputs_evaluated g.F.Source.answers c.args.files.now _ _ request.inputs request.method.now args regs (map view c.in_ok-arguments.arguments.items) c.in_ok-registers.registers c.in_ok-inputs.inputs request.steps _ _ c.evaluate_inputs.result
+    let osi = option_map (λ text. text.now) request.osi in
+    inputs_evaluated g.F.Source.answers c.args.files.now _ _ request.inputs request.method.now args regs (map view c.in_ok-arguments.arguments.items) c.in_ok-registers.registers c.in_ok-inputs.inputs request.steps osi _ _ c.evaluate_inputs.result
     c.in_ok-arguments.ensures c.in_ok-registers.ensures.read c.in_ok-inputs.ensures c.evaluate_inputs.ensures.printed

@@ -26,4 +26,5 @@ returns c =
       sym (first_value-rows found (codes "args")) ∙ sym c.get_str-2.ensures,
       sym (first_value-rows found (codes "regs")) ∙ sym c.get_str-3.ensures,
       (steps.0, sym (one_text-rows found (codes "plain")) ∙ steps.1, steps.2),
+      sym (first_value-rows found (codes "osi")) ∙ sym c.get_str-4.ensures,
     )

@@ -16,3 +16,13 @@ pub returns-in_err-owns : goal.returns-in_err-owns
 returns-in_err-owns g c = λ m is around.
     let p = err_from_is_err_and c.from_residual.result c.from_residual.ensures.1 in
     rw p.1 (unread _ _ _ _ _ _ _)
+
+pub returns-in_err-links : goal.returns-in_err-links
+returns-in_err-links g c = λ m is around.
+    let p = err_from_is_err_and c.from_residual-in_err-links.result c.from_residual-in_err-links.ensures.1 in
+    rw p.1 (unread _ _ _ _ _ _ _)
+
+pub returns-in_err-bodies : goal.returns-in_err-bodies
+returns-in_err-bodies g c = λ m is around.
+    let p = err_from_is_err_and c.from_residual-in_err-bodies.result c.from_residual-in_err-bodies.ensures.1 in
+    rw p.1 (unread _ _ _ _ _ _ _)

@@ -25,11 +25,15 @@ returns-in_ok-copied-in-Own-clause-means g c = λ around.
 pub returns-in_err-take_step-in_default-clause-means : goal.returns-in_err-take_step-in_default-clause-means
 returns-in_err-take_step-in_default-clause-means g c = λ around.
     let p = err_from_is_err_and c.from_residual-in_err-take_step-in_default.result c.from_residual-in_err-take_step-in_default.ensures.1 in
-    rw (← c.link_of.ensures, target_elsewhere (setting_of c.args.here around) _ _ _ c.in_default.not-Data c.in_default.not-Own c.in_default.not-Field, p.1, p.2) (runs_stop _ (c.in_err-take_step-in_default.ensures.means _))
+    rw (← c.link_of.ensures, target_elsewhere (setting_of c.args.here around) _ _ _ c.in_default.not-Data c.in_default.not-Own c.in_default.not-Field c.in_default.not-BufferField, p.1, p.2) (runs_stop _ (c.in_err-take_step-in_default.ensures.means _))
 
 pub returns-in_ok-take_step-in_default-clause-means : goal.returns-in_ok-take_step-in_default-clause-means
 returns-in_ok-take_step-in_default-clause-means g c = λ around.
-    rw (← c.link_of.ensures, target_elsewhere (setting_of c.args.here around) _ _ _ c.in_default.not-Data c.in_default.not-Own c.in_default.not-Field, ← c.unwritable.ensures, c.fails.ensures) (runs_then _ (c.in_ok-take_step-in_default.ensures.means _) (runs_stop_with _ _))
+    rw (← c.link_of.ensures, target_elsewhere (setting_of c.args.here around) _ _ _ c.in_default.not-Data c.in_default.not-Own c.in_default.not-Field c.in_default.not-BufferField, ← c.unwritable.ensures, c.fails.ensures) (runs_then _ (c.in_ok-take_step-in_default.ensures.means _) (runs_stop_with _ _))
 
 pub returns-in-Field-clause-means : goal.returns-in-Field-clause-means
 returns-in-Field-clause-means g c = λ around. rw (← c.in-Field.ensures) (c.field_stored.ensures.means around)
+
+pub returns-in-BufferField-clause-means : goal.returns-in-BufferField-clause-means
+returns-in-BufferField-clause-means g c = λ around.
+    rw (← c.in-BufferField.ensures) (c.part_stored.ensures.means around (g.W.World.log c.args.world.now))

@@ -1,0 +1,37 @@
+// Where a body stands.
+
+ghost use Rattle.aml_namespace.specs.Names.{link_with_owns};
+ghost use Rattle.aml_namespace.specs.OwnNamesSeen.{owns_seen};
+ghost use Rattle.aml_namespace.specs.Shows.{shown};
+ghost use Rattle.aml_plain.specs.Prepared.{AreLinks, AreSound};
+ghost use Rattle.aml_plain.specs.TreeSets.{body_props};
+
+use crate::links::Links;
+use crate::prepared::Bodies;
+use aml_namespace::{Namespace, ObjectId, OwnNames, Width};
+
+/// Where a body stands.
+#[derive(Clone, Copy)]
+pub struct Setting<'a> {
+    /// The number of its table.
+    pub table: usize,
+    /// How wide integers are.
+    pub width: Width,
+    /// Whose objects its names name.
+    pub namespace: &'a Namespace<'a>,
+    /// The method whose body it is, within which its names stand.
+    pub method: ObjectId,
+    /// The table's bytes up to the body's end, in which its names stand.
+    pub bytes: &'a [u8],
+    /// The names that the body makes itself.
+    pub owns: &'a OwnNames,
+    /// What its names mean, where that is looked up already.
+    pub links: &'a Links,
+    /// The bodies of the methods that may be called, where they are read already.
+    pub bodies: &'a Bodies,
+    /// How many methods more may be active in it.
+    pub depth: u8,
+    ghost meant: { AreLinks (link_with_owns (shown namespace.now).entries method.0 bytes.now
+        (owns_seen owns.now)) links.now },
+    ghost sound: { AreSound (shown namespace.now) bodies.now } by { Prim.hlevel body_props },
+}
