@@ -8,6 +8,7 @@ such of 65,536 bytes among them. What a row gives is worked out here from the te
 
 `iasl` and `acpiexec` are of Debian's acpica-tools (apt-get install acpica-tools).
 """
+import itertools
 import re
 import subprocess
 import sys
@@ -111,6 +112,28 @@ def data_rows(width):
     yield "Store (LONG, Local0) Return (LEqual (Local0, LONG))", top
 
 
+# the buffer of which fields are made, an integer that is stored into them, and how many bits of an index the operators of one size count
+HELD = bytes(range(0x71, 0x85))
+STORED = 0x9ABC_DEF1
+SIZES = {"Bit": (1, 1), "Byte": (8, 8), "Word": (16, 8), "DWord": (32, 8), "QWord": (64, 8)}
+
+
+def field_rows(width):
+    """Fields of a buffer of twenty bytes, by the bits of the number that its bytes make, the lowest first."""
+    counted = [(f"CreateField (HELD, {first}, {bits}, PART)", first, bits) for first, bits in
+               itertools.product((0, 1, 5, 8, 13, 31, 64, 71), (1, 3, 8, 12, 32, 33, 64, 65, 70))]
+    sized = [(f"Create{size}Field (HELD, {index}, PART)", index * unit, bits) for size, (bits, unit) in SIZES.items()
+             for index in (0, 1, 7, 12)]
+    number = int.from_bytes(HELD, "little")
+    for form, first, bits in counted + sized:
+        ones = 2**bits - 1
+        made = f"Name (HELD, {bytes_text(HELD)}) {form} "
+        field = number >> first & ones
+        yield made + "Return (PART)", field if bits <= width else field.to_bytes((bits + 7) // 8, "little")
+        left = number & ~(ones << first) | (STORED & ones) << first
+        yield made + f"Store (0x{STORED:X}, PART) Return (HELD)", left.to_bytes(len(HELD), "little")
+
+
 # what acpicheck alone is asked: the body, and the line that it prints, by the places of the DSDT that `own_rows` makes
 def own_rows(width):
     yield "Return (SizeOf (NONE))", 0
@@ -180,7 +203,7 @@ def compiled(folder, width, bodies):
 
 def compare(program, folder, width):
     """The numbers of rows and of differences."""
-    rows = [*integer_rows(width), *data_rows(width)]
+    rows = [*integer_rows(width), *data_rows(width), *field_rows(width)]
     own = list(own_rows(width))
     table = compiled(folder, width, [body for body, _ in rows + own])
     there = theirs(table, len(rows))

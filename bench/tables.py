@@ -6,6 +6,7 @@
 | adds | a method MAIN of COUNT statements `Add (Local0, One, Local0)` behind a first Store, and a Return |
 | ones | a method MAIN of COUNT statements One |
 | nested | a method MAIN of COUNT statements, each a chain of 62 LNot, one within the other, round a One |
+| deepest | COUNT methods, the first of them MAIN, each of which returns what it calls the next with: 62 calls, one within the other, of a method that returns its argument |
 | package | a method MAIN that returns a package of COUNT elements One |
 | methods | COUNT methods that return One, named in order: MAAA, MAAB and so on |
 | chosen | a method MAIN that makes COUNT names of its own by Name |
@@ -153,6 +154,13 @@ def dsdt(body):
     return bytes(table)
 
 
+def deepest(names):
+    """Methods that each return PASS (PASS (.. (the next method))), 62 times, and the last one so of One."""
+    inner = [*names[1:], b"\x01"]
+    calls = b"".join(method(name, b"\xa4" + b"PASS" * 62 + next) for name, next in zip(names, inner))
+    return package(b"\x14", b"PASS\x01\xa4\x68") + calls
+
+
 def body_of(kind, count):
     if kind == "adds":
         return method(b"MAIN", b"\x70\x00\x60" + b"\x72\x60\x01\x60" * count + b"\xa4\x60")
@@ -160,6 +168,8 @@ def body_of(kind, count):
         return method(b"MAIN", b"\x01" * count)
     if kind == "nested":
         return method(b"MAIN", (b"\x92" * 62 + b"\x01") * count)
+    if kind == "deepest":
+        return deepest([b"MAIN", *names_in_order(count - 1)])
     if kind == "package":
         return method(b"MAIN", b"\xa4" + package(b"\x13", b"\x0b" + count.to_bytes(2, "little") + b"\x01" * count))
     if kind == "methods":

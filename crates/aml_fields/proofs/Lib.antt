@@ -6,6 +6,7 @@ pub mod Numbers
 pub mod Places
 pub mod Plans
 pub mod Reading
+pub mod Shifted
 pub mod Tests
 pub mod Values
 pub mod WideBytes

@@ -24,7 +24,7 @@ pub use buffer::{read_buffer_field, read_wide_buffer_field, write_buffer_field};
 pub use bytes::BitBytes;
 pub use count::{read_count, write_count};
 pub use law::events_are_made;
-pub use part::{part_numbered, part_value};
+pub use part::{made_part, part_numbered, part_value, stored_byte, usable_part};
 pub use reach::field_in;
 pub use read::read_integer_field;
 pub use soundness::sound;

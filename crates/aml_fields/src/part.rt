@@ -4,10 +4,14 @@ ghost use Rattle.std.specs.Prelude.{◌≡◌, ◌<◌, ◌≤◌, ◌+◌, ◌*
 ghost use Rattle.aml_kinds.specs.Views.{view};
 ghost use Rattle.aml_namespace.specs.Shows.{shown};
 ghost use Rattle.aml_namespace.specs.Widths.{bits_of};
-ghost use Rattle.aml_meaning.specs.BufferFields.{IsLaidOut, buffer_field_numbered, first_bit, is_laid_out, part_of, part_value, size_bits, source_link, usable_part};
+ghost use Rattle.aml_regions.specs.BufferFields.{in_bytes};
+ghost use Rattle.aml_regions.specs.Fields.{mixed};
+ghost use Rattle.aml_meaning.specs.BufferFields.{IsLaidOut, bit_in_byte, buffer_field_numbered, byte_at, first_bit, is_laid_out, made_part, part_of, part_value, size_bits, source_link, usable_part};
 
 use crate::buffer::{read_buffer_field, read_wide_buffer_field};
+use crate::kernel::byte_replaced;
 use crate::reach::wrapped;
+use crate::source::Bits;
 use aml_kinds::{Bytes, Value};
 use aml_meaning::BufferPart;
 use aml_namespace::{
@@ -16,8 +20,8 @@ use aml_namespace::{
 use std::alloc::Global;
 
 // How many bits a field has.
-fn size_bits(namespace: &Namespace<'_>, size: BufferFieldSize) -> u64
-    ensures { result ≡ size_bits (shown namespace.now) size }
+fn size_bits(width: Width, size: BufferFieldSize) -> u64
+    ensures { result ≡ size_bits (bits_of width) size }
 {
     match size {
         BufferFieldSize::Bit => 1,
@@ -25,18 +29,42 @@ fn size_bits(namespace: &Namespace<'_>, size: BufferFieldSize) -> u64
         BufferFieldSize::Word => 16,
         BufferFieldSize::DWord => 32,
         BufferFieldSize::QWord => 64,
-        BufferFieldSize::Bits(count) => wrapped(namespace.width(), count),
+        BufferFieldSize::Bits(count) => wrapped(width, count),
     }
 }
 
-// Its first bit, where that lies below 2^64.
-fn first_bit(size: BufferFieldSize, index: u64) -> Option<u64>
-    ensures is { IfSome result (λ at. at ≡ first_bit size index) }
-    ensures none { IsTrue (is_none result) → 2 ^ 64 ≤ first_bit size index }
+// The byte at an index, which counts bits of a bit field and of one of so many bits, and else bytes.
+fn byte_at(size: BufferFieldSize, index: u64) -> u64
+    ensures { result ≡ byte_at size index }
 {
     match size {
-        BufferFieldSize::Bit | BufferFieldSize::Bits(_) => Some(index),
-        _ => index.checked_mul(8),
+        BufferFieldSize::Bit | BufferFieldSize::Bits(_) => index / 8,
+        _ => index,
+    }
+}
+
+// The bit there.
+fn bit_in_byte(size: BufferFieldSize, index: u64) -> u8
+    ensures { result ≡ bit_in_byte size index }
+{
+    match size {
+        BufferFieldSize::Bit | BufferFieldSize::Bits(_) => (index % 8) as u8,
+        _ => 0,
+    }
+}
+
+/// The field of a source with this size, at an index that counts bits for CreateBitField and CreateField
+/// and else bytes (ACPI 6.5, 19.6). Integers are taken modulo 2 to the width. Its first bit may lie
+/// past 2^64.
+pub fn made_part(width: Width, source: Link, size: BufferFieldSize, index: u64) -> BufferPart
+    ensures { result ≡ made_part (bits_of width) source size index }
+{
+    let index = wrapped(width, index);
+    BufferPart {
+        source,
+        byte: byte_at(size, index),
+        bit: bit_in_byte(size, index),
+        bits: size_bits(width, size),
     }
 }
 
@@ -53,12 +81,20 @@ fn source_link(namespace: &Namespace<'_>, source: Option<ObjectId>) -> Link
     }
 }
 
-// Whether a field has a bit, no more than 2,048, and none past 2^64.
+// Whether a field has a bit, and no more than 2,048.
 fn is_laid_out(part: BufferPart) -> bool
     ensures is { result ≡ is_laid_out part }
     ensures laid_out { IsTrue result → IsLaidOut part }
 {
-    0 < part.bits && part.bits <= 2048 && part.bits <= u64::MAX - part.at
+    0 < part.bits && part.bits <= 2048
+}
+
+/// A field, where it can be read and written. None where it has no bit or more than 2,048.
+pub fn usable_part(part: BufferPart) -> Option<BufferPart>
+    ensures is { result ≡ usable_part part }
+    ensures laid_out { IfSome result IsLaidOut }
+{
+    if is_laid_out(part) { Some(part) } else { None }
 }
 
 // The field that a buffer field of a namespace is, where it can be read and written.
@@ -66,18 +102,12 @@ fn part_in(namespace: &Namespace<'_>, field: &BufferField) -> Option<BufferPart>
     ensures is { result ≡ usable_part (part_of (shown namespace.now) field.now) }
     ensures laid_out { IfSome result IsLaidOut }
 {
-    let index = wrapped(namespace.width(), field.index);
-    let at = first_bit(field.size, index)?;
-    let part = BufferPart {
-        source: source_link(namespace, field.source.object),
-        at,
-        bits: size_bits(namespace, field.size),
-    };
-    if is_laid_out(part) { Some(part) } else { None }
+    let source = source_link(namespace, field.source.object);
+    usable_part(made_part(namespace.width(), source, field.size, field.index))
 }
 
-/// The field of a buffer that the object with a number is. None where it is none, has no bit or more
-/// than 2,048, or its last bit lies past 2^64.
+/// The field of a buffer that the object with a number is. None where it is none, or has no bit or more
+/// than 2,048.
 pub fn part_numbered(namespace: &Namespace<'_>, id: ObjectId) -> Option<BufferPart>
     ensures is { result ≡ buffer_field_numbered (shown namespace.now) id.0 }
     ensures laid_out { IfSome result IsLaidOut }
@@ -97,17 +127,53 @@ pub fn part_value(
     bytes: &[u8],
 ) -> Result<Value, NoMemory>
     requires most { part.bits ≤ 2048 }
-    requires inside { part.at + part.bits ≤ 8 * length bytes.now }
-    requires fits { part.at + part.bits < 2 ^ 64 }
+    requires inside { first_bit part + part.bits ≤ 8 * length bytes.now }
     ensures { IfOk result (λ v. view v ≡ part_value (bits_of width) part bytes.now) }
 {
+    let behind = &bytes[part.byte as usize..];
+    let at = u64::from(part.bit);
     if part.bits <= u64::from(width.bits()) {
-        let number = read_buffer_field(bytes, part.at, part.bits as u32);
+        let number = read_buffer_field(behind, at, part.bits as u32);
         return Ok(Value::Int(number));
     }
     let Ok(mut read) = vec![in alloc; 0u8; ((part.bits + 7) / 8) as usize] else {
         return Err(NoMemory);
     };
-    read_wide_buffer_field(bytes, part.at, part.bits, &mut read);
+    read_wide_buffer_field(behind, at, part.bits, &mut read);
     Ok(Value::Buf(Bytes::new(read)))
+}
+
+/// The byte with a number of a buffer, which was `byte`, behind a store of bits into a field of that
+/// buffer: those of an integer or of bytes, the lowest that the field has room for, with zeros behind
+/// them.
+pub fn stored_byte<B: Bits>(part: BufferPart, place: u64, byte: u8, value: &B) -> u8
+    requires { IsLaidOut part }
+    ensures { result ≡ mixed (in_bytes (first_bit part) part.bits) (B.bit value.now) place byte }
+{
+    if place < part.byte {
+        return byte;
+    }
+    byte_within(
+        place - part.byte,
+        byte,
+        u64::from(part.bit),
+        part.bits,
+        value,
+    )
+}
+
+// The same of the bytes from one on, which a field begins at a bit of.
+fn byte_within<B: Bits>(unit: u64, byte: u8, at: u64, bits: u64, value: &B) -> u8
+    requires some { 0 < bits }
+    requires fits { at + bits < 2 ^ 60 }
+    ensures { result ≡ mixed (in_bytes at bits) (B.bit value.now) unit byte }
+{
+    if unit < at / 8 || (at + bits - 1) / 8 < unit {
+        return byte;
+    }
+    let done = (unit * 8).saturating_sub(at);
+    let skip = (at + done) % 8;
+    let take = (8 - skip).min(bits - done);
+    let part = value.part(done, take as u32);
+    byte_replaced(byte, skip as u32, take as u32, part)
 }

@@ -2,10 +2,10 @@
 // and values of fields, worked out bit by bit.
 
 use acpi_samples::{HOST, table_of};
-use aml_fields::{part_numbered, part_value};
+use aml_fields::{made_part, part_numbered, part_value, stored_byte, usable_part};
 use aml_kinds::Value;
 use aml_meaning::BufferPart;
-use aml_namespace::{Link, LoadFault, Namespace, NoMemory, Width};
+use aml_namespace::{BufferFieldSize, Link, LoadFault, Namespace, NoMemory, Width};
 use std::alloc::{AllocError, Global};
 use std::test::Fail;
 
@@ -15,33 +15,49 @@ const BUFFER: &[u8] = b"\x08BUF0\x11\x03\x0a\x08";
 /// Name (INT0, 1) and Device (DEV0) {}.
 const OTHERS: &[u8] = b"\x08INT0\x01\x5b\x82\x05DEV0";
 
-/// A definition of FLD0; and whether its source is a data name, its first bit and its number of bits.
-const ROWS: [(&[u8], Option<(bool, u64, u64)>); 16] = [
-    (b"\x8dBUF0\x0a\x05FLD0", Some((true, 5, 1))),
-    (b"\x8cBUF0\x0a\x05FLD0", Some((true, 40, 8))),
-    (b"\x8bBUF0\x0a\x05FLD0", Some((true, 40, 16))),
-    (b"\x8aBUF0\x0a\x05FLD0", Some((true, 40, 32))),
-    (b"\x8fBUF0\x0a\x05FLD0", Some((true, 40, 64))),
-    (b"\x5b\x13BUF0\x0a\x05\x0a\x0bFLD0", Some((true, 5, 11))),
+/// A definition of FLD0; and whether its source is a data name, the byte and the bit there at which it
+/// begins, and its number of bits.
+const ROWS: [(&[u8], Option<(bool, u64, u8, u64)>); 19] = [
+    (b"\x8dBUF0\x0a\x05FLD0", Some((true, 0, 5, 1))),
+    (b"\x8dBUF0\x0a\x17FLD0", Some((true, 2, 7, 1))),
+    (b"\x8cBUF0\x0a\x05FLD0", Some((true, 5, 0, 8))),
+    (b"\x8bBUF0\x0a\x05FLD0", Some((true, 5, 0, 16))),
+    (b"\x8aBUF0\x0a\x05FLD0", Some((true, 5, 0, 32))),
+    (b"\x8fBUF0\x0a\x05FLD0", Some((true, 5, 0, 64))),
+    (b"\x5b\x13BUF0\x0a\x05\x0a\x0bFLD0", Some((true, 0, 5, 11))),
+    (b"\x5b\x13BUF0\x0a\x1c\x0a\x0bFLD0", Some((true, 3, 4, 11))),
     // no bit, 2,048 of them and 2,049
     (b"\x5b\x13BUF0\x00\x00FLD0", None),
-    (b"\x5b\x13BUF0\x00\x0b\x00\x08FLD0", Some((true, 0, 2048))),
-    (b"\x5b\x13BUF0\x00\x0b\x01\x08FLD0", None),
-    // behind 2 ^ 64, and just below it
-    (b"\x8dBUF0\x0e\xff\xff\xff\xff\xff\xff\xff\xffFLD0", None),
     (
-        b"\x8dBUF0\x0e\xfe\xff\xff\xff\xff\xff\xff\xffFLD0",
-        Some((true, 0xffff_ffff_ffff_fffe, 1)),
+        b"\x5b\x13BUF0\x00\x0b\x00\x08FLD0",
+        Some((true, 0, 0, 2048)),
     ),
-    (b"\x8cBUF0\x0e\x00\x00\x00\x00\x00\x00\x00\x20FLD0", None),
+    (b"\x5b\x13BUF0\x00\x0b\x01\x08FLD0", None),
+    // at the greatest index of bits, and at indices of bytes whose bits lie past 2^64
     (
-        b"\x8cBUF0\x0e\xfe\xff\xff\xff\xff\xff\xff\x1fFLD0",
-        Some((true, 0xffff_ffff_ffff_fff0, 8)),
+        b"\x8dBUF0\x0e\xff\xff\xff\xff\xff\xff\xff\xffFLD0",
+        Some((true, 0x1fff_ffff_ffff_ffff, 7, 1)),
+    ),
+    (
+        b"\x8cBUF0\x0e\xff\xff\xff\xff\xff\xff\xff\x1fFLD0",
+        Some((true, 0x1fff_ffff_ffff_ffff, 0, 8)),
+    ),
+    (
+        b"\x8cBUF0\x0e\x00\x00\x00\x00\x00\x00\x00\x20FLD0",
+        Some((true, 0x2000_0000_0000_0000, 0, 8)),
+    ),
+    (
+        b"\x8fBUF0\x0e\xff\xff\xff\xff\xff\xff\xff\xffFLD0",
+        Some((true, u64::MAX, 0, 64)),
+    ),
+    (
+        b"\x5b\x13BUF0\x0e\xff\xff\xff\xff\xff\xff\xff\xff\x0b\x00\x08FLD0",
+        Some((true, 0x1fff_ffff_ffff_ffff, 7, 2048)),
     ),
     // a source that is missing, of another kind, and no data
-    (b"\x8cBUF1\x00FLD0", Some((false, 0, 8))),
-    (b"\x8cINT0\x00FLD0", Some((true, 0, 8))),
-    (b"\x8cDEV0\x00FLD0", Some((false, 0, 8))),
+    (b"\x8cBUF1\x00FLD0", Some((false, 0, 0, 8))),
+    (b"\x8cINT0\x00FLD0", Some((true, 0, 0, 8))),
+    (b"\x8cDEV0\x00FLD0", Some((false, 0, 0, 8))),
 ];
 
 /// A table of these definitions.
@@ -62,17 +78,17 @@ fn is_data(source: Link) -> bool {
 }
 
 /// The field FLD0 of a table.
-fn part_in(alloc: Global, definition: &[u8]) -> Result<Option<(bool, u64, u64)>, LoadFault> {
+fn part_in(alloc: Global, definition: &[u8]) -> Result<Option<(bool, u64, u8, u64)>, LoadFault> {
     let table = match table(alloc, definition) {
         Ok(table) => table,
         Err(AllocError) => return Err(LoadFault::NoMemory),
     };
     let ns = Namespace::load(alloc, &[&table], HOST)?;
     let Some(id) = ns.find(b"\\FLD0") else {
-        return Ok(Some((false, 0, 0)));
+        return Ok(Some((false, 0, 0, 0)));
     };
     match part_numbered(&ns, id) {
-        Some(part) => Ok(Some((is_data(part.source), part.at, part.bits))),
+        Some(part) => Ok(Some((is_data(part.source), part.byte, part.bit, part.bits))),
         None => Ok(None),
     }
 }
@@ -85,6 +101,84 @@ fn rows_of_buffer_parts(rt: HostRuntime) -> Result<(), Fail> {
             found => found?,
         };
         assert_eq!(rt; found, wanted);
+    }
+    Ok(())
+}
+
+/// How wide integers are, a size and an index; and the byte, the bit there and the number of bits of
+/// the field that they make.
+const MADE: [(Width, BufferFieldSize, u64, u64, u8, u64); 12] = [
+    (Width::Bits64, BufferFieldSize::Bit, 12, 1, 4, 1),
+    (Width::Bits64, BufferFieldSize::Byte, 12, 12, 0, 8),
+    (Width::Bits64, BufferFieldSize::Word, 12, 12, 0, 16),
+    (Width::Bits64, BufferFieldSize::DWord, 12, 12, 0, 32),
+    (Width::Bits64, BufferFieldSize::QWord, 12, 12, 0, 64),
+    (Width::Bits64, BufferFieldSize::Bits(9), 12, 1, 4, 9),
+    (
+        Width::Bits64,
+        BufferFieldSize::Bits(0x1_0000_0009),
+        0x1_0000_0004,
+        0x2000_0000,
+        4,
+        0x1_0000_0009,
+    ),
+    (
+        Width::Bits32,
+        BufferFieldSize::Bits(0x1_0000_0009),
+        0x1_0000_000c,
+        1,
+        4,
+        9,
+    ),
+    (Width::Bits32, BufferFieldSize::Bit, 0x1_0000_000c, 1, 4, 1),
+    (
+        Width::Bits32,
+        BufferFieldSize::QWord,
+        0x1_0000_000c,
+        12,
+        0,
+        64,
+    ),
+    (
+        Width::Bits32,
+        BufferFieldSize::Byte,
+        u64::MAX,
+        0xffff_ffff,
+        0,
+        8,
+    ),
+    (
+        Width::Bits64,
+        BufferFieldSize::Bit,
+        u64::MAX,
+        0x1fff_ffff_ffff_ffff,
+        7,
+        1,
+    ),
+];
+
+#[test]
+fn parts_are_made_of_sizes_and_indices(rt: HostRuntime) -> Result<(), Fail> {
+    for (width, size, index, byte, bit, bits) in MADE {
+        let part = made_part(width, Link::Own(3), size, index);
+        let wanted = BufferPart {
+            source: Link::Own(3),
+            byte,
+            bit,
+            bits,
+        };
+        assert_eq!(rt; part, wanted);
+    }
+    Ok(())
+}
+
+#[test]
+fn parts_of_1_to_2048_bits_can_be_used(rt: HostRuntime) -> Result<(), Fail> {
+    for (count, usable) in [(0, false), (1, true), (2048, true), (2049, false)] {
+        let size = BufferFieldSize::Bits(count);
+        let part = made_part(Width::Bits64, Link::Missing, size, u64::MAX);
+        let wanted = if usable { Some(part) } else { None };
+        assert_eq!(rt; usable_part(part), wanted);
     }
     Ok(())
 }
@@ -127,7 +221,8 @@ fn value_text(alloc: Global, value: Value) -> Result<String, AllocError> {
 fn value_of(alloc: Global, at: u64, bits: u64, width: Width) -> Result<String, NoMemory> {
     let part = BufferPart {
         source: Link::Missing,
-        at,
+        byte: at / 8,
+        bit: (at % 8) as u8,
         bits,
     };
     if bits > 80 || at > 80 - bits {
@@ -148,6 +243,87 @@ fn rows_of_part_values(rt: HostRuntime) -> Result<(), Fail> {
             text => text?,
         };
         assert_eq!(rt; text.as_str(), wanted);
+    }
+    Ok(())
+}
+
+/// The byte and the bit at which a field of the bytes begins, its number of bits, what is stored, and the
+/// bytes behind that.
+const STORED: [(u64, u8, u64, u64, [u8; 10]); 8] = [
+    (
+        0,
+        0,
+        8,
+        0x11,
+        [0x11, 0x5a, 0xff, 0x00, 0x12, 0x34, 0x56, 0x78, 0x9a, 0xbc],
+    ),
+    (
+        1,
+        3,
+        12,
+        0xabc,
+        [0xa5, 0xe2, 0xd5, 0x00, 0x12, 0x34, 0x56, 0x78, 0x9a, 0xbc],
+    ),
+    (
+        0,
+        3,
+        1,
+        1,
+        [0xad, 0x5a, 0xff, 0x00, 0x12, 0x34, 0x56, 0x78, 0x9a, 0xbc],
+    ),
+    (
+        0,
+        13,
+        2,
+        0,
+        [0xa5, 0x1a, 0xff, 0x00, 0x12, 0x34, 0x56, 0x78, 0x9a, 0xbc],
+    ),
+    (
+        0,
+        7,
+        66,
+        0xffffffffffffffff,
+        [0xa5, 0xff, 0xff, 0xff, 0xff, 0xff, 0xff, 0xff, 0x7f, 0xbc],
+    ),
+    (
+        9,
+        0,
+        8,
+        0x1ff,
+        [0xa5, 0x5a, 0xff, 0x00, 0x12, 0x34, 0x56, 0x78, 0x9a, 0xff],
+    ),
+    (
+        9,
+        7,
+        2048,
+        0,
+        [0xa5, 0x5a, 0xff, 0x00, 0x12, 0x34, 0x56, 0x78, 0x9a, 0x3c],
+    ),
+    (
+        0x2000000000000000,
+        0,
+        64,
+        0,
+        [0xa5, 0x5a, 0xff, 0x00, 0x12, 0x34, 0x56, 0x78, 0x9a, 0xbc],
+    ),
+];
+
+#[test]
+fn bytes_of_parts_are_stored(rt: HostRuntime) -> Result<(), Fail> {
+    for (byte, bit, bits, value, wanted) in STORED {
+        let made = BufferPart {
+            source: Link::Missing,
+            byte,
+            bit,
+            bits,
+        };
+        let Some(part) = usable_part(made) else {
+            continue;
+        };
+        for place in 0..10 {
+            let stored = stored_byte(part, place as u64, BYTES[place], &value);
+            assert_eq!(rt; stored, wanted[place]);
+        }
     }
     Ok(())
 }

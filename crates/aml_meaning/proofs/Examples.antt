@@ -10,7 +10,7 @@ use Rattle.aml_meaning.specs.declared.error.AmlCause.TheVariants as cause
 use Rattle.aml_meaning.specs.State.{State, Goes, Halts, Spent, error}
 use Rattle.aml_regions.specs.declared.event.Event.TheVariants.{Slept}
 use Rattle.aml_meaning.specs.Parts.{◌>>=◌, give, stop_with, tick, paid, get_local, get_arg, set_local, set_arg, make_event}
-use Rattle.aml_meaning.specs.Owns.{get_own, define_own}
+use Rattle.aml_meaning.specs.Owns.{get_own, make_own, own_field}
 use Rattle.aml_meaning.specs.Changes.{change}
 use Rattle.aml_meaning.specs.Loops.{loop, spent, turned}
 use Rattle.aml_meaning.specs.Calls.{framed}
@@ -183,16 +183,16 @@ abbrev own_returned : Trees
 own_returned = more (definition 0) (more (Node Return 6 11 (more (Node Invocation 7 11 (more (Node NameString 7 11 none) none)) none)) none)
 
 an_own_name : evaluated (owning_from 6) own_returned [] [] (steps 4) ≡ Goes (Some (Int 1)) (steps 0)
-unfolding framed ◌>>=◌ give stop_with tick paid get_own define_own
+unfolding framed ◌>>=◌ give stop_with tick paid get_own make_own own_field
 an_own_name = refl
 
 one_step_less_of_it : evaluated (owning_from 6) own_returned [] [] (steps 3) ≡ Spent (steps 0)
-unfolding framed ◌>>=◌ give stop_with tick paid get_own define_own
+unfolding framed ◌>>=◌ give stop_with tick paid get_own make_own own_field
 one_step_less_of_it = refl
 
 -- the same segment twice
 made_once : evaluated (owning_from 6) (more (definition 0) (more (definition 6) none)) [] [] (steps 3) ≡ Halts (error cause.Outside 0 6) (steps 0)
-unfolding framed ◌>>=◌ give stop_with tick paid define_own
+unfolding framed ◌>>=◌ give stop_with tick paid make_own
 made_once = refl
 
 -- If (One) {Name (OWN0, One)}

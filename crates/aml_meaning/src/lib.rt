@@ -1,17 +1,19 @@
 //! What AML means: the text that a reader must believe (ACPI 6.5, 5.5.2 and 19.6).
 //!
 //! The meaning itself stands in `specs/`: `State` (values, frames, states), `Parts` (what an
-//! evaluation is made of), `Meaning` (what each operator means), `Definitions` (what a Name at the top
-//! of a body makes), `Whole` (a method's body) and `Runs` (what an evaluator's answer says of it).
+//! evaluation is made of), `Meaning` (what each operator means), `Definitions` (what a Name or a
+//! CreateField form at the top of a body makes), `Whole` (a method's body) and `Runs` (what an evaluator's answer says of it).
 //! `docs/MEANING.md` tells the same in plain words.
 #![tactic(auto)]
 
 mod action;
+mod definition;
 mod error;
 mod law;
 mod part;
 
 pub use action::{Action, Arithmetic, Bitwise, Comparison, Conversion, Pause, action_of};
+pub use definition::{Definition, definition_of};
 pub use error::{AmlCause, AmlError};
 pub use law::{
     calls_keep_the_frame, done_is_stable, lists_are_in_order, quiet_terms_keep, reads_are_answered,

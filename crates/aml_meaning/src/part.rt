@@ -7,8 +7,10 @@ use aml_namespace::Link;
 pub struct BufferPart {
     /// What has the buffer: a data name, an own name, or nothing.
     pub source: Link,
-    /// Its first bit.
-    pub at: u64,
-    /// Its number of bits.
+    /// The byte from which its first bit is counted.
+    pub byte: u64,
+    /// The number of that bit there, the lowest of the byte being 0.
+    pub bit: u8,
+    /// How many bits it has.
     pub bits: u64,
 }

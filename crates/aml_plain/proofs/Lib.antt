@@ -9,6 +9,7 @@ pub mod Branches
 pub mod Around
 pub mod Stored
 pub mod Written
+pub mod InPlace
 pub mod Known
 pub mod Bodies
-pub mod Parts
+pub mod OwnFields

@@ -23,6 +23,17 @@ pub fn first_place(parts: &[Term]) -> usize
     }
 }
 
+/// The place of the first, if there is any.
+#[tactic(auto, using(aml_operators::proofs::Views::view_out))]
+pub fn first_place_if_any(parts: &[Term]) -> Option<usize>
+    ensures { result ≡ first_at (views parts.now) }
+{
+    match parts {
+        [first, ..] => Some(first.at),
+        [] => None,
+    }
+}
+
 pub fn one(parts: &[Term]) -> &Term
     requires { length parts.now ≡ 1 }
     ensures { views parts.now ≡ more (view result.now) none }

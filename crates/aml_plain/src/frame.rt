@@ -8,16 +8,17 @@ ghost use Rattle.aml_plain.specs.Tells.{IsOrNoMemory, frame_of, told, value_of};
 
 use crate::halt::{Halt, Setting, fails};
 use aml_kinds::{Names, Value, copy};
-use aml_meaning::AmlCause;
+use aml_meaning::{AmlCause, BufferPart};
 use std::alloc::Global;
 
 /// Locals and arguments, unset or with a value, and the names that the method has made so far, by their
-/// numbers in order of definition.
+/// numbers in order of definition: what each holds, or the field of a buffer that it is.
 #[derive(Drop)]
 pub struct Frame {
     pub locals: [Option<Value>; 8],
     pub args: [Option<Value>; 7],
     pub owns: Names,
+    pub fields: Vec<Option<BufferPart>>,
 }
 
 impl Frame {
@@ -38,6 +39,7 @@ impl Frame {
                 given.next(),
             ],
             owns: Names::new(alloc),
+            fields: Vec::new(alloc),
         }
     }
 }

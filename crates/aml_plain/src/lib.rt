@@ -4,6 +4,7 @@
 mod body;
 mod callee;
 mod data;
+mod define;
 mod eval;
 mod field;
 mod form;
@@ -19,6 +20,7 @@ mod method;
 mod notice;
 mod operand;
 mod own;
+mod own_name;
 mod part;
 mod prepared;
 mod rules;

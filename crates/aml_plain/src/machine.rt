@@ -1,19 +1,20 @@
 // What a running evaluation changes.
 
-ghost use Rattle.std.specs.Prelude.{◌≡◌, ◌≤◌, suc, List, OnOk, Some};
+ghost use Rattle.std.specs.Prelude.{◌≡◌, ◌≤◌, suc, List, None, OnOk, Option, Some};
+ghost use Rattle.std.specs.Option.{option_map};
 ghost use Rattle.aml_kinds.specs.Contents.{content_at};
 ghost use Rattle.aml_kinds.specs.Views.{view};
 ghost use Rattle.aml_regions.specs.declared.event.Event.{Event};
 ghost use Rattle.aml_namespace.specs.Widths.{bits_of};
-ghost use Rattle.aml_meaning.specs.Owns.{define_own, set_own};
+ghost use Rattle.aml_meaning.specs.Owns.{define_field, define_own, field_at, make_own, set_own};
 ghost use Rattle.aml_meaning.specs.Parts.{set_name, tick, with_arg, with_local};
 ghost use Rattle.aml_meaning.specs.Runs.{Runs, content};
-ghost use Rattle.aml_plain.specs.Tells.{IsOrNoMemory, is_package, now, told, went};
+ghost use Rattle.aml_plain.specs.Tells.{IsOrNoMemory, is_package, now, told, value_of, went};
 
 use crate::frame::{Frame, hold};
 use crate::halt::{Halt, Setting, fails};
 use aml_kinds::{Names, Value, copy};
-use aml_meaning::AmlCause;
+use aml_meaning::{AmlCause, BufferPart};
 use aml_namespace::ObjectId;
 use std::alloc::Global;
 
@@ -116,6 +117,14 @@ impl Machine {
         }
     }
 
+    /// The field of a buffer that an own name is.
+    pub fn own_field(&self, number: usize) -> Option<BufferPart>
+        ensures { (log : List Event) →
+            result ≡ field_at (now self.now log).frame.fields number }
+    {
+        *self.frame.fields.get(number)?
+    }
+
     /// What an own name holds, where it stands. A1 at the term's place where it holds nothing.
     pub fn own_seen(&self, here: Setting<'_>, at: usize, number: usize) -> Result<&Value, Halt>
         ensures { (log : List Event) → told (λ v. view v.now) result
@@ -175,6 +184,24 @@ impl Machine {
         }
     }
 
+    /// Makes an own name more.
+    fn make_own(
+        &mut self,
+        alloc: Global,
+        here: Setting<'_>,
+        held: Option<Value>,
+        field: Option<BufferPart>,
+    ) -> Result<(), Halt>
+        ensures means { (log : List Event) → Runs (went result)
+            (make_own (bits_of here.entry.width) (value_of held) field)
+            (now self.old log) (now self.new log) }
+        ensures steps { self.new.steps ≡ self.old.steps }
+    {
+        self.frame.owns.push(alloc, here.width, held)?;
+        self.frame.fields.push(field)?;
+        Ok(())
+    }
+
     /// Makes an own name more, which holds this value first.
     pub fn define_own(&mut self, alloc: Global, here: Setting<'_>, value: Value) -> Result<(), Halt>
         ensures means { (log : List Event) → Runs (went result)
@@ -182,8 +209,22 @@ impl Machine {
             (now self.old log) (now self.new log) }
         ensures steps { self.new.steps ≡ self.old.steps }
     {
-        self.frame.owns.push(alloc, here.width, Some(value))?;
-        Ok(())
+        self.make_own(alloc, here, Some(value), None)
+    }
+
+    /// Makes an own name more, which is a field of a buffer.
+    pub fn define_field(
+        &mut self,
+        alloc: Global,
+        here: Setting<'_>,
+        field: BufferPart,
+    ) -> Result<(), Halt>
+        ensures means { (log : List Event) → Runs (went result)
+            (define_field (bits_of here.entry.width) field)
+            (now self.old log) (now self.new log) }
+        ensures steps { self.new.steps ≡ self.old.steps }
+    {
+        self.make_own(alloc, here, None, Some(field))
     }
 }
 

@@ -18,6 +18,7 @@ use crate::halt::{Halt, Setting, fails};
 use crate::integer::{truth, wrapped};
 use crate::machine::Machine;
 use crate::own::link_of;
+use crate::own_name::own_seen;
 use crate::rules::sized;
 use aml_kinds::Value;
 use aml_meaning::{Action, AmlCause, action_of};
@@ -87,7 +88,7 @@ fn named_seen<'a>(here: Setting<'_>, at: usize, machine: &'a Machine) -> Result<
 {
     match link_of(here, at) {
         Link::Data(id) => machine.seen(here, at, id),
-        Link::Own(number) => machine.own_seen(here, at, number),
+        Link::Own(number) => own_seen(here, at, number, machine),
         link => Err(fails(sizeless(link), here, at)),
     }
 }

@@ -1,38 +1,45 @@
-// Fields of buffers behind names (ACPI 6.5, 19.6, CreateField and its kin).
+// Fields of buffers (ACPI 6.5, 19.6, CreateField and its kin).
 
-ghost use Rattle.std.specs.Prelude.{◌≡◌, ◌<◌, ◌≤◌, ◌+◌, ◌*◌, ◌^◌, nat_le, length, List, IfOk};
+ghost use Rattle.std.specs.Prelude.{◌≡◌, ℕ, ◌<◌, ◌≤◌, ◌+◌, ◌*◌, ◌/◌, ◌^◌, nat_le, length, slice_index, List, Some, IfOk, IfSome};
 ghost use Rattle.std.specs.Option.{option_map};
-ghost use Rattle.aml_kinds.specs.Contents.{content_at};
-ghost use Rattle.aml_kinds.specs.Held.{contents};
+ghost use Rattle.aml_kinds.specs.Contents.{content_at, with_content};
+ghost use Rattle.aml_kinds.specs.Held.{contents, content_kinds};
 ghost use Rattle.aml_kinds.specs.Values.{Buf};
 ghost use Rattle.aml_kinds.specs.Views.{view};
 ghost use Rattle.aml_namespace.specs.Shows.{shown};
 ghost use Rattle.aml_namespace.specs.Widths.{bits_of};
 ghost use Rattle.aml_regions.specs.BufferFields.{stored};
 ghost use Rattle.aml_regions.specs.declared.event.Event.{Event};
-ghost use Rattle.aml_meaning.specs.BufferFields.{IsLaidOut, buffer_field_numbered, bytes_around, read_part, wanted_part, written_part};
+ghost use Rattle.aml_meaning.specs.BufferFields.{IsLaidOut, buffer_field_numbered, bytes_around, first_bit, read_part, wanted_part, written_part};
 ghost use Rattle.aml_meaning.specs.Changes.{change, held_by};
 ghost use Rattle.aml_meaning.specs.Meaning.{part_changed, part_read};
 ghost use Rattle.aml_meaning.specs.Runs.{Runs, ruled};
-ghost use Rattle.aml_plain.specs.Tells.{IsChangedIfAny, IsOrNoMemory, itself, names_of, now, place_in, setting_of, told, value_of, went};
+ghost use Rattle.aml_plain.specs.Tells.{IsChanged, IsOrNoMemory, buffer_of, itself, names_of, now, place_in, setting_of, told, value_of, went};
 
 use crate::field::takes_buffer;
 use crate::halt::{Halt, Setting, fails};
 use crate::machine::Machine;
-use aml_fields::{BitBytes, Bits, part_numbered, part_value, write_buffer_field};
-use aml_kinds::{Bytes, Names, Value};
+use aml_fields::{BitBytes, Bits, part_numbered, part_value, stored_byte};
+use aml_kinds::{Names, Value};
 use aml_meaning::{AmlCause, BufferPart};
-use aml_namespace::{Link, NoMemory, ObjectId};
+use aml_namespace::{Link, ObjectId};
 use std::alloc::Global;
 
-/// The field that an object is, where it is wanted. A7 at its name where there is none that can be
-/// read and written.
-fn wanted_part(here: Setting<'_>, at: usize, id: ObjectId) -> Result<BufferPart, Halt>
-    ensures is { told itself result ≡ ruled (wanted_part (place_in here.entry at)
-        (buffer_field_numbered (shown here.entry.namespace.now) id.0)) }
+/// The field of a buffer that an object is, where it is one that can be read and written.
+pub fn named_part(here: Setting<'_>, id: ObjectId) -> Option<BufferPart>
+    ensures is { result ≡ buffer_field_numbered (shown here.entry.namespace.now) id.0 }
+    ensures laid_out { IfSome result IsLaidOut }
+{
+    part_numbered(here.namespace, id)
+}
+
+/// The field, where it is wanted. A7 at its name where there is none that can be read and written.
+fn wanted_part(here: Setting<'_>, at: usize, part: Option<BufferPart>) -> Result<BufferPart, Halt>
+    requires { IfSome part IsLaidOut }
+    ensures is { told itself result ≡ ruled (wanted_part (place_in here.entry at) part) }
     ensures laid_out { IfOk result IsLaidOut }
 {
-    match part_numbered(here.namespace, id) {
+    match part {
         Some(part) => Ok(part),
         None => Err(fails(AmlCause::Region, here, at)),
     }
@@ -50,12 +57,20 @@ fn held_by(machine: &Machine, source: Link) -> Option<&Value>
     }
 }
 
+/// In how many bytes a field has a bit, from the one on from which its first bit is counted.
+fn bytes_from(part: BufferPart) -> u64
+    requires { IsLaidOut part }
+    ensures { result ≡ (part.bit + part.bits + 7) / 8 }
+{
+    (u64::from(part.bit) + part.bits + 7) / 8
+}
+
 /// Whether all bits of a field lie in a buffer of so many bytes.
 fn lies_in(part: BufferPart, size: usize) -> bool
     requires { IsLaidOut part }
-    ensures { result ≡ nat_le (part.at + part.bits) (8 * size) }
+    ensures { result ≡ nat_le (first_bit part + part.bits) (8 * size) }
 {
-    (part.at + part.bits - 1) / 8 < size as u64
+    part.byte <= size as u64 && bytes_from(part) <= size as u64 - part.byte
 }
 
 /// The bytes of the buffer in which a field lies. At its name A2 where its source holds no buffer, and
@@ -69,7 +84,7 @@ fn bytes_around<'a>(
     requires { IsLaidOut part }
     ensures is { told (λ b. b.now) result ≡ ruled (bytes_around (place_in here.entry at) part
         (option_map (λ v. view v.now) held.entry)) }
-    ensures inside { IfOk result (λ b. part.at + part.bits ≤ 8 * length b.now) }
+    ensures inside { IfOk result (λ b. first_bit part + part.bits ≤ 8 * length b.now) }
 {
     let Some(Value::Buf(bytes)) = held else {
         return Err(fails(AmlCause::Kind, here, at));
@@ -98,77 +113,74 @@ fn content(
     Ok(value)
 }
 
-/// What the name of a field of a buffer means where it is read.
+/// What the name of a field of a buffer means where it is read. A7 at it where there is none that can be
+/// read and written.
 pub fn part_read(
     alloc: Global,
     here: Setting<'_>,
     at: usize,
-    id: ObjectId,
+    part: Option<BufferPart>,
     machine: &Machine,
 ) -> Result<Option<Value>, Halt>
+    requires { IfSome part IsLaidOut }
     ensures { (around : _) (log : List Event) → Runs (told value_of result)
-        (part_read (setting_of here.entry around) id.0 at)
+        (part_read (setting_of here.entry around) part at)
         (now machine.now log) (now machine.now log) }
 {
-    let part = wanted_part(here, at, id)?;
+    let part = wanted_part(here, at, part)?;
     let held = held_by(machine, part.source);
     let value = content(alloc, here, at, part, held)?;
     Ok(Some(value))
 }
 
-/// A copy of a buffer, whose field has these bits.
-fn with_part<B: Bits>(
-    alloc: Global,
-    bytes: &[u8],
-    part: BufferPart,
-    value: &B,
-) -> Result<Vec<u8>, NoMemory>
-    requires laid_out { IsLaidOut part }
-    requires inside { part.at + part.bits ≤ 8 * length bytes.now }
-    ensures { IfOk result
-        (λ made. made.items ≡ stored part.at part.bits (B.bit value.now) bytes.now) }
+/// The bytes of a buffer; none of anything else.
+fn bytes_of<'a>(held: Option<&'a Value>) -> &'a [u8]
+    ensures { result.now ≡ buffer_of (option_map (λ v. view v.now) held.entry) }
 {
-    let Ok(mut made) = bytes.to_vec(alloc) else {
-        return Err(NoMemory);
-    };
-    write_buffer_field(&mut made, part.at, part.bits, value);
-    Ok(made)
-}
-
-/// What the source of a field holds behind a store into the field. A2 at its name for what it does not
-/// take.
-fn changed(
-    alloc: Global,
-    here: Setting<'_>,
-    at: usize,
-    part: BufferPart,
-    stored: &Value,
-    held: Option<&Value>,
-) -> Result<Vec<u8>, Halt>
-    requires { IsLaidOut part }
-    ensures { IsOrNoMemory (told (λ b. Buf b.items) result)
-        (ruled (written_part (bits_of here.entry.width) (place_in here.entry at) part
-        (view stored.now) (option_map (λ v. view v.now) held.entry))) }
-{
-    let bytes = bytes_around(here, at, part, held)?;
-    match stored {
-        Value::Int(number) => Ok(with_part(alloc, bytes, part, number)?),
-        Value::Buf(given) => {
-            if !takes_buffer(here.width, part.bits, given.as_slice()) {
-                return Err(fails(AmlCause::Kind, here, at));
-            }
-            let bits = BitBytes {
-                bytes: given.as_slice(),
-            };
-            Ok(with_part(alloc, bytes, part, &bits)?)
-        }
-        _ => Err(fails(AmlCause::Kind, here, at)),
+    match held {
+        Some(Value::Buf(bytes)) => bytes.as_slice(),
+        _ => &[],
     }
 }
 
-/// Stores into a field of the buffer that the name with a number holds.
+/// The byte that stands there; zero past the end.
+fn byte_at(bytes: &[u8], place: usize) -> u8
+    ensures { result ≡ slice_index bytes.now place }
+{
+    match bytes.get(place) {
+        Some(byte) => *byte,
+        None => 0,
+    }
+}
+
+/// The items of a list of bytes are bytes.
+fn are_bytes(bytes: &[u8])
+    ensures { (i : ℕ) → slice_index bytes.now i < 2 ^ 8 }
+{}
+
+/// Stores bits into a field of the buffer of so many bytes that the name with a number holds, a byte at
+/// a time and in place. It takes no memory.
+fn put_bits<B: Bits>(part: BufferPart, size: usize, value: &B, names: &mut Names, id: ObjectId)
+    requires laid_out { IsLaidOut part }
+    requires inside { first_bit part + part.bits ≤ 8 * size }
+    ensures put { (bytes : List ℕ) → content_at (contents names.old) id.0 ≡ Some (Buf bytes) →
+        contents names.new ≡ with_content (contents names.old) id.0
+        (Buf (stored (first_bit part) part.bits (B.bit value.now) bytes)) }
+    ensures kinds { content_kinds names.new ≡ content_kinds names.old }
+{
+    are_bytes(bytes_of(names.get(id)));
+    let first = part.byte as usize;
+    for place in first..first + bytes_from(part) as usize {
+        let old = byte_at(bytes_of(names.get(id)), place);
+        let byte = stored_byte(part, place as u64, old, value);
+        names.set_byte(id, place, byte);
+    }
+}
+
+/// Stores into a field of the buffer that the name with a number holds. At the field's name A2 where it
+/// holds no buffer, A4 where a bit of the field lies past the end, and A2 for what the field does not
+/// take.
 fn write_in(
-    alloc: Global,
     here: Setting<'_>,
     at: usize,
     part: BufferPart,
@@ -177,23 +189,28 @@ fn write_in(
     id: ObjectId,
 ) -> Result<(), Halt>
     requires { IsLaidOut part }
-    ensures { IsChangedIfAny (written_part (bits_of here.entry.width) (place_in here.entry at) part
+    ensures { IsChanged (written_part (bits_of here.entry.width) (place_in here.entry at) part
         (view stored.now) (content_at (contents names.old) id.0))
         (went result) id.0 (names_of names.old) (names_of names.new) }
 {
-    let bytes = changed(alloc, here, at, part, stored, names.get(id))?;
-    names.hold_their_kinds();
-    if names.set(id, Value::Buf(Bytes::new(bytes))).is_ok() {
-        Ok(())
-    } else {
-        unreachable!()
+    let size = bytes_around(here, at, part, names.get(id))?.len();
+    match stored {
+        Value::Int(number) => put_bits(part, size, number, names, id),
+        Value::Buf(given) => {
+            let bytes = given.as_slice();
+            if !takes_buffer(here.width, part.bits, bytes) {
+                return Err(fails(AmlCause::Kind, here, at));
+            }
+            put_bits(part, size, &BitBytes { bytes }, names, id);
+        }
+        _ => return Err(fails(AmlCause::Kind, here, at)),
     }
+    Ok(())
 }
 
 /// Stores into a field, with a step. A2 and A4 at its name, as when it is read, and A2 for what it does
 /// not take.
 fn put_part(
-    alloc: Global,
     here: Setting<'_>,
     at: usize,
     part: BufferPart,
@@ -212,13 +229,10 @@ fn put_part(
     }
     machine.steps -= 1;
     match part.source {
-        Link::Data(source) => {
-            let names = &mut machine.names;
-            write_in(alloc, here, at, part, stored, names, source)
-        }
+        Link::Data(source) => write_in(here, at, part, stored, &mut machine.names, source),
         Link::Own(number) => {
             let owns = &mut machine.frame.owns;
-            write_in(alloc, here, at, part, stored, owns, ObjectId(number))
+            write_in(here, at, part, stored, owns, ObjectId(number))
         }
         _ => Err(fails(AmlCause::Kind, here, at)),
     }
@@ -227,20 +241,20 @@ fn put_part(
 /// Stores into what the name of a field of a buffer means. A7 at its name where there is none that can be
 /// read and written.
 pub fn part_stored(
-    alloc: Global,
     here: Setting<'_>,
     at: usize,
-    id: ObjectId,
+    part: Option<BufferPart>,
     stored: &Value,
     machine: &mut Machine,
 ) -> Result<(), Halt>
-    ensures means { (around : _) (log : List Event) → let s = setting_of here.entry around in
-        Runs (went result) (part_changed s at (s.buffer_field id.0) (view stored.now))
+    requires { IfSome part IsLaidOut }
+    ensures means { (around : _) (log : List Event) → Runs (went result)
+        (part_changed (setting_of here.entry around) at part (view stored.now))
         (now machine.old log) (now machine.new log) }
     ensures falls { machine.new.steps ≤ machine.old.steps }
 {
-    match part_numbered(here.namespace, id) {
-        Some(part) => put_part(alloc, here, at, part, stored, machine),
+    match part {
+        Some(part) => put_part(here, at, part, stored, machine),
         None => {
             machine.take_step()?;
             Err(fails(AmlCause::Region, here, at))

@@ -10,7 +10,8 @@ use crate::field::{field_read, field_stored};
 use crate::halt::{Halt, Setting, fails};
 use crate::machine::Machine;
 use crate::own::link_of;
-use crate::part::{part_read, part_stored};
+use crate::own_name::{own_held, own_stored};
+use crate::part::{named_part, part_read, part_stored};
 use aml_kinds::{Value, copy};
 use aml_meaning::{Action, AmlCause};
 use aml_namespace::Link;
@@ -57,12 +58,9 @@ pub fn named<W: World>(
             let content = machine.content(alloc, here, at, id)?;
             Ok(Some(content))
         }
-        Link::Own(number) => {
-            let content = machine.own_content(alloc, here, at, number)?;
-            Ok(Some(content))
-        }
+        Link::Own(number) => own_held(alloc, here, at, number, machine),
         Link::Field(id) => field_read(alloc, here, at, id, machine, world),
-        Link::BufferField(id) => part_read(alloc, here, at, id, machine),
+        Link::BufferField(id) => part_read(alloc, here, at, named_part(here, id), machine),
         link => Err(fails(unwritable(link), here, at)),
     }
 }
@@ -124,12 +122,9 @@ fn put_name<W: World>(
             let copied = copy(alloc, stored)?;
             machine.set_name(here, at, id, copied)
         }
-        Link::Own(number) => {
-            let copied = copy(alloc, stored)?;
-            machine.set_own(here, at, number, copied)
-        }
+        Link::Own(number) => own_stored(alloc, here, at, number, stored, machine),
         Link::Field(id) => field_stored(here, at, id, stored, machine, world),
-        Link::BufferField(id) => part_stored(alloc, here, at, id, stored, machine),
+        Link::BufferField(id) => part_stored(here, at, named_part(here, id), stored, machine),
         link => {
             machine.take_step()?;
             Err(fails(unwritable(link), here, at))

@@ -16,13 +16,16 @@ use std::test::Fail;
 /// CreateWordField (BUF0, 1, WRD1), CreateDWordField (BUF0, 0, DWD0), CreateQWordField (BUF1, 1, QWD1),
 /// CreateField (BUF0, 4, 12, FLD4), CreateField (BUF1, 4, 70, WIDE), CreateWordField (BUF0, 3, PAST),
 /// CreateField (BUF0, 0, 0, NONE), CreateField (BUF0, 0, 2049, MANY), CreateByteField (INT0, 0, OFIN),
-/// CreateByteField (MISS, 0, OFMI), CreateByteField (BUF2, 0, LATE), Name (BUF2, Buffer (1) {0x5a}).
+/// CreateByteField (MISS, 0, OFMI), CreateByteField (BUF2, 0, LATE), Name (BUF2, Buffer (1) {0x5a}),
+/// CreateByteField (BUF0, 0x2000000000000000, FARB), CreateBitField (BUF0, 0xffffffff00000003, FAR3).
 const FIELDS: &[u8] = b"\x08BUF0\x11\x07\x0a\x04\x78\x56\x34\x12\
     \x08BUF1\x11\x13\x0a\x10\x01\x02\x03\x04\x05\x06\x07\x08\x09\x0a\x0b\x0c\x0d\x0e\x0f\x10\
     \x08INT0\x01\x8dBUF0\x0a\x03BIT3\x8cBUF0\x01BYT1\x8bBUF0\x01WRD1\x8aBUF0\x00DWD0\
     \x8fBUF1\x01QWD1\x5b\x13BUF0\x0a\x04\x0a\x0cFLD4\x5b\x13BUF1\x0a\x04\x0a\x46WIDE\
     \x8bBUF0\x0a\x03PAST\x5b\x13BUF0\x00\x00NONE\x5b\x13BUF0\x00\x0b\x01\x08MANY\
-    \x8cINT0\x00OFIN\x8cMISS\x00OFMI\x8cBUF2\x00LATE\x08BUF2\x11\x04\x0a\x01\x5a";
+    \x8cINT0\x00OFIN\x8cMISS\x00OFMI\x8cBUF2\x00LATE\x08BUF2\x11\x04\x0a\x01\x5a\
+    \x8cBUF0\x0e\x00\x00\x00\x00\x00\x00\x00\x20FARB\
+    \x8dBUF0\x0e\x03\x00\x00\x00\xff\xff\xff\xffFAR3";
 
 /// The outcome of a method of this body, before those definitions.
 fn outcome_of(
@@ -77,6 +80,11 @@ fn rows_of_buffer_fields_read(rt: HostRuntime) -> Result<(), Fail> {
         (b"\xa4LATE", 2, 2, Wanted::Int(0x5a)),
         (b"\xa4PAST", 2, 2, Wanted::Error(AmlCause::Index, 44)),
         (b"\xa4PAST", 2, 1, Wanted::OutOfSteps),
+        (b"\xa4FARB", 2, 2, Wanted::Error(AmlCause::Index, 44)),
+        (b"\xa4FARB", 2, 1, Wanted::OutOfSteps),
+        (b"\xa4FARB", 1, 2, Wanted::Int(0x78)),
+        (b"\xa4FAR3", 2, 2, Wanted::Error(AmlCause::Index, 44)),
+        (b"\xa4FAR3", 1, 2, Wanted::Int(1)),
         (b"\xa4NONE", 2, 2, region),
         (b"\xa4MANY", 2, 2, region),
         (b"\xa4MANY", 2, 1, Wanted::OutOfSteps),
@@ -160,6 +168,9 @@ fn rows_of_buffer_fields_that_are_refused(rt: HostRuntime) -> Result<(), Fail> {
         // Store (One, PAST), NONE, MANY, OFIN, OFMI
         (b"\x70\x01PAST", 2, 3, Wanted::Error(AmlCause::Index, 45)),
         (b"\x70\x01PAST", 2, 2, Wanted::OutOfSteps),
+        (b"\x70\x01FARB", 2, 3, Wanted::Error(AmlCause::Index, 45)),
+        (b"\x70\x01FARB", 2, 2, Wanted::OutOfSteps),
+        (b"\x70\x01FAR3", 2, 3, Wanted::Error(AmlCause::Index, 45)),
         (b"\x70\x01NONE", 2, 3, region),
         (b"\x70\x01NONE", 2, 2, Wanted::OutOfSteps),
         (b"\x70\x01MANY", 2, 3, region),

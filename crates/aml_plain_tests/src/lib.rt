@@ -18,6 +18,8 @@ mod meaning;
 #[cfg(test)]
 mod operators;
 #[cfg(test)]
+mod own_fields;
+#[cfg(test)]
 mod own_names;
 #[cfg(test)]
 mod plain;

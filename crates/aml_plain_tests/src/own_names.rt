@@ -169,9 +169,6 @@ fn outside(rt: HostRuntime) -> Result<(), Fail> {
         // Name (OWN0, Revision)
         (b"\x08OWN0\x5b\x30", 2, 2, outside(48)),
         (b"\x08OWN0\x5b\x30", 2, 1, Wanted::OutOfSteps),
-        // Name (OWN0, One), CreateByteField (BUF0, Zero, FLD0)
-        (b"\x08OWN0\x01\x8cBUF0\x00FLD0", 2, 3, outside(49)),
-        (b"\x08OWN0\x01\x8cBUF0\x00FLD0", 2, 2, Wanted::OutOfSteps),
     ];
     each_ends(&rt, rt.alloc(), rows)?;
     Ok(())

@@ -1,10 +1,10 @@
-use Rattle.std.proofs.Common.{◌≡◌, ℕ, ◌<◌, ◌≤◌, ◌≢◌, ◌+◌, ◌-◌, ◌*◌, ◌/◌, ◌%◌, length, get_or, get_or-set_other, get_or-set_same, refl, sym, ap, ◌∙◌, arith, below_more, false, ⊎_elim}
+use Rattle.std.proofs.Common.{◌<◌, ◌≤◌, ◌≢◌, ◌+◌, ◌/◌, ◌%◌, length, get_or, get_or-set_other, get_or-set_same, refl, sym, ap, ◌∙◌, arith, below_more, ⊎_elim}
 use Rattle.std.proofs.lemmas.Bool.{cases_lt}
-use Rattle.aml_fields.proofs.Tests.{below_lt, past_lt}
 use Rattle.std.proofs.lemmas.List.FromFn.{fill_by_all}
-use Rattle.aml_regions.specs.Fields.{has, mixed}
+use Rattle.aml_regions.specs.Fields.{mixed}
 use Rattle.aml_regions.specs.BufferFields.{in_bytes, stored}
 use Rattle.aml_fields.proofs.Places.{places, touched}
+use Rattle.aml_fields.proofs.Shifted.{untouched_behind, untouched_below}
 use Rattle.aml_fields.proofs.Writing.{mixed_outside, mixed_same}
 use Rattle.aml_fields.proofs.buffer.write_buffer_field.Goals as goal
 
@@ -28,12 +28,6 @@ loop-unit-preserved g c =
       before = λ j lt. let ne : j ≢ u = omega arith in rw get_or-set_other (i.before j lt);
       behind = λ j le. let ne : j ≢ u = omega arith in rw get_or-set_other (i.behind j (omega arith));
     }
-
-untouched_below : (at n k j : ℕ) → k < at / 8 → j < 8 → has (in_bytes at n) (k * 8 + j) ≡ false
-untouched_below at n k j lt low = below_lt at (k * 8 + j) _ _ (omega arith)
-
-untouched_behind : (at n k j : ℕ) → 0 < n → (at + n - 1) / 8 + 1 ≤ k → has (in_bytes at n) (k * 8 + j) ≡ false
-untouched_behind at n k j some le = past_lt at (k * 8 + j) _ _ (omega arith)
 
 pub returns : goal.returns
 unfolding stored

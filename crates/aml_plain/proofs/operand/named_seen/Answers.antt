@@ -1,5 +1,4 @@
 use Rattle.aml_meaning.proofs.Runs.{runs_get_name, runs_stop_with}
-use Rattle.aml_meaning.proofs.Owned.{runs_get_own}
 use Rattle.aml_plain.proofs.Forms.{seen_elsewhere}
 use Rattle.aml_plain.proofs.Ruled.{runs_as}
 use Rattle.aml_plain.specs.Tells.{now, setting_of}
@@ -11,7 +10,7 @@ returns-in-Data c = λ around log.
 
 pub returns-in-Own : goal.returns-in-Own
 returns-in-Own c = λ around log.
-    rw (← c.in-Own.ensures) (runs_as (c.own_seen.ensures log) (runs_get_own _ _ _ (now c.args.machine.now log)))
+    rw (← c.in-Own.ensures) (c.own_seen.ensures around log)
 
 pub returns-in_default : goal.returns-in_default
 returns-in_default c = λ around log.

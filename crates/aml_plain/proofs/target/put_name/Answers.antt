@@ -13,14 +13,9 @@ pub returns-in_ok-copied-in-Data-clause-means : goal.returns-in_ok-copied-in-Dat
 returns-in_ok-copied-in-Data-clause-means g c = λ around.
     rw (← c.in-Data.ensures, ← c.in_ok-copied-in-Data.ensures) (c.set_name.ensures.means _)
 
-pub returns-in_err-copied-in-Own-clause-means : goal.returns-in_err-copied-in-Own-clause-means
-returns-in_err-copied-in-Own-clause-means g c = λ around.
-    let p = err_from_is_err_and c.from_residual-in_err-copied-in-Own.result c.from_residual-in_err-copied-in-Own.ensures.1 in
-    rw (p.1, p.2) (runs_no_memory _ _)
-
-pub returns-in_ok-copied-in-Own-clause-means : goal.returns-in_ok-copied-in-Own-clause-means
-returns-in_ok-copied-in-Own-clause-means g c = λ around.
-    rw (← c.in-Own.ensures, ← c.in_ok-copied-in-Own.ensures) (c.set_own.ensures.means _)
+pub returns-in-Own-clause-means : goal.returns-in-Own-clause-means
+returns-in-Own-clause-means g c = λ around.
+    rw (← c.in-Own.ensures) (c.own_stored.ensures.means around (g.W.World.log c.args.world.now))
 
 pub returns-in_err-take_step-in_default-clause-means : goal.returns-in_err-take_step-in_default-clause-means
 returns-in_err-take_step-in_default-clause-means g c = λ around.
@@ -36,4 +31,4 @@ returns-in-Field-clause-means g c = λ around. rw (← c.in-Field.ensures) (c.fi
 
 pub returns-in-BufferField-clause-means : goal.returns-in-BufferField-clause-means
 returns-in-BufferField-clause-means g c = λ around.
-    rw (← c.in-BufferField.ensures) (c.part_stored.ensures.means around (g.W.World.log c.args.world.now))
+    rw (← c.in-BufferField.ensures, ← c.named_part.ensures.is) (c.part_stored.ensures.means around (g.W.World.log c.args.world.now))

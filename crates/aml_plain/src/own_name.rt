@@ -1,0 +1,77 @@
+// Own names: what they hold, or the fields of buffers that they are.
+
+ghost use Rattle.std.specs.Prelude.{◌≤◌, List};
+ghost use Rattle.aml_kinds.specs.Views.{view};
+ghost use Rattle.aml_regions.specs.declared.event.Event.{Event};
+ghost use Rattle.aml_meaning.specs.Meaning.{own_held, own_seen, own_stored};
+ghost use Rattle.aml_meaning.specs.Runs.{Runs};
+ghost use Rattle.aml_plain.specs.Tells.{now, setting_of, told, value_of, went};
+
+use crate::halt::{Halt, Setting, fails};
+use crate::machine::Machine;
+use crate::part::{part_read, part_stored};
+use aml_fields::usable_part;
+use aml_kinds::{Value, copy};
+use aml_meaning::AmlCause;
+use std::alloc::Global;
+
+/// What an own name means where it is read.
+pub fn own_held(
+    alloc: Global,
+    here: Setting<'_>,
+    at: usize,
+    number: usize,
+    machine: &Machine,
+) -> Result<Option<Value>, Halt>
+    ensures { (around : _) (log : List Event) → Runs (told value_of result)
+        (own_held (setting_of here.entry around) number at)
+        (now machine.now log) (now machine.now log) }
+{
+    match machine.own_field(number) {
+        Some(field) => part_read(alloc, here, at, usable_part(field), machine),
+        None => {
+            let content = machine.own_content(alloc, here, at, number)?;
+            Ok(Some(content))
+        }
+    }
+}
+
+/// Stores into an own name, or into the field that it is.
+pub fn own_stored(
+    alloc: Global,
+    here: Setting<'_>,
+    at: usize,
+    number: usize,
+    stored: &Value,
+    machine: &mut Machine,
+) -> Result<(), Halt>
+    ensures means { (around : _) (log : List Event) → Runs (went result)
+        (own_stored (setting_of here.entry around) number at (view stored.now))
+        (now machine.old log) (now machine.new log) }
+    ensures falls { machine.new.steps ≤ machine.old.steps }
+{
+    match machine.own_field(number) {
+        Some(field) => part_stored(here, at, usable_part(field), stored, machine),
+        None => {
+            let copied = copy(alloc, stored)?;
+            machine.set_own(here, at, number, copied)
+        }
+    }
+}
+
+/// What SizeOf measures of an own name, where it stands. A2 at the name where it is a field.
+pub fn own_seen<'a>(
+    here: Setting<'_>,
+    at: usize,
+    number: usize,
+    machine: &'a Machine,
+) -> Result<&'a Value, Halt>
+    ensures { (around : _) (log : List Event) → Runs (told (λ v. view v.now) result)
+        (own_seen (setting_of here.entry around) number at)
+        (now machine.now log) (now machine.now log) }
+{
+    match machine.own_field(number) {
+        Some(_) => Err(fails(AmlCause::Kind, here, at)),
+        None => machine.own_seen(here, at, number),
+    }
+}
