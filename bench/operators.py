@@ -129,7 +129,9 @@ def field_rows(width):
         ones = 2**bits - 1
         made = f"Name (HELD, {bytes_text(HELD)}) {form} "
         field = number >> first & ones
-        yield made + "Return (PART)", field if bits <= width else field.to_bytes((bits + 7) // 8, "little")
+        # ACPICA reads what CreateField makes as a buffer however few its bits are, the profile by the width of integers
+        read = "ToInteger (PART)" if bits <= width else "PART"
+        yield made + f"Return ({read})", field if bits <= width else field.to_bytes((bits + 7) // 8, "little")
         left = number & ~(ones << first) | (STORED & ones) << first
         yield made + f"Store (0x{STORED:X}, PART) Return (HELD)", left.to_bytes(len(HELD), "little")
 

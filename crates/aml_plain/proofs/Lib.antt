@@ -13,3 +13,5 @@ pub mod InPlace
 pub mod Known
 pub mod Bodies
 pub mod OwnFields
+mod QuietTerms
+mod Spots

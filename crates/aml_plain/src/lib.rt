@@ -23,8 +23,10 @@ mod own;
 mod own_name;
 mod part;
 mod prepared;
+mod quiet;
 mod rules;
 mod setting;
+mod standing;
 mod target;
 
 pub use body::Outcome;

@@ -26,4 +26,6 @@ mod plain;
 #[cfg(test)]
 mod region_fields;
 #[cfg(test)]
+mod standing;
+#[cfg(test)]
 mod values;

@@ -115,10 +115,13 @@ pub(crate) fn outcome_before(
 /// A body, its table's revision, steps, and what is wanted.
 pub(crate) type Row = (&'static [u8], u8, u64, Wanted);
 
-/// Each row's outcome is the wanted one.
+/// Each row's outcome is the wanted one; asked again where memory is wanted the first time.
 pub(crate) fn each_ends(rt: &impl Abort, alloc: Global, rows: &[Row]) -> Result<(), LoadFault> {
     for (body, revision, fuel, wanted) in rows {
-        let found = outcome_before(rt, alloc, *revision, body, *fuel)?;
+        let found = match outcome_before(rt, alloc, *revision, body, *fuel) {
+            Err(LoadFault::NoMemory) => outcome_before(rt, alloc, *revision, body, *fuel)?,
+            told => told?,
+        };
         assert!(rt;
             ends(&found, *wanted),
             "{body:?} {revision} {fuel} {wanted:?}"

@@ -1,0 +1,104 @@
+// Operands that are read where they stand: what is evaluated behind one may change what its name, local
+// or argument holds, and the value before that is the operand's (ACPI 6.5, 19.6, DerefOf, Index, LEqual).
+// What each costs and gives was worked out by hand. A body begins at place 43, before the names of
+// `values` or the definitions here.
+
+use crate::calls::outcome_before;
+use crate::plain::Ended;
+use crate::values::{Row, Wanted, each_ends};
+use aml_meaning::AmlCause;
+use std::test::Fail;
+
+/// Return (DerefOf (Index (BUF0, Add (One, One))))
+const BY_A_SUM: &[u8] = b"\xa4\x83\x88BUF0\x72\x01\x01\x00\x00";
+
+/// Return (DerefOf (Index (BUF0, Store (Zero, Index (BUF0, Zero)))))
+const WRITTEN_BEHIND: &[u8] = b"\xa4\x83\x88BUF0\x70\x00\x88BUF0\x00\x00\x00";
+
+/// Store (BUF0, Local0), Return (DerefOf (Index (Local0, Add (Zero, Zero, Local0))))
+const SUMMED_BEHIND: &[u8] = b"\x70BUF0\x60\xa4\x83\x88\x60\x72\x00\x00\x60\x00";
+
+/// Store (BUF0, Local0), Return (LEqual (Local0, Store (BUF9, Local0)))
+const STORED_BEHIND: &[u8] = b"\x70BUF0\x60\xa4\x93\x60\x70BUF9\x60";
+
+/// Store (BUF0, Local0), Return (LEqual (Local0, BUF0))
+const COPY: &[u8] = b"\x70BUF0\x60\xa4\x93\x60BUF0";
+
+/// Name (OWN0, Buffer (2) {1}), Return (DerefOf (Index (OWN0, Zero)))
+const OWN: &[u8] = b"\x08OWN0\x11\x04\x0a\x02\x01\xa4\x83\x88OWN0\x00\x00";
+
+/// Name (OWN0, Buffer (2) {1}),
+/// Return (DerefOf (Index (OWN0, Store (Zero, Index (OWN0, Zero)))))
+const OWN_WRITTEN_BEHIND: &[u8] =
+    b"\x08OWN0\x11\x04\x0a\x02\x01\xa4\x83\x88OWN0\x70\x00\x88OWN0\x00\x00\x00";
+
+#[test]
+fn rows_of_operands_that_stand(rt: HostRuntime) -> Result<(), Fail> {
+    let rows: &[Row] = &[
+        (BY_A_SUM, 2, 7, Wanted::Int(0x34)),
+        (BY_A_SUM, 2, 6, Wanted::OutOfSteps),
+        (WRITTEN_BEHIND, 2, 8, Wanted::Int(0x78)),
+        (WRITTEN_BEHIND, 2, 7, Wanted::OutOfSteps),
+        (SUMMED_BEHIND, 2, 11, Wanted::Int(0x78)),
+        (SUMMED_BEHIND, 2, 10, Wanted::OutOfSteps),
+        (STORED_BEHIND, 2, 9, Wanted::Int(0)),
+        (STORED_BEHIND, 2, 8, Wanted::OutOfSteps),
+        (COPY, 2, 7, Wanted::Int(u64::MAX)),
+        (COPY, 1, 7, Wanted::Int(0xffff_ffff)),
+        (COPY, 2, 6, Wanted::OutOfSteps),
+        // Return (LEqual (STR0, "ab")), Return (LEqual (STR0, EMPT))
+        (b"\xa4\x93STR0\x0dab\x00", 2, 4, Wanted::Int(u64::MAX)),
+        (b"\xa4\x93STR0\x0dab\x00", 2, 3, Wanted::OutOfSteps),
+        (b"\xa4\x93STR0EMPT", 2, 4, Wanted::Int(0)),
+        (OWN, 2, 7, Wanted::Int(1)),
+        (OWN, 2, 6, Wanted::OutOfSteps),
+        (OWN_WRITTEN_BEHIND, 2, 10, Wanted::Int(1)),
+        (OWN_WRITTEN_BEHIND, 2, 9, Wanted::OutOfSteps),
+        // Return (LEqual (Local0, DerefOf (Local1))), Return (LEqual (BUF0, Local1))
+        (
+            b"\xa4\x93\x60\x83\x61",
+            2,
+            3,
+            Wanted::Error(AmlCause::Unset, 45),
+        ),
+        (
+            b"\xa4\x93BUF0\x61",
+            2,
+            4,
+            Wanted::Error(AmlCause::Unset, 49),
+        ),
+        // Return (LEqual (PKG0, PKG0)), Return (LEqual (STR0, BUF0))
+        (b"\xa4\x93PKG0PKG0", 2, 4, Wanted::Error(AmlCause::Kind, 45)),
+        (b"\xa4\x93STR0BUF0", 2, 4, Wanted::Error(AmlCause::Kind, 49)),
+    ];
+    each_ends(&rt, rt.alloc(), rows)?;
+    Ok(())
+}
+
+/// Name (BUFX, Buffer (2) {}), which holds bytes 7 then,
+/// Method (SETX) {Store (Zero, Index (BUFX, Zero)), Return (Zero)},
+/// Method (SECO, 1) {Return (DerefOf (Index (Arg0, One)))},
+/// Method (OVER, 1) {Return (DerefOf (Index (Arg0, Store (Zero, Arg0))))}.
+const METHODS: &[u8] = b"\x08BUFX\x11\x03\x0a\x02\
+    \x14\x11SETX\x00\x70\x00\x88BUFX\x00\x00\xa4\x00\
+    \x14\x0cSECO\x01\xa4\x83\x88\x68\x01\x00\
+    \x14\x0eOVER\x01\xa4\x83\x88\x68\x70\x00\x68\x00";
+
+#[test]
+fn methods_behind_an_operand(rt: HostRuntime) -> Result<(), Fail> {
+    let rows: &[(&[u8], u64, Ended)] = &[
+        // Return (DerefOf (Index (BUFX, SETX ())))
+        (b"\xa4\x83\x88BUFXSETX\x00", 11, Ended::Done(Some(7))),
+        (b"\xa4\x83\x88BUFXSETX\x00", 10, Ended::OutOfSteps),
+        // Return (SECO (BUFX)), Return (OVER (BUFX))
+        (b"\xa4SECOBUFX", 8, Ended::Done(Some(7))),
+        (b"\xa4SECOBUFX", 7, Ended::OutOfSteps),
+        (b"\xa4OVERBUFX", 10, Ended::Done(Some(7))),
+        (b"\xa4OVERBUFX", 9, Ended::OutOfSteps),
+    ];
+    for (body, fuel, outcome) in rows {
+        let found = outcome_before(&rt, rt.alloc(), body, METHODS, *fuel)?;
+        assert_eq!(rt; found, *outcome, "{body:?} {fuel}");
+    }
+    Ok(())
+}
