@@ -1,4 +1,4 @@
-.PHONY: run test cases growths edits bench loops check fmt
+.PHONY: run test cases growths edits bench loops stack check fmt
 
 # Builds acpicheck, proofs included, and evaluates the method of the stored run.
 run:
@@ -28,6 +28,10 @@ bench:
 # Loops over single calls, beside loops in C, by the program that `make test` leaves.
 loops:
 	@python3 bench/loops.py
+
+# The least stack with which the deepest evaluation of each form ends, by the program that `make run` builds.
+stack:
+	@python3 bench/stack.py
 
 # Every crate, over what earlier checks kept.
 check:

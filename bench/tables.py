@@ -7,6 +7,7 @@
 | ones | a method MAIN of COUNT statements One |
 | nested | a method MAIN of COUNT statements, each a chain of 62 LNot, one within the other, round a One |
 | deepest | COUNT methods, the first of them MAIN, each of which returns what it calls the next with: 62 calls, one within the other, of a method that returns its argument |
+| deepest_ifs | COUNT methods, the first of them MAIN, each of which calls the next within 63 Ifs, one within the other |
 | package | a method MAIN that returns a package of COUNT elements One |
 | methods | COUNT methods that return One, named in order: MAAA, MAAB and so on |
 | chosen | a method MAIN that makes COUNT names of its own by Name |
@@ -161,6 +162,16 @@ def deepest(names):
     return package(b"\x14", b"PASS\x01\xa4\x68") + calls
 
 
+def deepest_ifs(names):
+    """Methods that each return One behind If (One) {If (One) {.. {the next method}}}, 63 Ifs deep, and the last one so round One."""
+    calls = b""
+    for name, inside in zip(names, [*names[1:], b"\x01"]):
+        for _ in range(63):
+            inside = package(b"\xa0", b"\x01" + inside)
+        calls += method(name, inside + b"\xa4\x01")
+    return calls
+
+
 def body_of(kind, count):
     if kind == "adds":
         return method(b"MAIN", b"\x70\x00\x60" + b"\x72\x60\x01\x60" * count + b"\xa4\x60")
@@ -170,6 +181,8 @@ def body_of(kind, count):
         return method(b"MAIN", (b"\x92" * 62 + b"\x01") * count)
     if kind == "deepest":
         return deepest([b"MAIN", *names_in_order(count - 1)])
+    if kind == "deepest_ifs":
+        return deepest_ifs([b"MAIN", *names_in_order(count - 1)])
     if kind == "package":
         return method(b"MAIN", b"\xa4" + package(b"\x13", b"\x0b" + count.to_bytes(2, "little") + b"\x01" * count))
     if kind == "methods":

@@ -15,3 +15,4 @@ pub mod Bodies
 pub mod OwnFields
 mod QuietTerms
 mod Spots
+mod Stores

@@ -1,7 +1,6 @@
 -- What fields take.
-use Rattle.std.proofs.Common.{◌≡◌, ℕ, Bool, true, false, List, refl, ap}
-use Rattle.std.specs.Int.{bit_at}
-use Rattle.aml_kinds.specs.Values.{Value, Int, Buf, Str, Pkg}
+use Rattle.std.proofs.Common.{◌≡◌, ℕ, true, false, List, refl, ap}
+use Rattle.aml_kinds.specs.Values.{Buf}
 use Rattle.aml_kinds.specs.Views.{view}
 use Rattle.aml_kinds.specs.declared.value.Value as program_value
 use Rattle.aml_kinds.specs.declared.value.Value.TheVariants as program
@@ -11,10 +10,9 @@ use Rattle.aml_regions.specs.Fields.{layout_of}
 use Rattle.aml_regions.specs.declared.field.AnyField.{AnyField}
 use Rattle.aml_meaning.specs.declared.error.AmlCause.TheVariants as cause
 use Rattle.aml_meaning.specs.Fields.{write_bits}
-use Rattle.aml_meaning.specs.FieldValues.{buffer_bits, given_bits, takes_buffer}
+use Rattle.aml_meaning.specs.FieldValues.{buffer_bits, takes_buffer}
 use Rattle.aml_meaning.specs.Meaning.{Setting, bits_stored, place_at}
 use Rattle.aml_meaning.specs.Parts.{◌>>=◌, give, lift, stop_with}
-use Rattle.aml_meaning.specs.Rules.{fails}
 use Rattle.aml_meaning.specs.State.{error}
 
 -- a buffer that a field does not take

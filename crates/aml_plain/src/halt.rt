@@ -6,6 +6,7 @@ ghost use Rattle.aml_kinds.specs.Views.{view};
 ghost use Rattle.aml_meaning.specs.Meaning.{want};
 ghost use Rattle.aml_meaning.specs.Runs.{By, Runs, method_result};
 ghost use Rattle.aml_meaning.specs.State.{error};
+ghost use Rattle.aml_plain.specs.Stores.{dropped};
 ghost use Rattle.aml_plain.specs.Tells.{halted, setting_of, told, value_of, went};
 
 pub use crate::setting::Setting;
@@ -66,6 +67,17 @@ pub fn want(here: Setting<'_>, at: usize, value: Option<Value>) -> Result<Value,
     match value {
         Some(value) => Ok(value),
         None => Err(fails(AmlCause::NoValue, here, at)),
+    }
+}
+
+/// A statement's answer, without the value of its term.
+pub fn without_value(answer: Result<Option<Value>, Halt>) -> Result<(), Halt>
+    ensures { (m : _) (s t : _) → Runs (told value_of answer) m s t →
+        Runs (went result) (dropped m) s t }
+{
+    match answer {
+        Ok(_) => Ok(()),
+        Err(halt) => Err(halt),
     }
 }
 

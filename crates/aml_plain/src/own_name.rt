@@ -11,7 +11,7 @@ use crate::halt::{Halt, Setting, fails};
 use crate::machine::Machine;
 use crate::part::{part_read, part_stored};
 use aml_fields::usable_part;
-use aml_kinds::{Value, copy};
+use aml_kinds::Value;
 use aml_meaning::AmlCause;
 use std::alloc::Global;
 
@@ -38,24 +38,20 @@ pub fn own_held(
 
 /// Stores into an own name, or into the field that it is.
 pub fn own_stored(
-    alloc: Global,
     here: Setting<'_>,
     at: usize,
     number: usize,
-    stored: &Value,
+    stored: Value,
     machine: &mut Machine,
 ) -> Result<(), Halt>
     ensures means { (around : _) (log : List Event) → Runs (went result)
-        (own_stored (setting_of here.entry around) number at (view stored.now))
+        (own_stored (setting_of here.entry around) number at (view stored))
         (now machine.old log) (now machine.new log) }
     ensures falls { machine.new.steps ≤ machine.old.steps }
 {
     match machine.own_field(number) {
-        Some(field) => part_stored(here, at, usable_part(field), stored, machine),
-        None => {
-            let copied = copy(alloc, stored)?;
-            machine.set_own(here, at, number, copied)
-        }
+        Some(field) => part_stored(here, at, usable_part(field), &stored, machine),
+        None => machine.set_own(here, at, number, stored),
     }
 }
 

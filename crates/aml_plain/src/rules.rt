@@ -9,6 +9,7 @@ ghost use Rattle.aml_namespace.specs.Widths.{bits_of};
 ghost use Rattle.aml_meaning.specs.Buffers.{concatenated, size_of};
 ghost use Rattle.aml_meaning.specs.Elements.{byte_stored, element_at};
 ghost use Rattle.aml_meaning.specs.Conversions.{converted};
+ghost use Rattle.aml_meaning.specs.declared.action.Conversion.TheVariants as converts;
 ghost use Rattle.aml_meaning.specs.declared.error.AmlError.{AmlError};
 ghost use Rattle.aml_rules.specs.Tells.{Obeys, place_of};
 ghost use Rattle.aml_rules.specs.Tells as rules;
@@ -17,7 +18,7 @@ ghost use Rattle.aml_plain.specs.Tells.{IsOrNoMemory, division_of, itself, place
 use crate::halt::{Halt, Setting, fails};
 use crate::integer::{holds, joined, transformed_bits, truth};
 use aml_kinds::Value;
-use aml_meaning::{AmlCause, AmlError, Arithmetic, Bitwise, Comparison, Conversion};
+use aml_meaning::{AmlCause, AmlError, Arithmetic, Bitwise, Comparison};
 use aml_rules::{ByteStore, Place, RuleFault};
 use std::alloc::Global;
 
@@ -201,26 +202,28 @@ fn given_store(answer: Result<ByteStore, AmlError>) -> Result<ByteStore, Halt>
     }
 }
 
-/// A value as one of another kind.
-pub fn converted(
+/// A value as an integer.
+pub fn to_integer(here: Setting<'_>, at: usize, x_at: usize, x: &Value) -> Result<Value, Halt>
+    ensures { told view result ≡ ruled (converted (bits_of here.entry.width) converts.ToInteger
+        (place_in here.entry at) (place_in here.entry x_at) (view x.now)) }
+{
+    let operator = place(here, at);
+    let operand = place(here, x_at);
+    given_integer(aml_rules::to_integer(here.width, operator, operand, x))
+}
+
+/// A value as a buffer.
+pub fn to_buffer(
     alloc: Global,
     here: Setting<'_>,
-    conversion: Conversion,
     at: usize,
     x_at: usize,
     x: Value,
 ) -> Result<Value, Halt>
-    ensures { IsOrNoMemory (told view result) (ruled (converted (bits_of here.entry.width) conversion
-        (place_in here.entry at) (place_in here.entry x_at) (view x))) }
+    ensures { IsOrNoMemory (told view result) (ruled (converted (bits_of here.entry.width)
+        converts.ToBuffer (place_in here.entry at) (place_in here.entry x_at) (view x))) }
 {
-    let operand = place(here, x_at);
-    match conversion {
-        Conversion::ToBuffer => obeyed(aml_rules::to_buffer(alloc, here.width, operand, x)),
-        Conversion::ToInteger => {
-            let operator = place(here, at);
-            given_integer(aml_rules::to_integer(here.width, operator, operand, &x))
-        }
-    }
+    obeyed(aml_rules::to_buffer(alloc, here.width, place(here, x_at), x))
 }
 
 /// Two buffers or two strings, the second behind the first.

@@ -2,7 +2,7 @@
 
 ghost use Rattle.std.specs.Prelude.{◌≡◌, ◌≤◌};
 ghost use Rattle.aml_kinds.specs.Views as values;
-ghost use Rattle.aml_meaning.specs.Meaning.{named, named_target, put, unreadable, unwritable};
+ghost use Rattle.aml_meaning.specs.Meaning.{named, named_target, put, unwritable};
 ghost use Rattle.aml_meaning.specs.Runs.{Runs};
 ghost use Rattle.aml_plain.specs.Tells.{now, setting_of, told, value_of, went};
 
@@ -12,7 +12,7 @@ use crate::machine::Machine;
 use crate::own::link_of;
 use crate::own_name::{own_held, own_stored};
 use crate::part::{named_part, part_read, part_stored};
-use aml_kinds::{Value, copy};
+use aml_kinds::Value;
 use aml_meaning::{Action, AmlCause};
 use aml_namespace::Link;
 use aml_regions::World;
@@ -25,17 +25,6 @@ fn unwritable(link: Link) -> AmlCause
     match link {
         Link::Missing => AmlCause::Missing,
         Link::Method(_) | Link::OsInterfaces | Link::Object(_) => AmlCause::Kind,
-        _ => AmlCause::Outside,
-    }
-}
-
-/// Why what a name means has no value.
-pub fn unreadable(link: Link) -> AmlCause
-    ensures { result ≡ unreadable link }
-{
-    match link {
-        Link::Missing => AmlCause::Missing,
-        Link::Object(_) => AmlCause::Kind,
         _ => AmlCause::Outside,
     }
 }
@@ -67,16 +56,15 @@ pub fn named<W: World>(
 
 /// What a target that evaluates nothing does.
 pub fn put<W: World>(
-    alloc: Global,
     here: Setting<'_>,
     action: Action,
     at: usize,
-    stored: &Value,
+    stored: Value,
     machine: &mut Machine,
     world: &mut W,
 ) -> Result<(), Halt>
     ensures means { (around : _) → Runs (went result)
-        (put (setting_of here.entry around) action at (values.view stored.now))
+        (put (setting_of here.entry around) action at (values.view stored))
         (now machine.old (W.log world.old)) (now machine.new (W.log world.new)) }
     ensures falls { machine.new.steps ≤ machine.old.steps }
 {
@@ -84,18 +72,16 @@ pub fn put<W: World>(
         Action::NoTarget => Ok(()),
         Action::Local(k) => {
             machine.take_step()?;
-            let copied = copy(alloc, stored)?;
-            machine.set_local(k, copied);
+            machine.set_local(k, stored);
             Ok(())
         }
         Action::Argument(k) => {
             machine.take_step()?;
-            let copied = copy(alloc, stored)?;
-            machine.set_argument(k, copied);
+            machine.set_argument(k, stored);
             Ok(())
         }
         Action::Debug => machine.take_step(),
-        Action::Name => put_name(alloc, here, at, stored, machine, world),
+        Action::Name => put_name(here, at, stored, machine, world),
         _ => {
             machine.take_step()?;
             Err(fails(AmlCause::Outside, here, at))
@@ -105,26 +91,22 @@ pub fn put<W: World>(
 
 /// Stores into what a name means.
 fn put_name<W: World>(
-    alloc: Global,
     here: Setting<'_>,
     at: usize,
-    stored: &Value,
+    stored: Value,
     machine: &mut Machine,
     world: &mut W,
 ) -> Result<(), Halt>
     ensures means { (around : _) → let s = setting_of here.entry around in
-        Runs (went result) (named_target s (s.link at) at (values.view stored.now))
+        Runs (went result) (named_target s (s.link at) at (values.view stored))
         (now machine.old (W.log world.old)) (now machine.new (W.log world.new)) }
     ensures falls { machine.new.steps ≤ machine.old.steps }
 {
     match link_of(here, at) {
-        Link::Data(id) => {
-            let copied = copy(alloc, stored)?;
-            machine.set_name(here, at, id, copied)
-        }
-        Link::Own(number) => own_stored(alloc, here, at, number, stored, machine),
-        Link::Field(id) => field_stored(here, at, id, stored, machine, world),
-        Link::BufferField(id) => part_stored(here, at, named_part(here, id), stored, machine),
+        Link::Data(id) => machine.set_name(here, at, id, stored),
+        Link::Own(number) => own_stored(here, at, number, stored, machine),
+        Link::Field(id) => field_stored(here, at, id, &stored, machine, world),
+        Link::BufferField(id) => part_stored(here, at, named_part(here, id), &stored, machine),
         link => {
             machine.take_step()?;
             Err(fails(unwritable(link), here, at))

@@ -24,6 +24,18 @@ const STORED_BEHIND: &[u8] = b"\x70BUF0\x60\xa4\x93\x60\x70BUF9\x60";
 /// Store (BUF0, Local0), Return (LEqual (Local0, BUF0))
 const COPY: &[u8] = b"\x70BUF0\x60\xa4\x93\x60BUF0";
 
+/// Store (STR0, Local0), Concatenate (Local0, Local0, Local0), Return (Local0)
+const JOINED: &[u8] = b"\x70STR0\x60\x73\x60\x60\x60\xa4\x60";
+
+/// Store (BUF0, Local0), Return (Add (ToInteger (Local0, Local0), Local0))
+const AS_INTEGER: &[u8] = b"\x70BUF0\x60\xa4\x72\x99\x60\x60\x60\x00";
+
+/// Return (LEqual (Store (BUF0, Local0), Local0))
+const STORED_AND_GIVEN: &[u8] = b"\xa4\x93\x70BUF0\x60\x60";
+
+/// Return (LEqual (ToBuffer (BUF0, Local0), Local0))
+const CONVERTED_AND_GIVEN: &[u8] = b"\xa4\x93\x96BUF0\x60\x60";
+
 /// Name (OWN0, Buffer (2) {1}), Return (DerefOf (Index (OWN0, Zero)))
 const OWN: &[u8] = b"\x08OWN0\x11\x04\x0a\x02\x01\xa4\x83\x88OWN0\x00\x00";
 
@@ -46,6 +58,14 @@ fn rows_of_operands_that_stand(rt: HostRuntime) -> Result<(), Fail> {
         (COPY, 2, 7, Wanted::Int(u64::MAX)),
         (COPY, 1, 7, Wanted::Int(0xffff_ffff)),
         (COPY, 2, 6, Wanted::OutOfSteps),
+        (JOINED, 2, 9, Wanted::Str(b"abab")),
+        (JOINED, 2, 8, Wanted::OutOfSteps),
+        (AS_INTEGER, 2, 9, Wanted::Int(0x2468_acf0)),
+        (AS_INTEGER, 2, 8, Wanted::OutOfSteps),
+        (STORED_AND_GIVEN, 2, 6, Wanted::Int(u64::MAX)),
+        (STORED_AND_GIVEN, 2, 5, Wanted::OutOfSteps),
+        (CONVERTED_AND_GIVEN, 2, 6, Wanted::Int(u64::MAX)),
+        (CONVERTED_AND_GIVEN, 2, 5, Wanted::OutOfSteps),
         // Return (LEqual (STR0, "ab")), Return (LEqual (STR0, EMPT))
         (b"\xa4\x93STR0\x0dab\x00", 2, 4, Wanted::Int(u64::MAX)),
         (b"\xa4\x93STR0\x0dab\x00", 2, 3, Wanted::OutOfSteps),

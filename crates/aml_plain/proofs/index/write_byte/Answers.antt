@@ -1,9 +1,6 @@
 use Rattle.std.proofs.Common.{arith, refl}
-use Rattle.aml_kinds.specs.Views.{view}
-use Rattle.aml_meaning.specs.Elements.{byte_written}
 use Rattle.aml_meaning.proofs.Changed.{runs_change_spent, runs_change_stop}
 use Rattle.aml_plain.proofs.Written.{changed_data, changed_own, none_held}
-use Rattle.aml_plain.specs.Tells.{frame_of, names_of, place_in}
 use Rattle.aml_plain.proofs.index.write_byte.Goals as goal
 
 pub returns-then-machine-eq0-clause-means : goal.returns-then-machine-eq0-clause-means

@@ -8,6 +8,6 @@ pub returns-in-Some-clause-means : goal.returns-in-Some-clause-means
 returns-in-Some-clause-means c = λ around log.
     runs_then _ (runs_found _ (now c.args.machine.now log) _ (c.in-Some.ensures log)) (rw (← c.usable_part.ensures.is) (c.part_stored.ensures.means around log))
 
-pub returns-in_ok-copied-in-None-clause-means : goal.returns-in_ok-copied-in-None-clause-means
-returns-in_ok-copied-in-None-clause-means c = λ around log.
-    runs_then _ (runs_found _ (now c.args.machine.now log) None (c.in-None.ensures log)) (rw (← c.in_ok-copied-in-None.ensures) (c.set_own.ensures.means log))
+pub returns-in-None-clause-means : goal.returns-in-None-clause-means
+returns-in-None-clause-means c = λ around log.
+    runs_then _ (runs_found _ (now c.args.machine.now log) None (c.in-None.ensures log)) (c.set_own.ensures.means log)

@@ -1,17 +1,12 @@
 use Rattle.std.proofs.lemmas.Result.{err_from_is_err_and}
-use Rattle.aml_meaning.proofs.Runs.{runs_then, runs_stop, runs_no_memory, runs_stop_with}
+use Rattle.aml_meaning.proofs.Runs.{runs_then, runs_stop, runs_stop_with}
 use Rattle.aml_plain.proofs.Forms.{target_elsewhere}
 use Rattle.aml_plain.specs.Tells.{setting_of}
 use Rattle.aml_plain.proofs.target.put_name.Goals as goal
 
-pub returns-in_err-copied-in-Data-clause-means : goal.returns-in_err-copied-in-Data-clause-means
-returns-in_err-copied-in-Data-clause-means g c = λ around.
-    let p = err_from_is_err_and c.from_residual.result c.from_residual.ensures.1 in
-    rw (p.1, p.2) (runs_no_memory _ _)
-
-pub returns-in_ok-copied-in-Data-clause-means : goal.returns-in_ok-copied-in-Data-clause-means
-returns-in_ok-copied-in-Data-clause-means g c = λ around.
-    rw (← c.in-Data.ensures, ← c.in_ok-copied-in-Data.ensures) (c.set_name.ensures.means _)
+pub returns-in-Data-clause-means : goal.returns-in-Data-clause-means
+returns-in-Data-clause-means g c = λ around.
+    rw (← c.in-Data.ensures) (c.set_name.ensures.means _)
 
 pub returns-in-Own-clause-means : goal.returns-in-Own-clause-means
 returns-in-Own-clause-means g c = λ around.
@@ -19,7 +14,7 @@ returns-in-Own-clause-means g c = λ around.
 
 pub returns-in_err-take_step-in_default-clause-means : goal.returns-in_err-take_step-in_default-clause-means
 returns-in_err-take_step-in_default-clause-means g c = λ around.
-    let p = err_from_is_err_and c.from_residual-in_err-take_step-in_default.result c.from_residual-in_err-take_step-in_default.ensures.1 in
+    let p = err_from_is_err_and c.from_residual.result c.from_residual.ensures.1 in
     rw (← c.link_of.ensures, target_elsewhere (setting_of c.args.here around) _ _ _ c.in_default.not-Data c.in_default.not-Own c.in_default.not-Field c.in_default.not-BufferField, p.1, p.2) (runs_stop _ (c.in_err-take_step-in_default.ensures.means _))
 
 pub returns-in_ok-take_step-in_default-clause-means : goal.returns-in_ok-take_step-in_default-clause-means

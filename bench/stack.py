@@ -1,0 +1,89 @@
+#!/usr/bin/env python3
+"""Measures the stack that the deepest evaluations take: stack.py [ACPICHECK] [FORM ..].
+
+For each form of term a DSDT is made of 64 methods, or as many as may be active, each of which calls the next within as many terms of
+the form, one within the other, as may be. What is printed is the least stack, in KiB, with which the program ends its evaluation, to
+16 KiB, by trying.
+"""
+import resource
+import subprocess
+import sys
+import tempfile
+from pathlib import Path
+
+from tables import dsdt, method, names_in_order, package
+
+ACPICHECK = Path(__file__).resolve().parent.parent / "crates/acpicheck/out/acpicheck"
+METHODS = 64
+DEPTH = 64
+MOST = 64 * 1024
+
+# what stands round a term of the form, and how many terms deep that is
+AROUND = {
+    "LNot": (b"\x92", b"", 1),
+    "Add": (b"\x72", b"\x00\x00", 1),
+    "LEqual": (b"\x93", b"\x00", 1),
+    "second of LEqual": (b"\x93\x00", b"", 1),
+    "Divide": (b"\x78", b"\x01\x00\x00", 1),
+    "ToInteger": (b"\x99", b"\x00", 1),
+    "Concatenate": (b"\x73", b"\x0da\x00\x00", 1),
+    "second of Concatenate": (b"\x73\x0da\x00", b"\x00", 1),
+    "Store": (b"\x70", b"\x60", 1),
+    "DerefOf": (b"\x83\x88BUFF", b"\x00", 2),
+    "Store into an Index": (b"\x70\x01\x88BUFF", b"\x00", 2),
+    "argument": (b"PASS", b"", 1),
+}
+BLOCKS = {"If": b"\xa0", "While": b"\xa2"}
+
+
+def statement(form, inside):
+    """A statement of the form round a call, as deep as statements may be."""
+    if form in BLOCKS:
+        for _ in range(DEPTH - 1):
+            inside = package(BLOCKS[form], b"\x01" + inside + (b"\xa5" if form == "While" else b""))
+        return inside
+    before, behind, deep = AROUND[form]
+    times = (DEPTH - 2) // deep
+    return before * times + inside + behind * times
+
+
+def table(form):
+    """The methods, the last of which does the same round a constant."""
+    text = "Concatenate" in form
+    last = b"\x0db\x00" if text else b"\x01"
+    methods = METHODS - 1 if form == "argument" else METHODS
+    names = [b"MAIN", *names_in_order(methods - 1)]
+    calls = b"".join(method(name, statement(form, inside) + b"\xa4" + last) for name, inside in zip(names, [*names[1:], last]))
+    return dsdt(b"\x08BUFF" + package(b"\x11", b"\x0a\x04") + package(b"\x14", b"PASS\x01\xa4\x68") + calls)
+
+
+def ends(program, file, kib):
+    """Whether the program ends its evaluation with so much stack."""
+    limit = (kib * 1024, kib * 1024)
+    words = [program, "eval", "--method", "\\MAIN", "--plain", "1000000", file]
+    return subprocess.run(words, stdin=subprocess.DEVNULL, stdout=subprocess.PIPE, stderr=subprocess.DEVNULL,
+                          preexec_fn=lambda: resource.setrlimit(resource.RLIMIT_STACK, limit))
+
+
+def least(program, form, room):
+    file = f"{room}/dsdt.aml"
+    Path(file).write_bytes(table(form))
+    whole = ends(program, file, MOST)
+    if whole.returncode != 0 or not whole.stdout.startswith(b"result"):
+        return whole.stdout.decode().strip()
+    low, high = 64, MOST
+    while high - low > 16:
+        middle = (low + high) // 2
+        low, high = (low, middle) if ends(program, file, middle).returncode == 0 else (middle, high)
+    return f"{high} KiB"
+
+
+def main(words):
+    program = words.pop(0) if words and "/" in words[0] else str(ACPICHECK)
+    with tempfile.TemporaryDirectory() as room:
+        for form in words or [*AROUND, *BLOCKS]:
+            print(f"{form}: {least(program, form, room)}", flush=True)
+
+
+if __name__ == "__main__":
+    main(sys.argv[1:])
