@@ -52,7 +52,7 @@ pub fn evaluate_body<W: World>(
     };
     let ended = eval_body(alloc, here, body, &mut machine, world);
     *names = machine.names;
-    outcome_of(here.table, ended)
+    outcome_of(here.scene.table, ended)
 }
 
 /// How a method of a table ends whose statements ended so. A6 at a Break or Continue outside any

@@ -28,7 +28,14 @@ pub fn data_literal(
     match computed_size(op, at, parts) {
         Some(from) => Err(fails(AmlCause::Outside, here, from)),
         None => {
-            let value = body_data(alloc, here.namespace, here.table, here.method, op, parts)?;
+            let value = body_data(
+                alloc,
+                here.scene.namespace,
+                here.scene.table,
+                here.scene.method,
+                op,
+                parts,
+            )?;
             Ok(Some(value))
         }
     }

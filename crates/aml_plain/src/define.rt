@@ -92,7 +92,7 @@ fn make_field(
         return Err(fails(AmlCause::Outside, here, at));
     };
     let source = field_source(here, at, from, link_of(here, from), machine)?;
-    let part = made_part(here.width, source, size, index);
+    let part = made_part(here.scene.width, source, size, index);
     machine.define_field(alloc, here, part)
 }
 

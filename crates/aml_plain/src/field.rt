@@ -36,10 +36,10 @@ fn field_numbered(namespace: &Namespace<'_>, id: ObjectId) -> Option<AnyField>
 /// The same where it is wanted. A7 at its name where there is none.
 fn wanted_field(here: Setting<'_>, at: usize, id: ObjectId) -> Result<AnyField, Halt>
     ensures is { told itself result ≡ ruled
-        (wanted_field (place_in here.entry at) (field_numbered (shown here.entry.namespace.now) id.0)) }
+        (wanted_field (place_in here.entry at) (field_numbered (shown here.entry.scene.now.namespace.now) id.0)) }
     ensures sound { IfOk result IsSoundField }
 {
-    match field_numbered(here.namespace, id) {
+    match field_numbered(here.scene.namespace, id) {
         Some(field) => Ok(field),
         None => Err(fails(AmlCause::Region, here, at)),
     }
@@ -102,7 +102,7 @@ pub fn field_read<W: World>(
     ensures falls { machine.new.steps ≤ machine.old.steps }
 {
     let field = wanted_field(here, at, id)?;
-    let value = read_value(alloc, here.width, &field, machine, world)?;
+    let value = read_value(alloc, here.scene.width, &field, machine, world)?;
     Ok(Some(value))
 }
 
@@ -129,7 +129,7 @@ fn write_buffer<W: World>(
         (now machine.old (W.log world.old)) (now machine.new (W.log world.new)) }
     ensures falls { machine.new.steps ≤ machine.old.steps }
 {
-    if !takes_buffer(here.width, field.layout().bits, bytes) {
+    if !takes_buffer(here.scene.width, field.layout().bits, bytes) {
         return Err(fails(AmlCause::Kind, here, at));
     }
     write_bits(field, &BitBytes { bytes }, machine, world)

@@ -52,7 +52,7 @@ pub fn seen<'a>(
     k: u8,
 ) -> Result<&'a Value, Halt>
     ensures { told (λ v. view v.now) result
-        ≡ content here.entry.table at (slice_get (map value_of slots.now) k) }
+        ≡ content here.entry.scene.now.table at (slice_get (map value_of slots.now) k) }
 {
     match slots.get(usize::from(k)) {
         Some(Some(value)) => Ok(value),
@@ -69,7 +69,7 @@ pub fn held(
     k: u8,
 ) -> Result<Value, Halt>
     ensures { IsOrNoMemory (told view result)
-        (content here.entry.table at (slice_get (map value_of slots.now) k)) }
+        (content here.entry.scene.now.table at (slice_get (map value_of slots.now) k)) }
 {
     match slots.get(usize::from(k)) {
         Some(Some(value)) => {

@@ -9,7 +9,7 @@ ghost use Rattle.aml_meaning.specs.State.{error};
 ghost use Rattle.aml_plain.specs.Stores.{dropped};
 ghost use Rattle.aml_plain.specs.Tells.{halted, setting_of, told, value_of, went};
 
-pub use crate::setting::Setting;
+pub use crate::setting::{Scene, Setting};
 use aml_kinds::Value;
 use aml_meaning::{AmlCause, AmlError};
 use aml_namespace::NoMemory;
@@ -50,10 +50,10 @@ impl<T: Drop> From<AllocFailed<T>> for Halt {
 
 /// An error at a place of the body's table.
 pub fn fails(cause: AmlCause, here: Setting<'_>, at: usize) -> Halt
-    ensures { halted result ≡ By (error cause here.entry.table at) }
+    ensures { halted result ≡ By (error cause here.entry.scene.now.table at) }
 {
     Halt::Error(AmlError {
-        table: here.table,
+        table: here.scene.table,
         at,
         cause,
     })

@@ -32,14 +32,14 @@ fn first_or(arguments: &[Term], at: usize) -> usize
 
 /// Whether the system knows a text. A2 at the place of what is none.
 fn answered(here: Setting<'_>, at: usize, value: &Value) -> Result<u64, Halt>
-    ensures { let known = is_interface (shown here.entry.namespace.now) in
+    ensures { let known = is_interface (shown here.entry.scene.now.namespace.now) in
         told Int result
-        ≡ ruled (answered known (bits_of here.entry.width) (place_in here.entry at) (view value.now)) }
+        ≡ ruled (answered known (bits_of here.entry.scene.now.width) (place_in here.entry at) (view value.now)) }
 {
     match value {
         Value::Str(text) => {
-            let known = here.namespace.has_interface(text.as_slice());
-            Ok(truth(here.width, known))
+            let known = here.scene.namespace.has_interface(text.as_slice());
+            Ok(truth(here.scene.width, known))
         }
         _ => Err(fails(AmlCause::Kind, here, at)),
     }

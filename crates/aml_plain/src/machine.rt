@@ -62,7 +62,7 @@ impl Machine {
     /// What a data name holds, where it stands. A1 at the term's place where it holds nothing.
     pub fn seen(&self, here: Setting<'_>, at: usize, id: ObjectId) -> Result<&Value, Halt>
         ensures { (log : List Event) → told (λ v. view v.now) result
-            ≡ content here.entry.table at (Some (content_at (now self.now log).names.contents id.0)) }
+            ≡ content here.entry.scene.now.table at (Some (content_at (now self.now log).names.contents id.0)) }
     {
         match self.names.get(id) {
             Some(value) => Ok(value),
@@ -79,7 +79,7 @@ impl Machine {
         id: ObjectId,
     ) -> Result<Value, Halt>
         ensures { (log : List Event) → IsOrNoMemory (told view result)
-            (content here.entry.table at (Some (content_at (now self.now log).names.contents id.0))) }
+            (content here.entry.scene.now.table at (Some (content_at (now self.now log).names.contents id.0))) }
     {
         match self.names.get(id) {
             Some(value) => {
@@ -100,7 +100,7 @@ impl Machine {
         value: Value,
     ) -> Result<(), Halt>
         ensures means { (log : List Event) → Runs (went result)
-            (set_name here.entry.table at id.0 (view value)) (now self.old log) (now self.new log) }
+            (set_name here.entry.scene.now.table at id.0 (view value)) (now self.old log) (now self.new log) }
         ensures falls { self.new.steps ≤ self.old.steps }
     {
         if self.steps == 0 {
@@ -128,7 +128,7 @@ impl Machine {
     /// What an own name holds, where it stands. A1 at the term's place where it holds nothing.
     pub fn own_seen(&self, here: Setting<'_>, at: usize, number: usize) -> Result<&Value, Halt>
         ensures { (log : List Event) → told (λ v. view v.now) result
-            ≡ content here.entry.table at
+            ≡ content here.entry.scene.now.table at
             (Some (content_at (now self.now log).frame.owns.contents number)) }
     {
         match self.frame.owns.get(ObjectId(number)) {
@@ -145,7 +145,7 @@ impl Machine {
         at: usize,
         number: usize,
     ) -> Result<Value, Halt>
-        ensures { (log : List Event) → IsOrNoMemory (told view result) (content here.entry.table at
+        ensures { (log : List Event) → IsOrNoMemory (told view result) (content here.entry.scene.now.table at
             (Some (content_at (now self.now log).frame.owns.contents number))) }
     {
         match self.frame.owns.get(ObjectId(number)) {
@@ -167,7 +167,7 @@ impl Machine {
         value: Value,
     ) -> Result<(), Halt>
         ensures means { (log : List Event) → Runs (went result)
-            (set_own here.entry.table at number (view value)) (now self.old log) (now self.new log) }
+            (set_own here.entry.scene.now.table at number (view value)) (now self.old log) (now self.new log) }
         ensures falls { self.new.steps ≤ self.old.steps }
     {
         if self.steps == 0 {
@@ -193,11 +193,11 @@ impl Machine {
         field: Option<BufferPart>,
     ) -> Result<(), Halt>
         ensures means { (log : List Event) → Runs (went result)
-            (make_own (bits_of here.entry.width) (value_of held) field)
+            (make_own (bits_of here.entry.scene.now.width) (value_of held) field)
             (now self.old log) (now self.new log) }
         ensures steps { self.new.steps ≡ self.old.steps }
     {
-        self.frame.owns.push(alloc, here.width, held)?;
+        self.frame.owns.push(alloc, here.scene.width, held)?;
         self.frame.fields.push(field)?;
         Ok(())
     }
@@ -205,7 +205,7 @@ impl Machine {
     /// Makes an own name more, which holds this value first.
     pub fn define_own(&mut self, alloc: Global, here: Setting<'_>, value: Value) -> Result<(), Halt>
         ensures means { (log : List Event) → Runs (went result)
-            (define_own (bits_of here.entry.width) (view value))
+            (define_own (bits_of here.entry.scene.now.width) (view value))
             (now self.old log) (now self.new log) }
         ensures steps { self.new.steps ≡ self.old.steps }
     {
@@ -220,7 +220,7 @@ impl Machine {
         field: BufferPart,
     ) -> Result<(), Halt>
         ensures means { (log : List Event) → Runs (went result)
-            (define_field (bits_of here.entry.width) field)
+            (define_field (bits_of here.entry.scene.now.width) field)
             (now self.old log) (now self.new log) }
         ensures steps { self.new.steps ≡ self.old.steps }
     {

@@ -12,7 +12,7 @@ ghost use Rattle.aml_plain.specs.Methods.{Evaluates, Parses};
 ghost use Rattle.aml_plain.specs.Tells.{names_of};
 
 use crate::body::{Outcome, evaluate_body};
-use crate::halt::Setting;
+use crate::halt::{Scene, Setting};
 use crate::links::Links;
 use crate::prepared::Bodies;
 use aml_kinds::{Names, Value};
@@ -50,7 +50,7 @@ pub fn evaluate_terms<W: World>(
     let owns = OwnNames::of(alloc, bytes, body)?;
     let links = Links::of(alloc, namespace, method, bytes, &owns, body)?;
     let bodies = Bodies::of(alloc, namespace, &links)?;
-    let here = Setting {
+    let scene = Scene {
         table: namespace.method(method).unwrap().table,
         width: namespace.width(),
         namespace,
@@ -59,6 +59,9 @@ pub fn evaluate_terms<W: World>(
         owns: &owns,
         links: &links,
         bodies: &bodies,
+    };
+    let here = Setting {
+        scene: &scene,
         depth: MOST_WITHIN,
     };
     evaluate_body(alloc, here, body, arguments, names, world, fuel)

@@ -35,7 +35,7 @@ fn notified_name(here: Setting<'_>, at: usize) -> Result<Option<ObjectId>, Halt>
     match link_of(here, at) {
         Link::Missing => Err(fails(AmlCause::Missing, here, at)),
         Link::Object(id) => {
-            if is_notifiable(here.namespace.object(id)) {
+            if is_notifiable(here.scene.namespace.object(id)) {
                 Ok(Some(id))
             } else {
                 Ok(None)

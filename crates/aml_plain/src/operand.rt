@@ -32,7 +32,7 @@ pub fn literal(here: Setting<'_>, op: Op, at: usize, parts: &[Term]) -> Result<O
     ensures { (around : _) (s : _) → Runs (told value_of result)
         (act (setting_of here.entry around) (does.Literal op) at (views parts.now)) s s }
 {
-    let number = wrapped(here.width, number_of_literal(op, parts));
+    let number = wrapped(here.scene.width, number_of_literal(op, parts));
     Ok(Some(Value::Int(number)))
 }
 
@@ -167,7 +167,7 @@ fn asked_name(
     match target {
         Action::NoTarget => {
             let there = is_there(link_of(here, from));
-            Ok(Some(Value::Int(truth(here.width, there))))
+            Ok(Some(Value::Int(truth(here.scene.width, there))))
         }
         _ => Err(fails(AmlCause::Outside, here, at)),
     }

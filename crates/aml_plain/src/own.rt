@@ -17,11 +17,12 @@ use aml_namespace::Link;
 pub fn link_of(here: Setting<'_>, at: usize) -> Link
     ensures { result ≡ link_in here.entry at }
 {
-    match here.links.at(at) {
+    match here.scene.links.at(at) {
         Some(link) => link,
         None => here
+            .scene
             .namespace
-            .link_with_owns(here.method, here.bytes, here.owns, at),
+            .link_with_owns(here.scene.method, here.scene.bytes, here.scene.owns, at),
     }
 }
 
@@ -62,5 +63,5 @@ fn is_lone(bytes: &[u8], at: usize) -> bool
 pub fn makes_own(here: Setting<'_>, at: usize) -> bool
     ensures { (around : _) → result ≡ makes_own (setting_of here.entry around) at }
 {
-    is_lone(here.bytes, at) && !is_own(link_of(here, at))
+    is_lone(here.scene.bytes, at) && !is_own(link_of(here, at))
 }

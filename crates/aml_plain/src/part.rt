@@ -27,10 +27,10 @@ use std::alloc::Global;
 
 /// The field of a buffer that an object is, where it is one that can be read and written.
 pub fn named_part(here: Setting<'_>, id: ObjectId) -> Option<BufferPart>
-    ensures is { result ≡ buffer_field_numbered (shown here.entry.namespace.now) id.0 }
+    ensures is { result ≡ buffer_field_numbered (shown here.entry.scene.now.namespace.now) id.0 }
     ensures laid_out { IfSome result IsLaidOut }
 {
-    part_numbered(here.namespace, id)
+    part_numbered(here.scene.namespace, id)
 }
 
 /// The field, where it is wanted. A7 at its name where there is none that can be read and written.
@@ -105,11 +105,11 @@ fn content(
     held: Option<&Value>,
 ) -> Result<Value, Halt>
     requires { IsLaidOut part }
-    ensures { IsOrNoMemory (told view result) (ruled (read_part (bits_of here.entry.width)
+    ensures { IsOrNoMemory (told view result) (ruled (read_part (bits_of here.entry.scene.now.width)
         (place_in here.entry at) part (option_map (λ v. view v.now) held.entry))) }
 {
     let bytes = bytes_around(here, at, part, held)?;
-    let value = part_value(alloc, here.width, part, bytes)?;
+    let value = part_value(alloc, here.scene.width, part, bytes)?;
     Ok(value)
 }
 
@@ -189,7 +189,7 @@ fn write_in(
     id: ObjectId,
 ) -> Result<(), Halt>
     requires { IsLaidOut part }
-    ensures { IsChanged (written_part (bits_of here.entry.width) (place_in here.entry at) part
+    ensures { IsChanged (written_part (bits_of here.entry.scene.now.width) (place_in here.entry at) part
         (view stored.now) (content_at (contents names.old) id.0))
         (went result) id.0 (names_of names.old) (names_of names.new) }
 {
@@ -198,7 +198,7 @@ fn write_in(
         Value::Int(number) => put_bits(part, size, number, names, id),
         Value::Buf(given) => {
             let bytes = given.as_slice();
-            if !takes_buffer(here.width, part.bits, bytes) {
+            if !takes_buffer(here.scene.width, part.bits, bytes) {
                 return Err(fails(AmlCause::Kind, here, at));
             }
             put_bits(part, size, &BitBytes { bytes }, names, id);
@@ -219,7 +219,7 @@ fn put_part(
 ) -> Result<(), Halt>
     requires { IsLaidOut part }
     ensures means { (log : List Event) → Runs (went result)
-        (change part.source (written_part (bits_of here.entry.width) (place_in here.entry at) part
+        (change part.source (written_part (bits_of here.entry.scene.now.width) (place_in here.entry at) part
         (view stored.now)))
         (now machine.old log) (now machine.new log) }
     ensures falls { machine.new.steps ≤ machine.old.steps }

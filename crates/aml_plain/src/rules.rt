@@ -63,12 +63,12 @@ pub fn combined(
     y_at: usize,
     y: &Value,
 ) -> Result<u64, Halt>
-    ensures { told Int result ≡ ruled (combined (bits_of here.entry.width) arithmetic
+    ensures { told Int result ≡ ruled (combined (bits_of here.entry.scene.now.width) arithmetic
         (place_in here.entry x_at) (view x.now) (place_in here.entry y_at) (view y.now)) }
 {
     let first = integer(here, x_at, x)?;
     let second = second(here, arithmetic, y_at, y)?;
-    Ok(joined(here.width, arithmetic, first, second))
+    Ok(joined(here.scene.width, arithmetic, first, second))
 }
 
 /// How often a divisor goes into an integer, and what is left.
@@ -104,11 +104,11 @@ pub fn transformed(
     x_at: usize,
     x: &Value,
 ) -> Result<u64, Halt>
-    ensures { told Int result ≡ ruled (transformed (bits_of here.entry.width) operation
+    ensures { told Int result ≡ ruled (transformed (bits_of here.entry.scene.now.width) operation
         (place_in here.entry x_at) (view x.now)) }
 {
     let number = integer(here, x_at, x)?;
-    Ok(transformed_bits(here.width, operation, number))
+    Ok(transformed_bits(here.scene.width, operation, number))
 }
 
 /// Whether two values of one kind are equal. A2 at the second's place where it is of another kind, and
@@ -135,29 +135,29 @@ pub fn compared(
     y_at: usize,
     y: &Value,
 ) -> Result<u64, Halt>
-    ensures { told Int result ≡ ruled (compared (bits_of here.entry.width) comparison
+    ensures { told Int result ≡ ruled (compared (bits_of here.entry.scene.now.width) comparison
         (place_in here.entry x_at) (view x.now) (place_in here.entry y_at) (view y.now)) }
 {
     match comparison {
         Comparison::LEqual => {
             let same = equal(here, x_at, x, y_at, y)?;
-            Ok(truth(here.width, same))
+            Ok(truth(here.scene.width, same))
         }
         _ => {
             let first = integer(here, x_at, x)?;
             let second = integer(here, y_at, y)?;
-            Ok(truth(here.width, holds(comparison, first, second)))
+            Ok(truth(here.scene.width, holds(comparison, first, second)))
         }
     }
 }
 
 /// Whether an integer is zero.
 pub fn negated(here: Setting<'_>, x_at: usize, x: &Value) -> Result<u64, Halt>
-    ensures { told Int result ≡ ruled (negated (bits_of here.entry.width)
+    ensures { told Int result ≡ ruled (negated (bits_of here.entry.scene.now.width)
         (place_in here.entry x_at) (view x.now)) }
 {
     let number = integer(here, x_at, x)?;
-    Ok(truth(here.width, number == 0))
+    Ok(truth(here.scene.width, number == 0))
 }
 
 /// A place in the body's table.
@@ -165,7 +165,7 @@ fn place(here: Setting<'_>, at: usize) -> Place
     ensures { place_of result ≡ place_in here.entry at }
 {
     Place {
-        table: here.table,
+        table: here.scene.table,
         at,
     }
 }
@@ -204,12 +204,12 @@ fn given_store(answer: Result<ByteStore, AmlError>) -> Result<ByteStore, Halt>
 
 /// A value as an integer.
 pub fn to_integer(here: Setting<'_>, at: usize, x_at: usize, x: &Value) -> Result<Value, Halt>
-    ensures { told view result ≡ ruled (converted (bits_of here.entry.width) converts.ToInteger
+    ensures { told view result ≡ ruled (converted (bits_of here.entry.scene.now.width) converts.ToInteger
         (place_in here.entry at) (place_in here.entry x_at) (view x.now)) }
 {
     let operator = place(here, at);
     let operand = place(here, x_at);
-    given_integer(aml_rules::to_integer(here.width, operator, operand, x))
+    given_integer(aml_rules::to_integer(here.scene.width, operator, operand, x))
 }
 
 /// A value as a buffer.
@@ -220,10 +220,10 @@ pub fn to_buffer(
     x_at: usize,
     x: Value,
 ) -> Result<Value, Halt>
-    ensures { IsOrNoMemory (told view result) (ruled (converted (bits_of here.entry.width)
+    ensures { IsOrNoMemory (told view result) (ruled (converted (bits_of here.entry.scene.now.width)
         converts.ToBuffer (place_in here.entry at) (place_in here.entry x_at) (view x))) }
 {
-    obeyed(aml_rules::to_buffer(alloc, here.width, place(here, x_at), x))
+    obeyed(aml_rules::to_buffer(alloc, here.scene.width, place(here, x_at), x))
 }
 
 /// Two buffers or two strings, the second behind the first.
@@ -286,7 +286,7 @@ pub fn byte_stored(
 /// How large a value is.
 pub fn sized(here: Setting<'_>, at: usize, x: &Value) -> Result<Value, Halt>
     ensures { told view result
-        ≡ ruled (size_of (bits_of here.entry.width) (place_in here.entry at) (view x.now)) }
+        ≡ ruled (size_of (bits_of here.entry.scene.now.width) (place_in here.entry at) (view x.now)) }
 {
-    given_integer(aml_rules::size_of(here.width, place(here, at), x))
+    given_integer(aml_rules::size_of(here.scene.width, place(here, at), x))
 }

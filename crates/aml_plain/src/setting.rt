@@ -10,9 +10,9 @@ use crate::links::Links;
 use crate::prepared::Bodies;
 use aml_namespace::{Namespace, ObjectId, OwnNames, Width};
 
-/// Where a body stands.
+/// What stays the same while a body is evaluated.
 #[derive(Clone, Copy)]
-pub struct Setting<'a> {
+pub struct Scene<'a> {
     /// The number of its table.
     pub table: usize,
     /// How wide integers are.
@@ -29,9 +29,15 @@ pub struct Setting<'a> {
     pub links: &'a Links,
     /// The bodies of the methods that may be called, where they are read already.
     pub bodies: &'a Bodies,
-    /// How many methods more may be active in it.
-    pub depth: u8,
     ghost meant: { AreLinks (link_with_owns (shown namespace.now).entries method.0 bytes.now
         (owns_seen owns.now)) links.now },
     ghost sound: { AreSound (shown namespace.now) bodies.now } by { Prim.hlevel body_props },
+}
+
+/// Where a body stands.
+#[derive(Clone, Copy)]
+pub struct Setting<'a> {
+    pub scene: &'a Scene<'a>,
+    /// How many methods more may be active in it.
+    pub depth: u8,
 }

@@ -8,4 +8,4 @@ use Rattle.aml_plain.proofs.rules.combined.Goals as goal
 pub returns-in_err-second : goal.returns-in_err-second
 returns-in_err-second c =
     let p = err_from_is_err_and c.from_residual-in_err-second.result c.from_residual-in_err-second.ensures.1 in
-    rw (p.1, p.2) (combined_stops (bits_of c.args.here.width) c.args.arithmetic (place_in c.args.here c.args.x_at) (place_in c.args.here c.args.y_at) (view c.args.x.now) (view c.args.y.now) _ _ c.in_ok-first.ensures c.in_err-second.ensures)
+    rw (p.1, p.2) (combined_stops (bits_of c.args.here.scene.now.width) c.args.arithmetic (place_in c.args.here c.args.x_at) (place_in c.args.here c.args.y_at) (view c.args.x.now) (view c.args.y.now) _ _ c.in_ok-first.ensures c.in_err-second.ensures)

@@ -19,7 +19,7 @@ returns-then-is_ok-clause-means c = λ log.
     let is : is_ok c.set.result ≡ true = sym c.is_ok.ensures.value ∙ c.if-is_ok.true in
     let plain : is_package (view c.args.value) ≡ false = sym c.is_package.ensures ∙ c.if-is_package.false in
     let may = stored_as_held names.kinds c.args.number (view c.args.value) plain ∙ sym c.set.ensures.fits ∙ is in
-    rw (of_ok c.set.result _ is c.set.ensures.put, c.set.ensures.kinds) (runs_set_own (frame_of c.args.self.now.frame) (names_of c.args.self.now.names) log c.args.here.table c.args.at c.args.number (view c.args.value) _ _ (omega (arith, c.if-self-eq0.false)) may)
+    rw (of_ok c.set.result _ is c.set.ensures.put, c.set.ensures.kinds) (runs_set_own (frame_of c.args.self.now.frame) (names_of c.args.self.now.names) log c.args.here.scene.now.table c.args.at c.args.number (view c.args.value) _ _ (omega (arith, c.if-self-eq0.false)) may)
 
 pub returns-else-is_ok-clause-means : goal.returns-else-is_ok-clause-means
 returns-else-is_ok-clause-means c = λ log.
@@ -27,4 +27,4 @@ returns-else-is_ok-clause-means c = λ log.
     let is : is_ok c.set.result ≡ false = sym c.is_ok.ensures.value ∙ c.if-is_ok.false in
     let plain : is_package (view c.args.value) ≡ false = sym c.is_package.ensures ∙ c.if-is_package.false in
     let may = stored_as_held names.kinds c.args.number (view c.args.value) plain ∙ sym c.set.ensures.fits ∙ is in
-    rw (of_err c.set.result _ is c.set.ensures.kept, c.set.ensures.kinds, c.fails-else-is_ok.ensures) (runs_set_own_stop (frame_of c.args.self.now.frame) (names_of c.args.self.now.names) log c.args.here.table c.args.at c.args.number (view c.args.value) _ _ (omega (arith, c.if-self-eq0.false)) may)
+    rw (of_err c.set.result _ is c.set.ensures.kept, c.set.ensures.kinds, c.fails-else-is_ok.ensures) (runs_set_own_stop (frame_of c.args.self.now.frame) (names_of c.args.self.now.names) log c.args.here.scene.now.table c.args.at c.args.number (view c.args.value) _ _ (omega (arith, c.if-self-eq0.false)) may)
