@@ -36,7 +36,8 @@ fn field_numbered(namespace: &Namespace<'_>, id: ObjectId) -> Option<AnyField>
 /// The same where it is wanted. A7 at its name where there is none.
 fn wanted_field(here: Setting<'_>, at: usize, id: ObjectId) -> Result<AnyField, Halt>
     ensures is { told itself result ≡ ruled
-        (wanted_field (place_in here.entry at) (field_numbered (shown here.entry.scene.now.namespace.now) id.0)) }
+        (wanted_field (place_in here.entry at)
+        (field_numbered (shown here.entry.scene.now.namespace.now) id.0)) }
     ensures sound { IfOk result IsSoundField }
 {
     match field_numbered(here.scene.namespace, id) {

@@ -34,7 +34,8 @@ fn first_or(arguments: &[Term], at: usize) -> usize
 fn answered(here: Setting<'_>, at: usize, value: &Value) -> Result<u64, Halt>
     ensures { let known = is_interface (shown here.entry.scene.now.namespace.now) in
         told Int result
-        ≡ ruled (answered known (bits_of here.entry.scene.now.width) (place_in here.entry at) (view value.now)) }
+        ≡ ruled (answered known (bits_of here.entry.scene.now.width)
+        (place_in here.entry at) (view value.now)) }
 {
     match value {
         Value::Str(text) => {

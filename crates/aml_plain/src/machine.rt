@@ -62,7 +62,8 @@ impl Machine {
     /// What a data name holds, where it stands. A1 at the term's place where it holds nothing.
     pub fn seen(&self, here: Setting<'_>, at: usize, id: ObjectId) -> Result<&Value, Halt>
         ensures { (log : List Event) → told (λ v. view v.now) result
-            ≡ content here.entry.scene.now.table at (Some (content_at (now self.now log).names.contents id.0)) }
+            ≡ content here.entry.scene.now.table at
+            (Some (content_at (now self.now log).names.contents id.0)) }
     {
         match self.names.get(id) {
             Some(value) => Ok(value),
@@ -79,7 +80,8 @@ impl Machine {
         id: ObjectId,
     ) -> Result<Value, Halt>
         ensures { (log : List Event) → IsOrNoMemory (told view result)
-            (content here.entry.scene.now.table at (Some (content_at (now self.now log).names.contents id.0))) }
+            (content here.entry.scene.now.table at
+            (Some (content_at (now self.now log).names.contents id.0))) }
     {
         match self.names.get(id) {
             Some(value) => {
@@ -100,7 +102,8 @@ impl Machine {
         value: Value,
     ) -> Result<(), Halt>
         ensures means { (log : List Event) → Runs (went result)
-            (set_name here.entry.scene.now.table at id.0 (view value)) (now self.old log) (now self.new log) }
+            (set_name here.entry.scene.now.table at id.0 (view value))
+            (now self.old log) (now self.new log) }
         ensures falls { self.new.steps ≤ self.old.steps }
     {
         if self.steps == 0 {
@@ -145,7 +148,8 @@ impl Machine {
         at: usize,
         number: usize,
     ) -> Result<Value, Halt>
-        ensures { (log : List Event) → IsOrNoMemory (told view result) (content here.entry.scene.now.table at
+        ensures { (log : List Event) → IsOrNoMemory (told view result)
+            (content here.entry.scene.now.table at
             (Some (content_at (now self.now log).frame.owns.contents number))) }
     {
         match self.frame.owns.get(ObjectId(number)) {
@@ -167,7 +171,8 @@ impl Machine {
         value: Value,
     ) -> Result<(), Halt>
         ensures means { (log : List Event) → Runs (went result)
-            (set_own here.entry.scene.now.table at number (view value)) (now self.old log) (now self.new log) }
+            (set_own here.entry.scene.now.table at number (view value))
+            (now self.old log) (now self.new log) }
         ensures falls { self.new.steps ≤ self.old.steps }
     {
         if self.steps == 0 {

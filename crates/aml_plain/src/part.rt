@@ -189,7 +189,8 @@ fn write_in(
     id: ObjectId,
 ) -> Result<(), Halt>
     requires { IsLaidOut part }
-    ensures { IsChanged (written_part (bits_of here.entry.scene.now.width) (place_in here.entry at) part
+    ensures { IsChanged (written_part (bits_of here.entry.scene.now.width)
+        (place_in here.entry at) part
         (view stored.now) (content_at (contents names.old) id.0))
         (went result) id.0 (names_of names.old) (names_of names.new) }
 {
@@ -219,7 +220,8 @@ fn put_part(
 ) -> Result<(), Halt>
     requires { IsLaidOut part }
     ensures means { (log : List Event) → Runs (went result)
-        (change part.source (written_part (bits_of here.entry.scene.now.width) (place_in here.entry at) part
+        (change part.source (written_part (bits_of here.entry.scene.now.width)
+        (place_in here.entry at) part
         (view stored.now)))
         (now machine.old log) (now machine.new log) }
     ensures falls { machine.new.steps ≤ machine.old.steps }

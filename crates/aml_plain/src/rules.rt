@@ -204,7 +204,8 @@ fn given_store(answer: Result<ByteStore, AmlError>) -> Result<ByteStore, Halt>
 
 /// A value as an integer.
 pub fn to_integer(here: Setting<'_>, at: usize, x_at: usize, x: &Value) -> Result<Value, Halt>
-    ensures { told view result ≡ ruled (converted (bits_of here.entry.scene.now.width) converts.ToInteger
+    ensures { told view result ≡ ruled
+        (converted (bits_of here.entry.scene.now.width) converts.ToInteger
         (place_in here.entry at) (place_in here.entry x_at) (view x.now)) }
 {
     let operator = place(here, at);
@@ -286,7 +287,8 @@ pub fn byte_stored(
 /// How large a value is.
 pub fn sized(here: Setting<'_>, at: usize, x: &Value) -> Result<Value, Halt>
     ensures { told view result
-        ≡ ruled (size_of (bits_of here.entry.scene.now.width) (place_in here.entry at) (view x.now)) }
+        ≡ ruled (size_of (bits_of here.entry.scene.now.width)
+        (place_in here.entry at) (view x.now)) }
 {
     given_integer(aml_rules::size_of(here.scene.width, place(here, at), x))
 }
