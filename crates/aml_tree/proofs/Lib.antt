@@ -15,3 +15,4 @@ pub mod Made
 pub mod RefusedBeginnings
 pub mod Refused
 pub mod Kept
+pub mod Heads

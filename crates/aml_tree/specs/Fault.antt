@@ -40,3 +40,8 @@ ReadsAs view (Err fault) answer = Fails fault answer
 
 abbrev pub same : {X : Type 0} → X → X
 same x = x
+
+-- an answer that is no want of memory
+abbrev pub TakesNone : {X : Type 0} → Result X TreeFault → Type 0
+TakesNone (Err NoMemory) = ⊥
+TakesNone answer = Unit {0}

@@ -12,3 +12,4 @@ pub mod Owns
 pub mod Spelled
 pub mod Laws
 pub mod Causes
+pub mod Heads

@@ -4,7 +4,7 @@ ghost use Rattle.std.specs.Prelude.{◌≡◌, ◌≤◌, ◌<◌, ◌+◌, leng
 ghost use Rattle.std.specs.Borrow.{Bor};
 ghost use Rattle.aml_lex.specs.Names.{name_of};
 ghost use Rattle.aml_operators.specs.Places.{size_of};
-ghost use Rattle.aml_tree.specs.Fault.{ReadsAs, same, refusal};
+ghost use Rattle.aml_tree.specs.Fault.{ReadsAs, TakesNone, same, refusal};
 ghost use Rattle.aml_lex.specs.declared.fault.LexCause.TheVariants.{Truncated};
 ghost use Rattle.aml_tree.specs.Leaf.{byte_at, end_at, name_at, bits_at, text_at, little_endian_at};
 ghost use Rattle.aml_tree.specs.Reading.{is_byte};
@@ -29,6 +29,7 @@ fn truncated(bytes: &[u8]) -> TreeFault
 #[tactic(auto, unfolding(crate::specs::Leaf::byte_at))]
 pub(crate) fn byte(bytes: &[u8], at: usize) -> Result<u8, TreeFault>
     ensures gives { ReadsAs same result (byte_at bytes.now at) }
+    ensures spare { TakesNone result }
     ensures within { IfOk result (λ b. at < length bytes.now) }
 {
     if at >= bytes.len() {
@@ -50,6 +51,7 @@ pub(crate) fn has_byte(byte: u8, bytes: &[u8], at: usize) -> bool
 pub(crate) fn end(bytes: &[u8], at: usize) -> Result<(usize, usize), TreeFault>
     requires { at ≤ length bytes.now }
     ensures gives { ReadsAs same result (end_at bytes.now at) }
+    ensures spare { TakesNone result }
     ensures ahead { IfOk result (λ p. at < p.1) }
     ensures inside { IfOk result (λ p. p.1 ≤ p.0) }
     ensures within { IfOk result (λ p. p.0 ≤ length bytes.now) }
@@ -62,6 +64,7 @@ pub(crate) fn end(bytes: &[u8], at: usize) -> Result<(usize, usize), TreeFault>
 pub(crate) fn name(bytes: &[u8], at: usize) -> Result<(NameRef<'_>, usize), TreeFault>
     requires { at ≤ length bytes.now }
     ensures gives { ReadsAs (λ r. (name_of r.0, r.1)) result (name_at bytes.now at) }
+    ensures spare { TakesNone result }
     ensures ahead { IfOk result (λ r. at < r.1) }
     ensures within { IfOk result (λ r. r.1 ≤ length bytes.now) }
 {
@@ -73,6 +76,7 @@ pub(crate) fn name(bytes: &[u8], at: usize) -> Result<(NameRef<'_>, usize), Tree
 pub(crate) fn bits(bytes: &[u8], at: usize) -> Result<(u32, usize), TreeFault>
     requires { at ≤ length bytes.now }
     ensures gives { ReadsAs same result (bits_at bytes.now at) }
+    ensures spare { TakesNone result }
     ensures ahead { IfOk result (λ r. at < r.1) }
     ensures within { IfOk result (λ r. r.1 ≤ length bytes.now) }
 {
@@ -84,6 +88,7 @@ pub(crate) fn bits(bytes: &[u8], at: usize) -> Result<(u32, usize), TreeFault>
 pub(crate) fn text(bytes: &[u8], at: usize) -> Result<(&[u8], usize), TreeFault>
     requires { at ≤ length bytes.now }
     ensures gives { ReadsAs (λ r. (r.0.now, r.1)) result (text_at bytes.now at) }
+    ensures spare { TakesNone result }
     ensures ahead { IfOk result (λ r. at < r.1) }
     ensures within { IfOk result (λ r. r.1 ≤ length bytes.now) }
 {
@@ -95,6 +100,7 @@ pub(crate) fn text(bytes: &[u8], at: usize) -> Result<(&[u8], usize), TreeFault>
 pub(crate) fn number(size: NumberSize, bytes: &[u8], at: usize) -> Result<(u64, usize), TreeFault>
     requires { at ≤ length bytes.now }
     ensures gives { ReadsAs same result (little_endian_at (size_of size) bytes.now at) }
+    ensures spare { TakesNone result }
     ensures ahead { IfOk result (λ r. at < r.1) }
     ensures within { IfOk result (λ r. r.1 ≤ length bytes.now) }
 {

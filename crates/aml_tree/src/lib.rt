@@ -9,6 +9,7 @@ mod arity;
 mod body;
 mod data;
 mod fault;
+mod head;
 mod laws;
 mod leaf;
 mod limit;
@@ -21,6 +22,7 @@ pub use arity::{Arity, NoArguments};
 pub use body::{Span, read_body};
 pub use data::read_data;
 pub use fault::{Refusal, TreeCause, TreeFault};
+pub use head::{Head, data_head, element_head};
 pub use laws::{
     bodies_are_unique, faults_are_unique, faults_stand_within, modules_are_unique, names_are_there,
     trees_have_their_shape,

@@ -3,7 +3,7 @@
 ghost use Rattle.std.specs.Prelude.{◌≡◌, ◌≤◌, ◌<◌, ◌+◌, ◌==◌, ◌&&◌, length, IfOk};
 ghost use Rattle.aml_operators.specs.Table.{op_of};
 ghost use Rattle.aml_operators.specs.Places.{naming};
-ghost use Rattle.aml_tree.specs.Fault.{ReadsAs, refusal};
+ghost use Rattle.aml_tree.specs.Fault.{ReadsAs, TakesNone, refusal};
 ghost use Rattle.aml_tree.specs.Opening.{is_name_lead, may_be_none, asking, name_opening, row_opening, coded_opening, opening_at};
 ghost use Rattle.aml_tree.specs.Openings.{opening_of, IsNext, IsWithin};
 
@@ -58,6 +58,7 @@ fn asking_place(spot: Spot, asker: usize, at: usize) -> usize
 
 fn open_name(naming: Naming, told: usize, at: usize) -> Result<Opening, TreeFault>
     ensures gives { ReadsAs opening_of result (name_opening naming told at) }
+    ensures spare { TakesNone result }
     ensures next { (next : _) → IfOk result (IsNext next) }
 {
     match naming {
@@ -77,6 +78,7 @@ fn open_operator(
     next: usize,
 ) -> Result<Opening, TreeFault>
     ensures gives { ReadsAs opening_of result (row_opening code spot (op_of opcode) told at next) }
+    ensures spare { TakesNone result }
     ensures next { IfOk result (IsNext next) }
 {
     match op_of_code(opcode) {
@@ -99,6 +101,7 @@ pub(crate) fn open_term(
     at: usize,
 ) -> Result<Opening, TreeFault>
     ensures gives { ReadsAs opening_of result (opening_at code asker spot bytes.now at) }
+    ensures spare { TakesNone result }
     ensures within { IfOk result (λ o. at < length bytes.now) }
     ensures next { IfOk result (IsWithin at (length bytes.now)) }
 {
