@@ -10,7 +10,7 @@ use Rattle.aml_namespace.specs.Entries.{Entries}
 use Rattle.aml_namespace.specs.Load.{Shown}
 use Rattle.aml_namespace.specs.Names.{method_at, IsBodyOf, ReadsBodyOf}
 use Rattle.aml_namespace.specs.Printed.{path_text, printed_object}
-use Rattle.aml_kinds.specs.Belongs.{greatest_of}
+use Rattle.aml_kinds.specs.FirstKinds.{greatest_of}
 use Rattle.aml_kinds.specs.FirstContents.{first_contents, first_kinds}
 use Rattle.aml_kinds.specs.Values.{Value, Int}
 use Rattle.aml_meaning.specs.State as State

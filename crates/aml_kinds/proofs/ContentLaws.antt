@@ -8,10 +8,9 @@ use Rattle.std.specs.Option.{option_map}
 use Rattle.aml_kinds.specs.Values.{Value, Int, Buf, Str, Pkg, Elements, none, more, Element, Holds, Named, Unset}
 use Rattle.aml_kinds.specs.Kinds.{Kind, IntUpTo, BufOf, StrOf, PkgOf, AnyPkg, Mixed}
 use Rattle.aml_kinds.specs.Fits.{fits, fits_shape, fits_place}
-use Rattle.aml_kinds.specs.FirstKinds.{kind_by, shape_by, place_by, first_kind, held_first}
+use Rattle.aml_kinds.specs.FirstKinds.{kind_by, shape_by, place_by, first_kind, greatest_of, held_first}
 use Rattle.aml_namespace.specs.declared.width.Width.{Width}
 use Rattle.aml_namespace.specs.Widths.{bits_of}
-use Rattle.aml_kinds.specs.Belongs.{greatest_of}
 use Rattle.aml_kinds.specs.Contents.{Contents, ContentKinds, HoldTheirKinds, are_fitting, changed_byte, content_at, fits_kind, is_fitting, may_hold, with_byte, with_content}
 use Rattle.aml_kinds.specs.declared.value.Value as program
 use Rattle.aml_kinds.specs.declared.kind.Kind as program_kind

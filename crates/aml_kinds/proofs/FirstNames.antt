@@ -1,4 +1,4 @@
--- What names hold first is of their kinds, name by name.
+-- What names hold first, name by name.
 use Rattle.std.proofs.Common.{◌≡◌, ◌<◌, ◌≤◌, ◌+◌, ◌-◌, ◌^◌, ◌++◌, ◌∙◌, ℕ, zero, suc, true, List, [], ◌∷◌, Option, Some, None, map, take, length, refl, ap, arith}
 use Rattle.std.specs.Prelude.{replicate}
 use Rattle.std.proofs.Math.Nat.{mod-mod}
@@ -18,13 +18,10 @@ use Rattle.aml_namespace.specs.Entries.{Entries, object_at, own_object}
 use Rattle.aml_namespace.specs.Load.{Shown}
 use Rattle.aml_namespace.specs.Paths.{Path}
 use Rattle.aml_namespace.specs.Widths.{bits_of}
-use Rattle.aml_kinds.specs.Belongs.{Belong, greatest_of, is_kind_of, is_kind_told}
-use Rattle.aml_kinds.specs.Contents.{Contents, ContentKinds, kind_at}
-use Rattle.aml_kinds.specs.FirstContents.{counted, filled, first_content, first_contents, first_kinds, value_from, value_in, value_told}
-use Rattle.aml_kinds.specs.FirstKinds.{first_kind, held_first, name_kind, shape_by, within_width}
-use Rattle.aml_kinds.specs.Kinds.{places}
-use Rattle.aml_kinds.specs.Values.{Elements, Value, none, more}
-use Rattle.aml_kinds.proofs.SameKinds.{number_same}
+use Rattle.aml_kinds.specs.Contents.{Contents, ContentKinds}
+use Rattle.aml_kinds.specs.FirstContents.{filled, first_content, first_contents, first_kinds, value_from, value_in, value_told}
+use Rattle.aml_kinds.specs.FirstKinds.{first_kind, greatest_of, held_first, within_width}
+use Rattle.aml_kinds.specs.Values.{Elements, Value, none}
 
 pub length-filled : (size : ℕ) (bytes : List ℕ) → length (filled size bytes) ≡ size
 length-filled size bytes =
@@ -33,46 +30,20 @@ length-filled size bytes =
     let rest = length-replicate {A = ℕ} (size - length bytes) 0 in
     omega (arith, parts, first, rest)
 
-places-counted : (size : ℕ) (es : Elements) → places (shape_by (counted size es)) ≡ size
-places-counted zero es = refl
-places-counted (suc n) none = ap suc (places-counted n none)
-places-counted (suc n) (more e es) = ap suc (places-counted n es)
-
--- a value is of the kind that is told of it
-told_kind : (width : Width) (told : Content) (number : ℕ) (bytes : List ℕ) (es : Elements) → is_kind_told width told (name_kind (greatest_of width) (value_told width told number bytes es)) ≡ true
-told_kind width content.Integer number bytes es = number_same (greatest_of width)
-told_kind width (content.Buffer size) number bytes es = rw (length-filled size bytes) (number_same size)
-told_kind width (content.String size) number bytes es = rw (length-filled size bytes) (number_same size)
-told_kind width (content.Package size) number bytes es = rw (places-counted size es) (number_same size)
-
--- and its integers are those of the width already
+-- the integers of a value of which it is told what it is are those of the width already
 told_within : (width : Width) (told : Content) (number : ℕ) (bytes : List ℕ) (es : Elements) → within_width width (value_told width told number bytes es) ≡ value_told width told number bytes es
 told_within width content.Integer number bytes es = rw (mod-mod number (2 ^ bits_of width))
 told_within width (content.Buffer size) number bytes es = refl
 told_within width (content.String size) number bytes es = refl
 told_within width (content.Package size) number bytes es = refl
 
-term_kind : (ns : Shown) (table : ℕ) (scope : Scope) (told : Content) (t : Tree) → is_kind_told ns.width told (name_kind (greatest_of ns.width) (value_in ns table scope told t)) ≡ true
-term_kind ns table scope told (Node o at stop parts) = told_kind ns.width told _ _ _
-
 term_within : (ns : Shown) (table : ℕ) (scope : Scope) (told : Content) (t : Tree) → within_width ns.width (value_in ns table scope told t) ≡ value_in ns table scope told t
 term_within ns table scope told (Node o at stop parts) = told_within ns.width told _ _ _
-
-kind_from : (ns : Shown) (told : Content) (from : Source) → is_kind_told ns.width told (name_kind (greatest_of ns.width) (value_from ns told from)) ≡ true
-kind_from ns told source.Revision = told_kind ns.width told 2 [] none
-kind_from ns told source.OsName = told_kind ns.width told 0 ns.os none
-kind_from ns told (source.Term table span scope) = term_kind ns table scope told _
 
 within_from : (ns : Shown) (told : Content) (from : Source) → within_width ns.width (value_from ns told from) ≡ value_from ns told from
 within_from ns told source.Revision = told_within ns.width told 2 [] none
 within_from ns told source.OsName = told_within ns.width told 0 ns.os none
 within_from ns told (source.Term table span scope) = term_within ns table scope told _
-
--- what an object holds first is of the kind that is told of it
-object_kind : (ns : Shown) (o : Option Object) → is_kind_of ns.width o (first_kind (greatest_of ns.width) (first_content ns o)) ≡ true
-object_kind ns (Some (object.Data d)) = kind_from ns d.content d.source
-object_kind ns (Some o) = refl
-object_kind ns None = refl
 
 object_within : (ns : Shown) (o : Option Object) → held_first ns.width (first_content ns o) ≡ first_content ns o
 object_within ns (Some (object.Data d)) = ap Some (within_from ns d.content d.source)
@@ -85,19 +56,6 @@ module _ (ns : Shown) where
 
   abbrev pub kinds_in : Entries → ContentKinds
   kinds_in entries = map (first_kind (greatest_of ns.width)) (contents_in entries)
-
-  kind_there : (entries : Entries) (i : ℕ) → is_kind_of ns.width (object_at entries i) (kind_at (kinds_in entries) i) ≡ true
-  kind_there [] i = refl
-  kind_there (e ∷ entries) zero = object_kind ns (own_object e.1)
-  kind_there (e ∷ entries) (suc i) = kind_there entries i
-
-  many_kinds : (entries : Entries) → length (kinds_in entries) ≡ length entries
-  many_kinds [] = refl
-  many_kinds (e ∷ entries) = ap suc (many_kinds entries)
-
-  -- what names hold first belongs to the namespace
-  pub first_belong : (kinds : ContentKinds) → kinds ≡ first_kinds ns → Belong ns kinds
-  first_belong kinds is = rw is (many_kinds ns.entries, kind_there ns.entries)
 
   next_content : (entries : Entries) (i : ℕ) → i < length entries → contents_in (take (suc i) entries) ≡ contents_in (take i entries) ++ first_content ns (object_at entries i) ∷ []
   next_content [] i there = absurd (omega (arith, there))

@@ -1,6 +1,8 @@
 pub mod BelongLaws
 pub mod BodyData
 pub mod ContentLaws
+pub mod DataKinds
+pub mod DataWalk
 pub mod Elements
 pub mod FirstData
 pub mod FirstNames

@@ -25,9 +25,8 @@ use Rattle.aml_namespace.specs.Made.{at_of, content_in}
 use Rattle.aml_namespace.specs.Paths.{Path}
 use Rattle.aml_namespace.specs.Settled.{named_at}
 use Rattle.aml_namespace.specs.Widths.{bits_of}
-use Rattle.aml_kinds.specs.Belongs.{greatest_of}
 use Rattle.aml_kinds.specs.Contents.{Contents, ContentKinds}
-use Rattle.aml_kinds.specs.FirstKinds.{first_kind}
+use Rattle.aml_kinds.specs.FirstKinds.{first_kind, greatest_of}
 use Rattle.aml_kinds.specs.Values as value
 use Rattle.aml_kinds.specs.Values.{Value, Int, Buf, Str, Pkg, Elements, Element, Holds, Named, Unset}
 
@@ -109,8 +108,14 @@ module _ (ns : Shown) (table : ℕ) (scope : Scope) where
   abbrev pub value_of : Content → Op → Trees → Value
   value_of told o parts = value_with told o parts (elements_behind parts)
 
+  -- the elements of a package; no other data has any
+  abbrev pub package_elements : Op → Trees → Elements
+  package_elements op.Package parts = elements_behind parts
+  package_elements op.VarPackage parts = elements_behind parts
+  package_elements o parts = value.none
+
   abbrev pub value_in : Content → Tree → Value
-  value_in told (Node o at stop parts) = value_of told o parts
+  value_in told (Node o at stop parts) = value_with told o parts (package_elements o parts)
 
 -- a term that was read, else Zero
 abbrev pub term_or_zero : Result Tree Refusal → Tree

@@ -1,5 +1,5 @@
 -- The kinds that names have by their first contents.
-use Rattle.std.specs.Prelude.{ℕ, ◌^◌, ◌%◌, length, Option}
+use Rattle.std.specs.Prelude.{ℕ, ◌-◌, ◌^◌, ◌%◌, length, Option}
 use Rattle.std.specs.Option.{option_map}
 use Rattle.aml_namespace.specs.declared.width.Width.{Width}
 use Rattle.aml_namespace.specs.Widths.{bits_of}
@@ -22,6 +22,10 @@ abbrev mutual
   place_by (Holds v) = ValueOf (kind_by v)
   place_by (Named o) = AnyName
   place_by Unset = Anything
+
+-- the greatest integer
+abbrev pub greatest_of : Width → ℕ
+greatest_of width = 2 ^ bits_of width - 1
 
 -- the kind of a name: where it holds an integer first, it may hold each up to the greatest
 abbrev pub name_kind : ℕ → Value → Kind

@@ -1,5 +1,5 @@
 -- Whether two kinds are the same.
-use Rattle.std.specs.Prelude.{◌==◌, ◌&&◌, Bool, true, false}
+use Rattle.std.specs.Prelude.{◌==◌, ◌&&◌, Bool, true, false, Option, Some, None}
 use Rattle.aml_kinds.specs.Kinds.{Kind, IntUpTo, BufOf, StrOf, PkgOf, AnyPkg, Mixed, Shape, bare, with, ElementKind, ValueOf, AnyName, Anything}
 
 abbrev mutual
@@ -22,3 +22,9 @@ abbrev mutual
   same_element_kind AnyName AnyName = true
   same_element_kind Anything Anything = true
   same_element_kind d e = false
+
+-- of contents, where there are any
+abbrev pub same_content_kind : Option Kind → Option Kind → Bool
+same_content_kind (Some j) (Some k) = same_kind j k
+same_content_kind None None = true
+same_content_kind j k = false

@@ -146,10 +146,19 @@ pub(crate) fn value_in(
     ensures { IfOk result (λ v. seen.view v ≡
         value_in (shown namespace.now) site.table site.scope told (view term.now)) }
 {
-    value_of(alloc, namespace, site, told, term.op, &term.parts)
+    match term.op {
+        Op::Package | Op::VarPackage => {
+            value_of(alloc, namespace, site, told, term.op, &term.parts)
+        }
+        _ => {
+            let bytes = bytes_in(namespace.table_bytes(site.table), term.op, &term.parts);
+            let number = number_of(term.op, &term.parts);
+            plain_value(alloc, namespace.width(), told, number, bytes)
+        }
+    }
 }
 
-/// The same, by the term's operator and its parts.
+/// The value of a term that may have elements, by its operator and its parts.
 #[cycle(first_data)]
 pub(crate) fn value_of(
     alloc: Global,

@@ -4,6 +4,7 @@
 mod bodies;
 mod bytes;
 mod copies;
+mod data_kinds;
 mod first_contents;
 mod first_data;
 mod first_kinds;

@@ -3,20 +3,23 @@
 ghost use Rattle.std.specs.Prelude.{◌≡◌, ◌<◌, ◌↔◌, ◌++◌, ◌∷◌, [], length, OnOk, OnErr, IfOk, IfErr, IsTrue, is_ok, true, Some};
 ghost use Rattle.std.specs.Option.{option_map};
 ghost use Rattle.aml_namespace.specs.Shows.{shown};
-ghost use Rattle.aml_kinds.specs.Belongs.{Belong, greatest_of, is_kind_of, is_kind_told};
+ghost use Rattle.aml_kinds.specs.Belongs.{Belong};
 ghost use Rattle.aml_kinds.specs.Contents.{HoldTheirKinds, are_fitting, changed_byte, content_at, has_byte, kind_at, may_hold, with_byte, with_content};
 ghost use Rattle.aml_kinds.specs.ContentViews.{content, content_kind, content_kinds_of, contents_of};
-ghost use Rattle.aml_kinds.specs.FirstKinds.{first_kind, held_first, within_width};
+ghost use Rattle.aml_kinds.specs.DataKinds.{name_kind_told, object_kind};
+ghost use Rattle.aml_kinds.specs.FirstKinds.{first_kind, greatest_of, held_first, within_width};
 ghost use Rattle.aml_kinds.specs.KindViews.{kind_of};
+ghost use Rattle.aml_kinds.specs.SameKinds.{same_content_kind, same_kind};
 ghost use Rattle.aml_kinds.specs.Views.{view};
 
 use crate::copies::copied;
+use crate::data_kinds::is_source_shape;
 use crate::first_kinds::{first_kind, held_first};
 use crate::fitting::fits;
 use crate::kind::Kind;
 use crate::kind_copies::copied_kind;
 use crate::value::Value;
-use aml_namespace::{Content, Namespace, NoMemory, Object, ObjectId, Width};
+use aml_namespace::{Content, Namespace, NoMemory, Object, ObjectId, Source, Width};
 use std::alloc::{AllocError, Global};
 
 /// What data names hold, by the numbers of their objects. Each content is of its name's kind.
@@ -107,8 +110,9 @@ impl Names {
         Ok(Names { contents, kinds })
     }
 
-    /// Whether these are the names of a namespace: there are just as many, and the content of each data
-    /// name is of its kind. Of a package the number of elements is looked at alone.
+    /// Whether these are the names of a namespace: there are just as many as it has objects, and their
+    /// kinds are those of its names' first contents, also of what stands in packages. The data is read
+    /// in the tables' bytes; no memory is taken.
     pub fn belong(&self, namespace: &Namespace<'_>) -> bool
         ensures { IsTrue result ↔ Belong (shown namespace.now) (content_kinds self.now) }
     {
@@ -116,11 +120,7 @@ impl Names {
             return false;
         }
         for i in 0..self.kinds.len() {
-            if !is_kind_of(
-                namespace.width(),
-                namespace.object(ObjectId(i)),
-                self.kind(i),
-            ) {
+            if !is_kind_of(namespace, namespace.object(ObjectId(i)), self.kind(i)) {
                 return false;
             }
         }
@@ -257,27 +257,34 @@ fn copied_content_kind(alloc: Global, each: &Option<Kind>) -> Result<Option<Kind
     }
 }
 
-/// Whether an object has just this kind of content.
-fn is_kind_of(width: Width, object: Option<Object>, kind: Option<&Kind>) -> bool
-    ensures { result ≡ is_kind_of width object (option_map (λ k. kind_of k.now) kind.entry) }
+/// Whether an object has just this kind of content first.
+fn is_kind_of(namespace: &Namespace<'_>, object: Option<Object>, kind: Option<&Kind>) -> bool
+    ensures { let held = option_map (λ k. kind_of k.now) kind.entry in
+        result ≡ same_content_kind held (object_kind (shown namespace.now) object) }
 {
     match (object, kind) {
-        (Some(Object::Data(data)), Some(kind)) => is_kind_told(width, data.content, kind),
+        (Some(Object::Data(data)), Some(kind)) => {
+            is_kind_told(namespace, kind, data.content, data.source)
+        }
         (Some(Object::Data(_)), None) => false,
         (_, None) => true,
         (_, Some(_)) => false,
     }
 }
 
-/// Whether a kind is that of a name with such a first content.
-fn is_kind_told(width: Width, told: Content, kind: &Kind) -> bool
-    ensures { result ≡ is_kind_told width told (kind_of kind.now) }
+/// Whether a kind is that of a name of whose first content it is told what it is, and where it comes
+/// from.
+fn is_kind_told(namespace: &Namespace<'_>, kind: &Kind, told: Content, source: Source) -> bool
+    ensures { result ≡
+        same_kind (kind_of kind.now) (name_kind_told (shown namespace.now) told source) }
 {
     match (told, kind) {
-        (Content::Integer, Kind::Int(greatest)) => *greatest == width.greatest(),
+        (Content::Integer, Kind::Int(greatest)) => *greatest == namespace.width().greatest(),
         (Content::Buffer(size), Kind::Buf(bytes)) => *bytes == size,
         (Content::String(size), Kind::Str(characters)) => *characters == size,
-        (Content::Package(size), Kind::Pkg(shape)) => shape.len() as u64 == size,
+        (Content::Package(size), Kind::Pkg(shape)) => {
+            is_source_shape(namespace, shape.places(), size, source)
+        }
         _ => false,
     }
 }

@@ -1,9 +1,8 @@
 use Rattle.std.proofs.Common.{◌<◌, ◌≤◌, ◌∙◌, ◌++◌, ◌∷◌, [], length, ap, arith}
 use Rattle.aml_namespace.specs.declared.width.Width.{Width}
-use Rattle.aml_kinds.specs.Belongs.{greatest_of}
 use Rattle.aml_namespace.specs.Shows.{shown}
 use Rattle.aml_kinds.specs.ContentViews.{content}
-use Rattle.aml_kinds.specs.FirstKinds.{first_kind, held_first}
+use Rattle.aml_kinds.specs.FirstKinds.{first_kind, greatest_of, held_first}
 use Rattle.aml_kinds.specs.Held.{contents, content_kinds}
 use Rattle.aml_kinds.proofs.FirstNames.{contents_all, contents_next, kinds_all, kinds_next}
 use Rattle.aml_kinds.proofs.names.Names.first.Goals as goal
