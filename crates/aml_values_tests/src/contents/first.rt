@@ -3,7 +3,7 @@
 
 use acpi_samples::{HOST, table_of};
 use aml_kinds::{Bytes, Element, Names, Package, Value, is_same_value};
-use aml_namespace::{LoadCause, LoadFault, NamePlace, Namespace, NoMemory, ObjectId, Scope};
+use aml_namespace::{LoadCause, LoadFault, NamePlace, Namespace, NoMemory, ObjectId, Scope, Width};
 use aml_tree::TreeCause;
 use std::alloc::{AllocError, Global};
 use std::test::Fail;
@@ -284,6 +284,174 @@ const PACKAGES: &[Row] = &[
 fn rows_of_packages(rt: HostRuntime) -> Result<(), Fail> {
     for (i, row) in PACKAGES.iter().enumerate() {
         assert!(rt; is_first_again(rt.alloc(), *row)?, "row {i}");
+    }
+    Ok(())
+}
+
+/// Name (AAAA, Package (3) {Package (2) {"ab", AAAA}, 9}): its third element is unset.
+const NESTED: &[u8] = b"\x08AAAA\x12\x0f\x03\x12\x0a\x02\x0dab\0AAAA\x0a\x09";
+
+/// Name (AAAA, Package (1) {9, 8}), whose second element is dropped.
+const DROPPED: &[u8] = b"\x08AAAA\x12\x06\x01\x0a\x09\x0a\x08";
+
+/// Name (AAAA, Package (2) {9}), its number of elements a term.
+const MISSING: &[u8] = b"\x08AAAA\x13\x05\x0a\x02\x0a\x09";
+
+/// The module of a DSDT, what its one name holds in some names, and whether these belong to the
+/// namespace.
+type OtherRow = (&'static [u8], &'static [Step], bool);
+
+const OTHERS: &[OtherRow] = &[
+    // The first content; and a name that names another object, which is of the same kind.
+    (
+        NESTED,
+        &[
+            Step::Str(b"ab"),
+            Step::Name(Some(ObjectId(9))),
+            Step::Pack(2),
+            Step::Int(9),
+            Step::Unset,
+            Step::Pack(3),
+        ],
+        true,
+    ),
+    (
+        NESTED,
+        &[
+            Step::Str(b"yz"),
+            Step::Name(None),
+            Step::Pack(2),
+            Step::Int(9),
+            Step::Unset,
+            Step::Pack(3),
+        ],
+        true,
+    ),
+    // In the inner package: a longer string, a buffer, a value in place of the name, an element less.
+    (
+        NESTED,
+        &[
+            Step::Str(b"abc"),
+            Step::Name(None),
+            Step::Pack(2),
+            Step::Int(9),
+            Step::Unset,
+            Step::Pack(3),
+        ],
+        false,
+    ),
+    (
+        NESTED,
+        &[
+            Step::Buf(b"ab"),
+            Step::Name(None),
+            Step::Pack(2),
+            Step::Int(9),
+            Step::Unset,
+            Step::Pack(3),
+        ],
+        false,
+    ),
+    (
+        NESTED,
+        &[
+            Step::Str(b"ab"),
+            Step::Int(9),
+            Step::Pack(2),
+            Step::Int(9),
+            Step::Unset,
+            Step::Pack(3),
+        ],
+        false,
+    ),
+    (
+        NESTED,
+        &[
+            Step::Str(b"ab"),
+            Step::Pack(1),
+            Step::Int(9),
+            Step::Unset,
+            Step::Pack(3),
+        ],
+        false,
+    ),
+    // A name where the inner package stood; another integer; an integer where no element is set.
+    (
+        NESTED,
+        &[Step::Name(None), Step::Int(9), Step::Unset, Step::Pack(3)],
+        false,
+    ),
+    (
+        NESTED,
+        &[
+            Step::Str(b"ab"),
+            Step::Name(None),
+            Step::Pack(2),
+            Step::Int(8),
+            Step::Unset,
+            Step::Pack(3),
+        ],
+        false,
+    ),
+    (
+        NESTED,
+        &[
+            Step::Str(b"ab"),
+            Step::Name(None),
+            Step::Pack(2),
+            Step::Int(9),
+            Step::Int(0),
+            Step::Pack(3),
+        ],
+        false,
+    ),
+    (
+        NESTED,
+        &[Step::Unset, Step::Unset, Step::Unset, Step::Pack(3)],
+        false,
+    ),
+    // Elements that are dropped, and missing ones.
+    (DROPPED, &[Step::Int(9), Step::Pack(1)], true),
+    (DROPPED, &[Step::Int(8), Step::Pack(1)], false),
+    (DROPPED, &[Step::Int(9), Step::Int(8), Step::Pack(2)], false),
+    (MISSING, &[Step::Int(9), Step::Unset, Step::Pack(2)], true),
+    (MISSING, &[Step::Int(9), Step::Int(9), Step::Pack(2)], false),
+    (MISSING, &[Step::Int(9), Step::Pack(1)], false),
+];
+
+/// What the predefined names hold first.
+fn predefined(alloc: Global, number: usize) -> Result<Option<Value>, AllocError> {
+    match number {
+        5 => Ok(Some(Value::Int(2))),
+        7 => Ok(Some(Value::Str(bytes_of(alloc, b"Other")?))),
+        _ => Ok(None),
+    }
+}
+
+/// Names of the predefined objects and of one that holds what steps make.
+fn names_with(alloc: Global, steps: &[Step]) -> Result<Names, Fail> {
+    let mut names = Names::new(alloc);
+    for number in 0..9 {
+        let held = predefined(alloc, number)?;
+        names.push(alloc, Width::Bits64, held)?;
+    }
+    let held = value_by(alloc, steps)?;
+    names.push(alloc, Width::Bits64, held)?;
+    Ok(names)
+}
+
+/// Whether they belong to the namespace of a module.
+fn do_belong(alloc: Global, module: &[u8], steps: &[Step]) -> Result<bool, Fail> {
+    let table = table_of(alloc, *b"DSDT", 2, module)?;
+    let ns = Namespace::load(alloc, &[&table], HOST)?;
+    Ok(names_with(alloc, steps)?.belong(&ns))
+}
+
+#[test]
+fn packages_belong_by_their_elements(rt: HostRuntime) -> Result<(), Fail> {
+    for (i, (module, steps, is_theirs)) in OTHERS.iter().enumerate() {
+        let found = do_belong(rt.alloc(), module, steps)?;
+        assert!(rt; found == *is_theirs, "row {i}");
     }
     Ok(())
 }
