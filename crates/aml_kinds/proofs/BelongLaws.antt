@@ -1,12 +1,12 @@
 -- Going over the names of a namespace.
-use Rattle.std.proofs.Common.{◌≡◌, ◌<◌, ◌≤◌, ◌+◌, ◌⊎◌, ◌∙◌, ◌∷◌, ℕ, zero, suc, Bool, true, false, [], length, Option, Some, None, refl, sym, subst, ap, arith, inl, inr}
+use Rattle.std.proofs.Common.{◌≡◌, ◌<◌, ◌≤◌, ◌+◌, ◌⊎◌, ◌∙◌, ◌∷◌, ℕ, zero, suc, Bool, true, [], length, Option, Some, None, refl, sym, subst, ap, arith, inl, inr}
 use Rattle.std.proofs.Math.Nat.{eq-or-lt_of_le}
 use Rattle.aml_namespace.specs.Entries.{Entries, object_at, own_object}
 use Rattle.aml_namespace.specs.Load.{Shown}
 use Rattle.aml_kinds.specs.Belongs.{Belong}
 use Rattle.aml_kinds.specs.Contents.{ContentKinds, kind_at}
 use Rattle.aml_kinds.specs.DataKinds.{object_kind}
-use Rattle.aml_kinds.specs.FirstContents.{first_content, first_kinds}
+use Rattle.aml_kinds.specs.FirstContents.{first_content}
 use Rattle.aml_kinds.specs.FirstKinds.{first_kind, greatest_of}
 use Rattle.aml_kinds.specs.Kinds.{Kind}
 use Rattle.aml_kinds.specs.SameKinds.{same_content_kind}

@@ -1,5 +1,5 @@
 -- The kinds that are told by the terms of data are those of its values.
-use Rattle.std.proofs.Common.{◌≡◌, ◌%◌, ◌^◌, ◌∙◌, ℕ, zero, suc, List, [], Option, Some, None, length, refl, sym, ap}
+use Rattle.std.proofs.Common.{◌≡◌, ◌∙◌, ℕ, zero, suc, List, [], Option, Some, None, refl, ap}
 use Rattle.aml_operators.specs.declared.op.Op.{Op}
 use Rattle.aml_operators.specs.declared.op.Op.TheVariants as op
 use Rattle.aml_operators.specs.Tree.{Tree, Trees, Node, none, more}
@@ -19,7 +19,7 @@ use Rattle.aml_namespace.specs.Made.{content_in}
 use Rattle.aml_kinds.specs.DataKinds.{counted_places, data_shape, kind_told, name_kind_told, object_kind, place_told, shape_behind, shape_in, source_shape, tree_place}
 use Rattle.aml_kinds.specs.FirstContents.{bytes_in, counted, data_in, element_by, element_in, elements_behind, elements_in, first_content, named, number_of, package_elements, value_from, value_in, value_told}
 use Rattle.aml_kinds.specs.FirstKinds.{first_kind, greatest_of, kind_by, name_kind, place_by, shape_by}
-use Rattle.aml_kinds.specs.Kinds.{Kind, IntUpTo, BufOf, StrOf, PkgOf, Shape, bare, with, ElementKind, ValueOf, Anything}
+use Rattle.aml_kinds.specs.Kinds.{Kind, IntUpTo, BufOf, StrOf, PkgOf, Shape, with, ValueOf, Anything}
 use Rattle.aml_kinds.specs.Values as value
 use Rattle.aml_kinds.specs.Values.{Elements, Value}
 use Rattle.aml_kinds.proofs.FirstNames.{length-filled}

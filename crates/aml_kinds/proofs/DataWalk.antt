@@ -1,33 +1,30 @@
 -- The walk over data sees what the reading of its term gives.
-use Rattle.std.proofs.Common.{◌≡◌, ◌<◌, ◌≤◌, ◌+◌, ◌-◌, ◌++◌, ◌∷◌, ◌∙◌, ℕ, zero, suc, List, [], Option, Some, None, Result, Ok, Err, length, map, take, get_or, refl, sym, ap, subst, arith, add-one, inl, inr, length-append}
+use Rattle.std.proofs.Common.{◌≡◌, ◌<◌, ◌≤◌, ◌+◌, ◌++◌, ◌∷◌, ◌∙◌, ℕ, zero, suc, List, [], Some, None, Result, Ok, Err, length, take, get_or, refl, sym, ap, arith, add-one, inl, inr, length-append}
 use Rattle.std.specs.Prelude.{Bool, true, false, ◌&&◌, ◌||◌, ◌==◌, nat_lt, nat_le}
 use Rattle.std.proofs.lemmas.Bool.{lt-ltb, cases_lt}
 use Rattle.std.proofs.lemmas.Bool.Decides.{nat_tests}
 use Rattle.aml_operators.specs.declared.op.Op.{Op}
 use Rattle.aml_operators.specs.declared.op.Op.TheVariants as op
 use Rattle.aml_operators.specs.declared.row.Code.TheVariants as code
-use Rattle.aml_operators.specs.declared.row.Spot.{Spot}
 use Rattle.aml_operators.specs.declared.row.Spot.TheVariants as spot
-use Rattle.aml_operators.specs.Tree.{Tree, Trees, Node, none, more, trees, stop_of}
+use Rattle.aml_operators.specs.Tree.{Tree, Trees, Node, more, trees, stop_of}
 use Rattle.aml_tree.specs.declared.fault.Refusal.{Refusal}
 use Rattle.aml_tree.specs.declared.fault.TreeCause.TheVariants.{TooDeep}
-use Rattle.aml_tree.specs.declared.head.Head.{Head}
 use Rattle.aml_tree.specs.declared.head.Head.TheVariants as head
 use Rattle.aml_tree.specs.Body.{no_arguments}
 use Rattle.aml_tree.specs.Fault.{refusal, ◌>>=◌}
-use Rattle.aml_tree.specs.Heads.{IsHead, IsPackage, leaf_head, buffer_length, text_length, told_count}
-use Rattle.aml_tree.specs.Leaf.{byte_at, byte_or}
+use Rattle.aml_tree.specs.Heads.{IsHead, IsPackage, told_count}
+use Rattle.aml_tree.specs.Leaf.{byte_at}
 use Rattle.aml_tree.specs.Reading.{deepest_at, term_at, terms_until}
-use Rattle.aml_namespace.specs.declared.object.Content.{Content}
 use Rattle.aml_namespace.specs.declared.object.Content.TheVariants as content
 use Rattle.aml_namespace.specs.declared.width.Width.{Width}
 use Rattle.aml_namespace.specs.declared.width.Width.TheVariants.{Bits64}
-use Rattle.aml_namespace.specs.Made.{buffer_content, content_in, package_content, string_content}
+use Rattle.aml_namespace.specs.Made.{package_content}
 use Rattle.aml_kinds.specs.declared.kind.ElementKind as program_kind
-use Rattle.aml_kinds.specs.DataKinds.{counted_places, data_shape, element_compared, elements_compared, kind_told, leaf_place, place_at, place_told, seen, shape_behind, shape_in, tree_place, unset_from, wanted_shape, wants_package}
-use Rattle.aml_kinds.specs.FirstContents.{number_of, term_or_zero}
+use Rattle.aml_kinds.specs.DataKinds.{counted_places, element_compared, elements_compared, kind_told, place_at, place_told, seen, shape_behind, shape_in, tree_place, unset_from, wanted_shape, wants_package}
+use Rattle.aml_kinds.specs.FirstContents.{number_of}
 use Rattle.aml_kinds.specs.KindViews.{element_kind, shape_of}
-use Rattle.aml_kinds.specs.Kinds.{PkgOf, BufOf, StrOf, Shape, bare, with, ElementKind, ValueOf, Anything, AnyName, places}
+use Rattle.aml_kinds.specs.Kinds.{PkgOf, Shape, bare, with, ElementKind, ValueOf, Anything, AnyName, places}
 use Rattle.aml_kinds.specs.SameKinds.{same_element_kind, same_shape}
 
 and_true : (b : Bool) → (b && true) ≡ b
@@ -245,14 +242,9 @@ module _ (width : Width) (count : ℕ) (s : Shape) (depth own : ℕ) (bytes : Li
         | inr past ↦ kept_there front number at x (until (suc n) (number ∷ front) at) (until_end (suc n) (number ∷ front) at past) e
       ]
 
-  -- a package whose elements are read, and one of which an element is faulty
+  -- a package whose elements are read
   abbrev whole : Op → ℕ → Tree → Result Tree Refusal
   whole o at number = until (length bytes) (number ∷ []) start >>= (λ r. Ok (Node o at r.1 (trees r.0)))
-
-  pub package_fault : (o : Op) (at : ℕ) (number : Tree) → None ≡ seen (elements_compared width count s) (until (length bytes) (number ∷ []) start) → (fault : Refusal) × (whole o at number ≡ Err fault)
-  package_fault o at number e =
-      let fault = seen_none (elements_compared width count s) (until (length bytes) (number ∷ []) start) e in
-      (fault.0, ap (λ (r : Result (List Tree × ℕ) Refusal). r >>= (λ r. Ok (Node o at r.1 (trees r.0)))) fault.1)
 
   pub package_read : (o : Op) (at : ℕ) (number : Tree) (stop : ℕ) (same : Bool) → Some (stop, same) ≡ seen (elements_compared width count s) (until (length bytes) (number ∷ []) start) → (rest : List Tree) × (whole o at number ≡ Ok (Node o at stop (more number (trees rest)))) × (same ≡ same_shape s (counted_places count (shape_in width (trees rest))))
   package_read o at number stop same e =
@@ -270,11 +262,6 @@ told_number : (number : Tree) (rest : Trees) → package_content (more number re
 told_number (Node (op.Number n) at stop parts) rest = refl
 told_number (Node o at stop parts) rest = refl
 
-told_content : (o : Op) (number : Tree) (rest : Trees) → IsPackage o → content_in o (more number rest) ≡ content.Package (told_count o number)
-told_content op.Package number rest is = told_number number rest
-told_content op.VarPackage number rest is = refl
-told_content o number rest is = absurd is
-
 package_place : (width : Width) (o : Op) (number : Tree) (rest : Trees) (s : Shape) → IsPackage o → place_told width o (more number rest) s ≡ ValueOf (PkgOf (counted_places (told_count o number) s))
 package_place width op.Package number rest s is =
     ap (λ told. ValueOf (kind_told width told (number_of op.Package (more number rest)) s)) (told_number number rest)
@@ -287,84 +274,13 @@ wanted_package (ValueOf k) t = and_false (same_shape bare t)
 wanted_package AnyName t = and_false (same_shape bare t)
 wanted_package Anything t = and_false (same_shape bare t)
 
--- the kinds of elements that are no packages
-
-abbrev head_or_name : Option Head → Head
-head_or_name None = head.Name
-head_or_name (Some h) = h
-
-buffer_place : (width : Width) (number : ℕ) (s : Shape) (parts : Trees) → kind_told width (buffer_content parts) number s ≡ BufOf (buffer_length parts)
-buffer_place width number s none = refl
-buffer_place width number s (more a none) = refl
-buffer_place width number s (more a (more (Node o at stop inside) none)) = refl
-buffer_place width number s (more a (more (Node o at stop inside) (more d rest))) = refl
-
-text_place : (width : Width) (number : ℕ) (s : Shape) (parts : Trees) → kind_told width (string_content parts) number s ≡ StrOf (text_length parts)
-text_place width number s none = refl
-text_place width number s (more (Node o at stop inside) rest) = refl
-
-leaf_told : (width : Width) (o : Op) (parts : Trees) (s : Shape) (h : Head) → leaf_head o parts ≡ Some h → place_told width o parts s ≡ leaf_place width h
-leaf_told width op.NameString parts s h e = ap (λ x. leaf_place width (head_or_name x)) e
-leaf_told width op.Buffer parts s h e =
-    ap ValueOf (buffer_place width (number_of op.Buffer parts) s parts) ∙ ap (λ x. leaf_place width (head_or_name x)) e
-leaf_told width op.String parts s h e =
-    ap ValueOf (text_place width (number_of op.String parts) s parts) ∙ ap (λ x. leaf_place width (head_or_name x)) e
-leaf_told width op.Package parts s h e = absurd cc
-leaf_told width op.VarPackage parts s h e = absurd cc
-leaf_told width o parts s h e = ap (λ x. leaf_place width (head_or_name x)) e
-
--- what is no package
-abbrev pub IsLeaf : Head → Type 0
-IsLeaf h = (count start : ℕ) → h ≡ head.Package count start → ⊥
-
-module _ (below : ℕ → Spot → List ℕ → ℕ → Result Tree Refusal) (bytes : List ℕ) (at stop : ℕ) where
-  abbrev pub Leaf : Result Tree Refusal → Head → Type 0
-  Leaf term h = (o : Op) × (parts : Trees) × (leaf_head o parts ≡ Some h) × (term ≡ Ok (Node o at stop parts))
-
-  abbrev pub Opened : Result Tree Refusal → ℕ → ℕ → Type 0
-  Opened term count start = IsHead below term bytes at (head.Package count start) stop
-
-  pub leaf_is : (term : Result Tree Refusal) (h : Head) → IsLeaf h → IsHead below term bytes at h stop → Leaf term h
-  leaf_is term head.Name leaf is = is
-  leaf_is term (head.Integer n) leaf is = is
-  leaf_is term (head.Buffer n) leaf is = is
-  leaf_is term (head.String n) leaf is = is
-  leaf_is term (head.Package count start) leaf is = absurd (leaf count start refl)
-
-  -- an element that is no package
-  pub leaf_compared : (width : Width) (k : ElementKind) (term : Result Tree Refusal) (h : Head) (same : Bool) → IsLeaf h → IsHead below term bytes at h stop → same ≡ same_element_kind k (leaf_place width h) → Some (stop, same) ≡ seen (element_compared width k) term
-  leaf_compared width k term h same leaf is e =
-      let l = leaf_is term h leaf is in
-      ap (λ b. Some (stop, b)) (e ∙ ap (same_element_kind k) (sym (leaf_told width l.0 l.1 (shape_behind width l.1) h l.2))) ∙ ap (seen (element_compared width k)) (sym l.3)
-
-  no_package : (width : Width) (o : Op) (parts : Trees) (h : Head) → leaf_head o parts ≡ Some h → data_shape width (Node o at stop parts) ≡ bare
-  no_package width op.Package parts h e = absurd cc
-  no_package width op.VarPackage parts h e = absurd cc
-  no_package width o parts h e = refl
-
-  -- data that is no package has no elements
-  pub leaf_shape : (width : Width) (term : Result Tree Refusal) (h : Head) → IsLeaf h → IsHead below term bytes at h stop → data_shape width (term_or_zero term) ≡ bare
-  leaf_shape width term h leaf is =
-      let l = leaf_is term h leaf is in
-      ap (λ r. data_shape width (term_or_zero r)) l.3 ∙ no_package width l.0 l.1 h l.2
-
-package_shape : (width : Width) (o : Op) (at stop : ℕ) (number : Tree) (rest : Trees) → IsPackage o → data_shape width (Node o at stop (more number rest)) ≡ shape_in width rest
-package_shape width op.Package at stop number rest is = refl
-package_shape width op.VarPackage at stop number rest is = refl
-package_shape width o at stop number rest is = absurd is
-
 -- a package, of which each element is read below it
-module _ (width : Width) (depth : ℕ) (bytes : List ℕ) (at stop count start : ℕ) (term : Result Tree Refusal) (opened : Opened (term_at code.Module no_arguments depth) bytes at stop term count start) where
+module _ (width : Width) (depth : ℕ) (bytes : List ℕ) (at stop count start : ℕ) (term : Result Tree Refusal) (opened : IsHead (term_at code.Module no_arguments depth) term bytes at (head.Package count start) stop) where
   abbrev inside : List ℕ
   inside = take stop bytes
 
   abbrev elements : Tree → Result (List Tree × ℕ) Refusal
   elements number = terms_until no_arguments (term_at code.Module no_arguments depth) at spot.Element inside (length inside) (number ∷ []) start
-
-  pub package_none : {Y : Type 0} (f : Tree → Y) (s : Shape) (told : ℕ) → ((number : Tree) → None ≡ seen (elements_compared width told s) (elements number)) → None ≡ seen f term
-  package_none f s told e =
-      let fault = package_fault width told s depth at inside start opened.0 at opened.1 (e opened.1) in
-      ap (seen f) (sym (opened.4 ∙ fault.1))
 
   pub package_compared : (k : ElementKind) (w : Shape) (end : ℕ) (same all : Bool) → w ≡ wanted_shape k → all ≡ (same && wants_package k) → ((number : Tree) → Some (end, same) ≡ seen (elements_compared width count w) (elements number)) → Some (end, all) ≡ seen (element_compared width k) term
   package_compared k w end same all wanted is e =
@@ -373,21 +289,6 @@ module _ (width : Width) (depth : ℕ) (bytes : List ℕ) (at stop count start :
       let place : place_told width opened.0 (more opened.1 (trees r.0)) s ≡ ValueOf (PkgOf (counted_places count s)) = package_place width opened.0 opened.1 (trees r.0) s opened.2 ∙ ap (λ n. ValueOf (PkgOf (counted_places n s))) opened.3 in
       ap (λ b. Some (end, b)) (is ∙ ap (λ b. b && wants_package k) (r.2 ∙ ap (λ x. same_shape x (counted_places count s)) wanted) ∙ wanted_package k (counted_places count s) ∙ ap (same_element_kind k) (sym place))
       ∙ ap (seen (element_compared width k)) (sym (opened.4 ∙ r.1))
-
-  -- of the data of a name
-  pub data_none : (s : Shape) (told : ℕ) → ((number : Tree) → None ≡ seen (elements_compared width told s) (elements number)) → data_shape width (term_or_zero term) ≡ bare
-  data_none s told e =
-      let fault = package_fault width told s depth at inside start opened.0 at opened.1 (e opened.1) in
-      ap (λ r. data_shape width (term_or_zero r)) (opened.4 ∙ fault.1)
-
-  pub data_compared : (s : Shape) (told end : ℕ) (same : Bool) → ((number : Tree) → Some (end, same) ≡ seen (elements_compared width told s) (elements number)) → same ≡ same_shape s (counted_places told (data_shape width (term_or_zero term)))
-  data_compared s told end same e =
-      let r = package_read width told s depth at inside start opened.0 at opened.1 end same (e opened.1) in
-      r.2 ∙ ap (λ x. same_shape s (counted_places told x)) (sym (ap (λ r. data_shape width (term_or_zero r)) (opened.4 ∙ r.1) ∙ package_shape width opened.0 at end opened.1 (trees r.0) opened.2))
-
--- data that cannot be read has no elements
-pub fault_shape : (width : Width) (term : Result Tree Refusal) → (f : Refusal) × (term ≡ Err f) → data_shape width (term_or_zero term) ≡ bare
-fault_shape width term fault = ap (λ r. data_shape width (term_or_zero r)) fault.1
 
 -- a package of which no element is there
 pub no_elements_told : (es : List program_kind.ElementKind) (count : ℕ) → ((length es == count) && unset_from (shape_of es) 0) ≡ same_shape (shape_of es) (counted_places count bare)

@@ -1,12 +1,11 @@
-use Rattle.std.proofs.Common.{◌≡◌, ◌≤◌, ◌<◌, ◌-◌, ◌∙◌, Some, None, length, sym, ap, refl, arith}
-use Rattle.std.specs.Prelude.{◌==◌, ◌&&◌, ◌||◌, nat_le}
+use Rattle.std.proofs.Common.{◌≡◌, ◌<◌, ◌-◌, ◌∙◌, Some, length, sym, ap, refl, arith}
+use Rattle.std.specs.Prelude.{◌==◌}
 use Rattle.aml_operators.specs.declared.row.Code.TheVariants as code
 use Rattle.aml_operators.specs.declared.row.Spot.TheVariants as spot
 use Rattle.aml_tree.specs.Body.{no_arguments}
 use Rattle.aml_tree.specs.Reading.{term_at}
 use Rattle.aml_kinds.specs.DataKinds.{element_compared, elements_compared, place_at, seen}
 use Rattle.aml_kinds.specs.KindViews.{element_kind, shape_of}
-use Rattle.aml_kinds.specs.Kinds.{places}
 use Rattle.aml_kinds.proofs.DataWalk.{none_deeper, package_compared, places_many, walked_none, walked_on, walked_fault, walked_all}
 use Rattle.aml_kinds.proofs.data_kinds.+data_kind.Goals as goal
 

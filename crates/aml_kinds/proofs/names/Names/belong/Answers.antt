@@ -1,6 +1,5 @@
 use Rattle.std.proofs.Common.{◌≡◌, ◌≤◌, true, false, length, sym, ◌∙◌, arith, refl}
 use Rattle.aml_namespace.specs.Shows.{shown}
-use Rattle.aml_namespace.specs.Entries.{object_at}
 use Rattle.aml_kinds.specs.Held.{content_kinds}
 use Rattle.aml_kinds.proofs.BelongLaws.{is_kind_there, further, all_belong, belong_there}
 use Rattle.aml_kinds.proofs.ContentLaws.{kinds_length}
