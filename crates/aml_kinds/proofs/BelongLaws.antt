@@ -58,14 +58,7 @@ module _ (ns : Shown) where
       ap (λ x. same_content_kind x (object_kind ns (own_object e.1))) (object_told ns (own_object e.1)) ∙ content_kind_same (object_kind ns (own_object e.1))
   kind_there (e ∷ entries) (suc i) = kind_there entries i
 
-  many_kinds : (entries : Entries) → length (kinds_in ns entries) ≡ length entries
-  many_kinds [] = refl
-  many_kinds (e ∷ entries) = ap suc (many_kinds entries)
-
-  -- names that belong are as many, and each is of its kind
-  pub belong_many : (kinds : ContentKinds) → Belong ns kinds → length kinds ≡ length ns.entries
-  belong_many kinds is = ap length is ∙ many_kinds ns.entries
-
+  -- where names belong, each is of its kind
   pub belong_there : (kinds : ContentKinds) (i : ℕ) → Belong ns kinds → is_kind_there ns.entries kinds i ≡ true
   belong_there kinds i is =
       ap (λ (x : ContentKinds). is_kind_there ns.entries x i) is ∙ kind_there ns.entries i

@@ -1,5 +1,5 @@
 -- How data begins is how its term is read.
-use Rattle.std.proofs.Common.{◌≡◌, ℕ, zero, suc, ◌-◌, List, [], ◌∷◌, length, take, Option, Some, None, Result, Ok, Err, refl, sym, subst, arith}
+use Rattle.std.proofs.Common.{◌≡◌, ℕ, zero, suc, ◌-◌, List, length, take, Some, Result, Ok, Err, refl, sym, subst, arith}
 use Rattle.std.specs.Prelude.{Bool, true, false, ◌==◌, ◌&&◌}
 use Rattle.aml_operators.specs.declared.op.Op.{Op}
 use Rattle.aml_operators.specs.declared.op.Op.TheVariants as op
@@ -16,7 +16,6 @@ use Rattle.aml_operators.specs.Places.{ruling, naming}
 use Rattle.aml_operators.specs.Table.{class_of}
 use Rattle.aml_operators.specs.Tree.{Tree, Trees, Node, none, more, stop_of}
 use Rattle.aml_tree.specs.declared.fault.Refusal.{Refusal}
-use Rattle.aml_tree.specs.declared.fault.TreeCause.TheVariants.{TooDeep, TooLarge}
 use Rattle.aml_tree.specs.declared.fault.TreeFault.{TreeFault}
 use Rattle.aml_tree.specs.declared.fault.TreeFault.TheVariants.{NoMemory, Refused}
 use Rattle.aml_tree.specs.declared.head.Head.{Head}
@@ -24,7 +23,7 @@ use Rattle.aml_tree.specs.declared.head.Head.TheVariants as head
 use Rattle.aml_tree.specs.Answers.{Answers}
 use Rattle.aml_tree.specs.Begins.{Begins, FaultyBegin}
 use Rattle.aml_tree.specs.Body.{no_arguments}
-use Rattle.aml_tree.specs.Fault.{refusal, Fails, TakesNone, ◌>>=◌}
+use Rattle.aml_tree.specs.Fault.{Fails, TakesNone, ◌>>=◌}
 use Rattle.aml_tree.specs.Heads.{literal_at, opened_size, size_at, string_at, buffer_at, package_at, sized_package_at, operator_head, opened_head, head_at, leaf_head, IsHead}
 use Rattle.aml_tree.specs.Leaf.{byte_at, end_at, name_at, text_at, little_endian_at}
 use Rattle.aml_tree.specs.Opening.{Opening, NoTarget, PlainName, InvokedName, Operator, may_be_none, opening_at}

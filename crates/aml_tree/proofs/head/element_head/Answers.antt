@@ -1,5 +1,4 @@
 use Rattle.aml_operators.specs.declared.row.Spot.TheVariants as spot
-use Rattle.aml_tree.specs.Body.{greatest_depth}
 use Rattle.aml_tree.proofs.Heads.{head_there, no_head}
 use Rattle.aml_tree.proofs.head.element_head.Goals as goal
 
