@@ -1,5 +1,5 @@
 -- One more path, a segment below another.
-use Rattle.std.proofs.Common.{◌≡◌, ℕ, suc, ◌<◌, ◌≤◌, ◌⊎◌, inl, inr, List, [], ◌∷◌, ◌++◌, length, get_or, slice_get, Option, Some, None, Bool, true, false, cond, refl, sym, ap, ◌∙◌, subst, arith, option_and_then}
+use Rattle.std.proofs.Common.{◌≡◌, ℕ, suc, ◌<◌, ◌≤◌, ◌⊎◌, inl, inr, List, [], ◌∷◌, ◌++◌, length, slice_get, Option, Some, None, Bool, true, false, cond, refl, sym, ap, ◌∙◌, subst, arith, option_and_then}
 use Rattle.std.specs.declared.cmp.Ordering.{Ordering}
 use Rattle.std.specs.declared.cmp.Ordering.TheVariants.{Less, Equal, Greater}
 use Rattle.std.specs.Ordering.{nat_cmp, ordering_then, is_eq}
@@ -9,17 +9,22 @@ use Rattle.std.proofs.lemmas.Bool.{both_ways}
 use Rattle.std.proofs.lemmas.Bool.Decides.{nat_tests}
 use Rattle.std.proofs.lemmas.Cmp.{tied_itself, nat_cmp_total, nat_list_cmp_total}
 use Rattle.std.proofs.lemmas.List.{length_push, same_from_push}
-use Rattle.std.proofs.lemmas.Option.{none-some, slice_get_within, slice_get_cases}
+use Rattle.std.proofs.lemmas.Option.{same_Some, slice_get_within}
 use Rattle.std.specs.Cmp.Lexicographic.{bytes_decides, texts_ties}
+use Rattle.aml_lex.specs.declared.names.NameSeg.{NameSeg}
 use Rattle.aml_tree.specs.Owns.{segment_order}
+use Rattle.aml_namespace.specs.declared.chains.Spot.{Spot}
+use Rattle.aml_namespace.specs.declared.paths.Place.{Place}
 use Rattle.aml_namespace.specs.declared.paths.Step.{Step}
+use Rattle.aml_namespace.specs.Chains.{AreChained, CanFollow, number_below_chain, number_on_chain, spots_of, stands_at}
 use Rattle.aml_namespace.specs.Paths.{Path, path_at, path_number, number_below, AreDistinct, AreClosed}
-use Rattle.aml_namespace.specs.Trie.{step_order, path_of, paths_of, LeadTo, HasStepNumbers, IsTrie, AreNumbered}
-use Rattle.aml_namespace.proofs.Positions.{slice_get_left, slice_get_last, slice_get_push}
+use Rattle.aml_namespace.specs.Trie.{place_order, path_of, paths_of, LeadTo, HasPlaceNumbers, IsTrie, AreNumbered}
+use Rattle.aml_namespace.proofs.Chained.{alone, chained_push, found_on_chain, length-spots_of, spots_push, stays}
+use Rattle.aml_namespace.proofs.Positions.{position_new, position_other, slice_get_left, slice_get_last, slice_get_push}
 use Rattle.aml_namespace.proofs.PathNumbers.{path_at_there, path_at_is, number_below_at, path_number_stays, path_number_new, path_number_other, path_once, no_longer_path}
 use Rattle.aml_namespace.proofs.Tries.{paths_push, length-paths_of, root_first, paths_closed}
 
--- two steps that are equal in the order are the same
+-- two places that are equal in the order are the same
 nat_tied : (a b : ℕ) → is_eq (nat_cmp a b) ≡ true → a ≡ b
 nat_tied a b e = grind (arith, nat_tests)
 
@@ -28,18 +33,19 @@ both_tied Less u e = absurd cc
 both_tied Equal u e = (refl, e)
 both_tied Greater u e = absurd cc
 
-same_step : (s t : Step) → is_at (step_order s) t ≡ true → s ≡ t
-same_step s t e =
-    let tied = both_tied (segment_order s.segment t.segment) (nat_cmp s.parent t.parent) e in
-    let bytes : s.segment.bytes ≡ t.segment.bytes = (bytes_decides s.segment.bytes t.segment.bytes).0 (texts_ties s.segment.bytes t.segment.bytes ∙ tied.0) in
-    let parents = nat_tied s.parent t.parent tied.1 in
-    λ i. record { parent = parents i; segment = record { bytes = bytes i } }
+same_place : (p q : Place) → is_at (place_order p) q ≡ true → p ≡ q
+same_place p q e =
+    let tied = both_tied (segment_order p.segment q.segment) (ordering_then (nat_cmp p.top q.top) (nat_cmp p.depth q.depth)) e in
+    let chain = both_tied (nat_cmp p.top q.top) (nat_cmp p.depth q.depth) tied.1 in
+    let bytes : p.segment.bytes ≡ q.segment.bytes = (bytes_decides p.segment.bytes q.segment.bytes).0 (texts_ties p.segment.bytes q.segment.bytes ∙ tied.0) in
+    let tops = nat_tied p.top q.top chain.0 in
+    let depths = nat_tied p.depth q.depth chain.1 in
+    λ i. record { segment = record { bytes = bytes i }; top = tops i; depth = depths i }
 
-itself : (s : Step) → is_at (step_order s) s ≡ true
-itself s = ap is_eq (ap (λ (o : Ordering). ordering_then o (nat_cmp s.parent s.parent)) (tied_itself nat_list_cmp_total s.segment.bytes) ∙ tied_itself nat_cmp_total s.parent)
-
-below_past : (paths : List Path) (at : ℕ) (segments : Path) → slice_get paths at ≡ None → number_below paths at segments ≡ None
-below_past paths at segments is = ap (option_and_then (λ (p : Path). path_number paths (p ++ segments))) is
+itself : (p : Place) → is_at (place_order p) p ≡ true
+itself p = ap is_eq (ap (λ (o : Ordering). ordering_then o (ordering_then (nat_cmp p.top p.top) (nat_cmp p.depth p.depth))) (tied_itself nat_list_cmp_total p.segment.bytes)
+    ∙ ap (λ (o : Ordering). ordering_then o (nat_cmp p.depth p.depth)) (tied_itself nat_cmp_total p.top)
+    ∙ tied_itself nat_cmp_total p.depth)
 
 module _ (paths : List Path) (distinct : AreDistinct paths) (step : Step) (there : step.parent < length paths) (new : path_number paths (path_of paths step) ≡ None) where
   abbrev more : List Path
@@ -70,38 +76,26 @@ module _ (paths : List Path) (distinct : AreDistinct paths) (step : Step) (there
     leads_push i s is = leads_of i s (slice_get_push steps step i s is)
 
   module _ (closed : AreClosed paths) where
-    abbrev Place : List Path → ℕ → Type 0
-    Place ps at = ((path : Path) × (at < length ps) × (slice_get ps at ≡ Some path) × (get_or ps at path ≡ path)) ⊎ ((length ps ≤ at) × (slice_get ps at ≡ None))
-
-    -- the parent's number of the new path is that of its step
-    one_parent : (s : Step) (path : Path) → slice_get paths s.parent ≡ Some path → path ++ s.segment.bytes ∷ [] ≡ path_of paths step → is_at (step_order step) s ≡ true
-    one_parent s path is e =
-        let parts = same_from_push path (path_at paths step.parent) s.segment.bytes step.segment.bytes e in
-        let parents = path_once paths distinct path s.parent step.parent is (path_at_there paths step.parent there ∙ ap Some (sym parts.0)) in
-        let same : s ≡ step = λ i. record { parent = parents i; segment = record { bytes = parts.1 i } } in
-        ap (is_at (step_order step)) same ∙ itself step
-
     longer_apart : (path : Path) (segment : List ℕ) → path ++ segment ∷ [] ≡ path → ⊥
     longer_apart path segment e = let long : length (path ++ segment ∷ []) ≡ length path = ap length e in omega (arith, long, length_push path segment)
 
-    past_of : (at : ℕ) (segment : List ℕ) (path : Path) → slice_get more at ≡ Some path → slice_get paths at ≡ None → (slice_get paths at ≡ Some path) ⊎ ((at ≡ length paths) × (path ≡ path_of paths step)) → number_below more at (segment ∷ []) ≡ None
-    past_of at segment path is none (inl old) = absurd (none-some path (sym none ∙ old))
-    past_of at segment path is none (inr last) =
-        number_below_at more at path (segment ∷ []) is ∙ ap (λ (p : Path). path_number more (p ++ segment ∷ [])) last.1
+    -- nothing stands below the new path
+    none_below : (segment : List ℕ) → number_below more (length paths) (segment ∷ []) ≡ None
+    none_below segment =
+        number_below_at more (length paths) (path_of paths step) (segment ∷ []) (slice_get_last paths (path_of paths step))
         ∙ path_number_other paths (path_of paths step) (path_of paths step ++ segment ∷ []) (longer_apart (path_of paths step) segment)
         ∙ no_longer_path paths distinct closed (path_of paths step) (segment ∷ []) new
 
-    past : (at : ℕ) (segment : List ℕ) → slice_get paths at ≡ None → Place more at → number_below more at (segment ∷ []) ≡ None
-    past at segment none (inl p) = past_of at segment p.0 p.2 none (slice_get_push paths (path_of paths step) at p.0 p.2)
-    past at segment none (inr p) = below_past more at (segment ∷ []) p.1
-
-    -- each other step leads where it led
-    others_stay : (s : Step) → is_at (step_order step) s ≡ false → Place paths s.parent → number_below more s.parent (s.segment.bytes ∷ []) ≡ number_below paths s.parent (s.segment.bytes ∷ [])
-    others_stay s apart (inl p) =
-        number_below_at more s.parent p.0 (s.segment.bytes ∷ []) (slice_get_left paths (path_of paths step ∷ []) s.parent p.0 p.2)
-        ∙ path_number_other paths (path_of paths step) (p.0 ++ s.segment.bytes ∷ []) (λ e. both_ways (is_at (step_order step) s) apart (one_parent s p.0 p.2 e))
-        ∙ sym (number_below_at paths s.parent p.0 (s.segment.bytes ∷ []) p.2)
-    others_stay s apart (inr p) = past s.parent s.segment.bytes p.1 (slice_get_cases more s.parent).1 ∙ sym (below_past paths s.parent (s.segment.bytes ∷ []) p.1)
+    -- below each other path stands what stood there
+    others_stay : (parent : ℕ) (segment : NameSeg) → (parent ≡ step.parent → segment ≡ step.segment → ⊥) → parent < length paths → number_below more parent (segment.bytes ∷ []) ≡ number_below paths parent (segment.bytes ∷ [])
+    others_stay parent segment apart before =
+        let path = path_at paths parent in
+        let is = path_at_there paths parent before in
+        number_below_at more parent path (segment.bytes ∷ []) (slice_get_left paths (path_of paths step ∷ []) parent path is)
+        ∙ path_number_other paths (path_of paths step) (path ++ segment.bytes ∷ []) (λ e.
+        let parts = same_from_push path (path_at paths step.parent) segment.bytes step.segment.bytes e in
+        apart (path_once paths distinct path parent step.parent is (path_at_there paths step.parent there ∙ ap Some (sym parts.0))) (λ i. record { bytes = parts.1 i }))
+        ∙ sym (number_below_at paths parent path (segment.bytes ∷ []) is)
 
     new_number : number_below more step.parent (step.segment.bytes ∷ []) ≡ Some (length paths)
     new_number =
@@ -109,36 +103,90 @@ module _ (paths : List Path) (distinct : AreDistinct paths) (step : Step) (there
         number_below_at more step.parent parent (step.segment.bytes ∷ []) (slice_get_left paths (path_of paths step ∷ []) step.parent parent (path_at_there paths step.parent there))
         ∙ path_number_new paths (path_of paths step) new
 
-    known_of : (old : Option ℕ) (s : Step) → old ≡ number_below paths s.parent (s.segment.bytes ∷ []) → (b : Bool) → is_at (step_order step) s ≡ b → cond b (Some (length paths)) old ≡ number_below more s.parent (s.segment.bytes ∷ [])
-    known_of old s known true is = sym (ap (λ (x : Step). number_below more x.parent (x.segment.bytes ∷ [])) (sym (same_step step s is)) ∙ new_number)
-    known_of old s known false is = known ∙ sym (others_stay s is (slice_get_cases paths s.parent).1)
+    module _ (steps : List Step) (count : length paths ≡ suc (length steps)) (chained : AreChained (spots_of steps) paths) (above : Spot) (is_above : slice_get (spots_of steps) step.parent ≡ Some above) (follows : CanFollow (spots_of steps) above step.spot) where
+      abbrev spots : List Spot
+      spots = spots_of steps
 
-    known_push : (numbers after : BTreeMap Step ℕ) → HasStepNumbers numbers paths → Updates step_order numbers after step (Some (length paths)) → HasStepNumbers after more
-    known_push numbers after known updates parent segment =
-        let s : Step = record { parent = parent; segment = segment } in
-        updates.0 s ∙ known_of (get step_order numbers s) s (known parent segment) (is_at (step_order step) s) refl
+      abbrev longer : List Spot
+      longer = spots ++ step.spot ∷ []
+
+      abbrev place : Place
+      place = record { segment = step.segment; top = above.top; depth = above.depth }
+
+      as_many : length spots ≡ length paths
+      as_many = length-spots_of steps ∙ sym count
+
+      at_place : number_below_chain more longer above.top step.segment.bytes above.depth ≡ Some (length paths)
+      at_place =
+          let on_chain = alone paths spots step.parent above (chained step.parent above is_above) distinct there in
+          ap (option_and_then (λ (p : ℕ). number_below more p (step.segment.bytes ∷ [])))
+          (stays paths distinct closed spots as_many chained step.parent above is_above step.spot follows above.top above.depth step.parent on_chain)
+          ∙ new_number
+
+      apart : (p : Place) (n : ℕ) → is_at (place_order place) p ≡ false → number_on_chain spots p.top p.depth ≡ Some n → n ≡ step.parent → p.segment ≡ step.segment → ⊥
+      apart p n other is same segments =
+          let found = found_on_chain spots p.top p.depth n is in
+          let spot = same_Some found.0 above (sym found.1 ∙ ap (slice_get spots) same ∙ is_above) in
+          let tops : p.top ≡ above.top = sym found.2 ∙ ap (λ (s : Spot). s.top) spot in
+          let depths : p.depth ≡ above.depth = sym found.3 ∙ ap (λ (s : Spot). s.depth) spot in
+          let one : p ≡ place = λ i. record { segment = segments i; top = tops i; depth = depths i } in
+          both_ways (is_at (place_order place) p) other (ap (is_at (place_order place)) one ∙ itself place)
+
+      unknown_by : (p : Place) (b : Bool) → stands_at p.top p.depth step.spot ≡ b → number_on_chain spots p.top p.depth ≡ None → number_below_chain more longer p.top p.segment.bytes p.depth ≡ None
+      unknown_by p true here none =
+          ap (option_and_then (λ (n : ℕ). number_below more n (p.segment.bytes ∷ []))) (position_new (stands_at p.top p.depth) spots step.spot none here ∙ ap Some as_many)
+          ∙ none_below p.segment.bytes
+      unknown_by p false here none =
+          ap (option_and_then (λ (n : ℕ). number_below more n (p.segment.bytes ∷ []))) (position_other (stands_at p.top p.depth) spots step.spot here ∙ none)
+
+      -- at each other place stands what stood there
+      places_stay : (p : Place) (o : Option ℕ) → is_at (place_order place) p ≡ false → number_on_chain spots p.top p.depth ≡ o → number_below_chain more longer p.top p.segment.bytes p.depth ≡ number_below_chain paths spots p.top p.segment.bytes p.depth
+      places_stay p None other is =
+          unknown_by p (stands_at p.top p.depth step.spot) refl is
+          ∙ sym (ap (option_and_then (λ (n : ℕ). number_below paths n (p.segment.bytes ∷ []))) is)
+      places_stay p (Some n) other is =
+          let found = found_on_chain spots p.top p.depth n is in
+          let within = slice_get_within spots n found.0 found.1 in
+          ap (option_and_then (λ (n : ℕ). number_below more n (p.segment.bytes ∷ []))) (stays paths distinct closed spots as_many chained step.parent above is_above step.spot follows p.top p.depth n is)
+          ∙ others_stay n p.segment (apart p n other is) (omega (arith, within, as_many))
+          ∙ sym (ap (option_and_then (λ (n : ℕ). number_below paths n (p.segment.bytes ∷ []))) is)
+
+      known_of : (old : Option ℕ) (p : Place) → old ≡ number_below_chain paths spots p.top p.segment.bytes p.depth → (b : Bool) → is_at (place_order place) p ≡ b → cond b (Some (length paths)) old ≡ number_below_chain more longer p.top p.segment.bytes p.depth
+      known_of old p known true is = sym (ap (λ (x : Place). number_below_chain more longer x.top x.segment.bytes x.depth) (sym (same_place place p is)) ∙ at_place)
+      known_of old p known false is = known ∙ sym (places_stay p (number_on_chain spots p.top p.depth) is refl)
+
+      known_push : (numbers after : BTreeMap Place ℕ) → HasPlaceNumbers numbers steps paths → Updates place_order numbers after place (Some (length paths)) → HasPlaceNumbers after (steps ++ step ∷ []) more
+      known_push numbers after known updates segment top depth =
+          let p : Place = record { segment = segment; top = top; depth = depth } in
+          updates.0 p ∙ known_of (get place_order numbers p) p (known segment top depth) (is_at (place_order place) p) refl
+          ∙ ap (λ (s : List Spot). number_below_chain more s top segment.bytes depth) (sym (spots_push steps step))
 
 -- the same steps, and a map with the same entries
-pub AreNumbered-same : (old new : BTreeMap Step ℕ) (before after : List Step) → new.entries ≡ old.entries → after ≡ before → AreNumbered old before → AreNumbered new after
+pub AreNumbered-same : (old new : BTreeMap Place ℕ) (before after : List Step) → new.entries ≡ old.entries → after ≡ before → AreNumbered old before → AreNumbered new after
 AreNumbered-same old new before after entries steps held = subst (AreNumbered new) (sym steps) (record {
   leads = held.leads;
   distinct = held.distinct;
-  known = λ parent segment. ap (lookup (is_at (step_order (record { parent = parent; segment = segment })))) entries ∙ held.known parent segment;
+  chained = held.chained;
+  known = λ segment top depth. ap (lookup (is_at (place_order (record { segment = segment; top = top; depth = depth })))) entries ∙ held.known segment top depth;
 })
 
 -- one more step, to a path that is new
-pub AreNumbered-push : (old new : BTreeMap Step ℕ) (steps : List Step) (step : Step) (number : ℕ) → number ≡ length (paths_of steps) → AreNumbered old steps → step.parent < length (paths_of steps) → number_below (paths_of steps) step.parent (step.segment.bytes ∷ []) ≡ None
-    → Updates step_order old new step (Some number) → AreNumbered new (steps ++ step ∷ [])
-AreNumbered-push old new steps step number next held there none updates =
+pub AreNumbered-push : (old new : BTreeMap Place ℕ) (steps : List Step) (step : Step) (above : Spot) (number : ℕ) → number ≡ length (paths_of steps) → AreNumbered old steps → step.parent < length (paths_of steps) → number_below (paths_of steps) step.parent (step.segment.bytes ∷ []) ≡ None
+    → slice_get (spots_of steps) step.parent ≡ Some above → CanFollow (spots_of steps) above step.spot
+    → Updates place_order old new (record { segment = step.segment; top = above.top; depth = above.depth }) (Some number) → AreNumbered new (steps ++ step ∷ [])
+AreNumbered-push old new steps step above number next held there none is_above follows updates =
     let paths = paths_of steps in
     let count = length-paths_of steps in
     let closed = paths_closed steps paths count (root_first steps) held.leads in
     let parent = path_at paths step.parent in
     let absent : path_number paths (path_of paths step) ≡ None = sym (number_below_at paths step.parent parent (step.segment.bytes ∷ []) (path_at_there paths step.parent there)) ∙ none in
-    let at_end = subst (λ (n : ℕ). Updates step_order old new step (Some n)) next updates in
+    let place : Place = record { segment = step.segment; top = above.top; depth = above.depth } in
+    let at_end = subst (λ (n : ℕ). Updates place_order old new place (Some n)) next updates in
+    let as_many : length (spots_of steps) ≡ length paths = length-spots_of steps ∙ sym count in
     let after : IsTrie new (steps ++ step ∷ []) (paths ++ path_of paths step ∷ []) = record {
       leads = leads_push paths held.distinct step there absent steps count held.leads;
       distinct = distinct_push paths held.distinct step there absent;
-      known = known_push paths held.distinct step there absent closed old new held.known at_end;
+      chained = subst (λ (spots : List Spot). AreChained spots (paths ++ path_of paths step ∷ [])) (sym (spots_push steps step)) (chained_push paths held.distinct closed (spots_of steps) as_many held.chained step.parent above is_above step.spot follows step.segment.bytes absent);
+      known = known_push paths held.distinct step there absent closed steps count held.chained above is_above follows old new held.known at_end;
     } in
     subst (λ (ps : List Path). IsTrie new (steps ++ step ∷ []) ps) (sym (paths_push steps step)) after

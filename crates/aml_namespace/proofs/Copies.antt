@@ -3,7 +3,9 @@ use Rattle.std.proofs.Common.{◌≡◌, ℕ, suc, ◌<◌, List, [], ◌∷◌,
 use Rattle.std.proofs.lemmas.List.{length-take-le, take-append-drop}
 use Rattle.std.proofs.lemmas.Option.{slice_get_within}
 use Rattle.std.specs.BTreeMap.{BTreeMap}
+use Rattle.aml_namespace.specs.declared.paths.Place.{Place}
 use Rattle.aml_namespace.specs.declared.paths.Step.{Step}
+use Rattle.aml_namespace.specs.Chains.{root_spot}
 use Rattle.aml_namespace.specs.Paths.{Path, path_at, path_number, number_below}
 use Rattle.aml_namespace.specs.Trie.{AreNumbered, path_of, paths_from, paths_of}
 use Rattle.aml_namespace.proofs.PathNumbers.{number_below_at, path_at_is, path_at_there, path_number_there, path_number_within, path_once}
@@ -12,7 +14,7 @@ use Rattle.aml_namespace.proofs.Tries.{length-paths_of}
 
 -- a step where none is
 abbrev pub nothing : Step
-nothing = record { parent = 0; segment = record { bytes = [] } }
+nothing = record { parent = 0; segment = record { bytes = [] }; spot = root_spot }
 
 -- steps go on from the paths that are there
 from_append : (paths : List Path) (steps more : List Step) → paths_from paths (steps ++ more) ≡ paths_from (paths_from paths steps) more
@@ -23,7 +25,7 @@ from_keeps : (paths : List Path) (steps : List Step) (n : ℕ) (path : Path) →
 from_keeps paths [] n path is = is
 from_keeps paths (s ∷ steps) n path is = from_keeps (paths ++ path_of paths s ∷ []) steps n path (slice_get_left paths (path_of paths s ∷ []) n path is)
 
-module _ (numbers : BTreeMap Step ℕ) (steps : List Step) (numbered : AreNumbered numbers steps) (i : ℕ) (step : Step) (is : slice_get steps i ≡ Some step) where
+module _ (numbers : BTreeMap Place ℕ) (steps : List Step) (numbered : AreNumbered numbers steps) (i : ℕ) (step : Step) (is : slice_get steps i ≡ Some step) where
   abbrev first : List Path
   first = paths_of (take i steps)
 

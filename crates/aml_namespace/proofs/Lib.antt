@@ -1,13 +1,15 @@
 pub mod Positions
 pub mod PathNumbers
 pub mod Tries
+pub mod Chained
+pub mod RootAlone
 pub mod Added
 pub mod Ways
 pub mod Scopes
 pub mod Seen
 pub mod Upward
-pub mod Fronts
-pub mod Parents
+pub mod Nearest
+pub mod Places
 pub mod Kept
 pub mod Spelled
 pub mod Entering

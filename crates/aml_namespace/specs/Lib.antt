@@ -2,9 +2,9 @@ pub mod Fault
 pub mod Widths
 pub mod Causes
 pub mod Paths
+pub mod Chains
 pub mod Trie
 pub mod Steps
-pub mod Fronts
 pub mod Entries
 pub mod Resolve
 pub mod Enter

@@ -140,18 +140,15 @@ impl Counted {
     {
         let mut number = at;
         'up: loop {
-            let (parent, found) = self.paths.last_parent(number, segment)?;
-            number = self.paths.front(number, parent);
-            if number != parent {
-                continue;
-            }
+            let found = self.paths.nearest(number, segment)?;
             if let Some(count) = self.count_at(found) {
                 return Some(count);
             }
-            if number == ROOT {
+            let parent = self.paths.last_step(found).parent;
+            if parent == ROOT {
                 return None;
             }
-            number = self.paths.last_step(number).parent;
+            number = self.paths.last_step(parent).parent;
         }
     }
 

@@ -2,11 +2,12 @@
 
 ghost use Rattle.std.specs.Prelude.{◌≡◌, ◌<◌, ◌≤◌, ◌++◌, ◌∷◌, [], length, take, slice_get, Some, None, OnOk, OnErr, IfOk};
 ghost use Rattle.aml_lex.specs.Names.{name_of};
-ghost use Rattle.aml_namespace.specs.Fronts.{IsFront, IsLastParent};
+ghost use Rattle.aml_namespace.specs.Chains.{AreLasts, CanFollow, number_below_chain, spots_of};
 ghost use Rattle.aml_namespace.specs.Paths.{root, path_at, path_number, number_above, number_below};
-ghost use Rattle.aml_namespace.specs.Resolve.{upward_search};
+ghost use Rattle.aml_namespace.specs.Resolve.{greatest, upward_search};
 ghost use Rattle.aml_namespace.specs.Trie.{AreNumbered, path_of};
 
+use crate::chains::{Spot, holds, note_last};
 use aml_lex::{NameRef, NameSeg};
 use std::alloc::{AllocError, Global};
 use std::collections::BTreeMap;
@@ -14,13 +15,31 @@ use std::collections::BTreeMap;
 /// The number of the root's path.
 pub(crate) const ROOT: usize = 0;
 
-/// A path as one segment below another. In the order of steps those of one segment stand together, so
-/// that a search for it need not ask each path on its way up.
-#[derive(Clone, Copy, Debug, PartialEq, Eq, PartialOrd, Ord)]
+/// How many changes of chain every path may have above it.
+const CHANGES: usize = 64;
+
+/// How many paths allow one change more. Chains are laid anew no sooner than so many changes are made, so
+/// that whoever chooses the paths cannot have them laid anew at each.
+const PATHS_A_CHANGE: usize = 256;
+
+/// A path as one segment below another.
+#[derive(Clone, Copy, Debug)]
 pub(crate) struct Step {
     pub segment: NameSeg,
     /// The other path's number.
     pub parent: usize,
+    pub spot: Spot,
+}
+
+/// A segment below a path. In the order of places, those of one segment below the paths of one chain stand
+/// together by depth, so that one look-up searches a whole chain.
+#[derive(Clone, Copy, Debug, PartialEq, Eq, PartialOrd, Ord)]
+pub(crate) struct Place {
+    pub segment: NameSeg,
+    /// The number of the first path on the chain.
+    pub top: usize,
+    /// How many segments the path on the chain has.
+    pub depth: usize,
 }
 
 /// Absolute paths, each under a number: the root's is 0. With a path stand all that begin it, and
@@ -30,10 +49,13 @@ pub(crate) struct Step {
 pub(crate) struct Paths {
     /// Of the paths but the root, in the order of their numbers.
     steps: Vec<Step>,
-    /// The number of the path to which a step leads: an ordered map, so that whoever chooses the
-    /// segments cannot make a look-up slow.
-    numbers: BTreeMap<Step, usize>,
+    /// The number of the path at a place: an ordered map, so that whoever chooses the segments cannot
+    /// make a look-up slow.
+    numbers: BTreeMap<Place, usize>,
+    /// At the number of a chain's first path, that of its last.
+    lasts: Vec<usize>,
     ghost numbered: { AreNumbered numbers steps.items },
+    ghost ended: { AreLasts lasts.items (spots_of steps.items) },
 }
 
 impl Paths {
@@ -46,6 +68,7 @@ impl Paths {
         Paths {
             steps: Vec::new(alloc),
             numbers: BTreeMap::new(alloc),
+            lasts: Vec::new(alloc),
         }
     }
 
@@ -56,15 +79,35 @@ impl Paths {
         self.steps.len() + 1
     }
 
+    /// Where the path with this number stands.
+    fn spot(&self, number: usize) -> Spot
+        requires { number < length (paths_seen self.now) }
+        ensures { slice_get (spots_of self.now.steps.items) number ≡ Some result }
+    {
+        if number == ROOT {
+            return Spot {
+                top: ROOT,
+                depth: 0,
+                changes: 0,
+            };
+        }
+        self.steps[number - 1].spot
+    }
+
     /// The number of the path that is one segment below the path with this number.
     pub(crate) fn child(&self, at: usize, segment: NameSeg) -> Option<usize>
         ensures { result ≡ number_below (paths_seen self.now) at (segment.bytes ∷ []) }
     {
-        let step = Step {
-            parent: at,
+        if at >= self.len() {
+            return None;
+        }
+        let spot = self.spot(at);
+        let place = Place {
             segment,
+            top: spot.top,
+            depth: spot.depth,
         };
-        self.numbers.get(&step).copied()
+        self.numbers.get(&place).copied()
     }
 
     /// The number of the path of a name's first segments, so many of them, below the path with this
@@ -110,33 +153,24 @@ impl Paths {
         Some(number)
     }
 
-    /// The last path, of those up to this number, right below which this segment stands, and the number of
-    /// the path there.
-    pub(crate) fn last_parent(&self, last: usize, segment: NameSeg) -> Option<(usize, usize)>
-        ensures { IsLastParent (paths_seen self.now) segment.bytes last result }
+    /// The number of the path of this segment below the longest path, up to one at this spot, of a chain,
+    /// below which it stands.
+    fn last_below_chain(&self, spot: Spot, segment: NameSeg) -> Option<usize>
+        ensures { let spots = spots_of self.now.steps.items in
+            result ≡ greatest (number_below_chain (paths_seen self.now) spots spot.top segment.bytes) spot.depth }
     {
-        let least = Step { segment, parent: 0 };
-        let greatest = Step {
+        let least = Place {
             segment,
-            parent: last,
+            top: spot.top,
+            depth: 0,
         };
-        let (step, number) = self.numbers.range(least..=greatest).next_back()?;
-        Some((step.parent, *number))
-    }
-
-    /// The number of the longest path that begins the path with this number, the path itself among them,
-    /// of those whose numbers are not above another.
-    pub(crate) fn front(&self, at: usize, most: usize) -> usize
-        requires { at < length (paths_seen self.now) }
-        ensures is { IsFront (paths_seen self.now) at most result }
-        ensures within { result ≤ most }
-        ensures before { result ≤ at }
-    {
-        let mut number = at;
-        while number > most {
-            number = self.last_step(number).parent;
-        }
-        number
+        let greatest = Place {
+            segment,
+            top: spot.top,
+            depth: spot.depth,
+        };
+        let (_, number) = self.numbers.range(least..=greatest).next_back()?;
+        Some(*number)
     }
 
     /// The number of the path of this segment below the longest prefix of the path with this number,
@@ -148,11 +182,14 @@ impl Paths {
     {
         let mut number = at;
         'up: loop {
-            let (parent, found) = self.last_parent(number, segment)?;
-            number = self.front(number, parent);
-            if number == parent {
+            let spot = self.spot(number);
+            if let Some(found) = self.last_below_chain(spot, segment) {
                 return Some(found);
             }
+            if spot.top == ROOT {
+                return None;
+            }
+            number = self.last_step(spot.top).parent;
         }
     }
 
@@ -173,6 +210,96 @@ impl Paths {
         Ok(segments)
     }
 
+    /// Where a path may stand that is made one segment below the path with this number, at this spot: on
+    /// that path's chain, if this is wanted and the chain ends there, and else on a chain of its own.
+    fn spot_below(&self, at: usize, above: Spot, wants_to_go_on: bool) -> Spot
+        requires { slice_get (spots_of self.now.steps.items) at ≡ Some above }
+        ensures { CanFollow (spots_of self.now.steps.items) above result }
+    {
+        let number = self.len();
+        let depth = above.depth + 1;
+        if wants_to_go_on && holds(&self.lasts, above.top, at) {
+            return Spot {
+                top: above.top,
+                depth,
+                changes: above.changes,
+            };
+        }
+        Spot {
+            top: number,
+            depth,
+            changes: above.changes.saturating_add(1),
+        }
+    }
+
+    /// Adds the path that is one segment below the path with this number, on that path's chain if this is
+    /// wanted and the chain ends there, and answers its number.
+    fn add_below(
+        &mut self,
+        at: usize,
+        segment: NameSeg,
+        wants_to_go_on: bool,
+    ) -> Result<usize, AllocError>
+        requires there { at < length (paths_seen self.old) }
+        requires new { number_below (paths_seen self.old) at (segment.bytes ∷ []) ≡ None }
+        ensures ok { let path = path_at (paths_seen self.old) at ++ segment.bytes ∷ [] in
+            OnOk result (paths_seen self.new ≡ paths_seen self.old ++ path ∷ []) }
+        ensures number { IfOk result (λ n. n ≡ length (paths_seen self.old)) }
+        ensures err { OnErr result (paths_seen self.new ≡ paths_seen self.old) }
+    {
+        let number = self.len();
+        let above = self.spot(at);
+        let spot = self.spot_below(at, above, wants_to_go_on);
+        let step = Step {
+            segment,
+            parent: at,
+            spot,
+        };
+        let place = Place {
+            segment,
+            top: above.top,
+            depth: above.depth,
+        };
+        note_last(&mut self.lasts, spot.top, number)?;
+        self.steps.push(step)?;
+        match self.numbers.insert(place, number) {
+            Ok(_) => Ok(number),
+            Err(_) => {
+                self.steps.pop();
+                Err(AllocError)
+            }
+        }
+    }
+
+    /// The same paths under the same numbers, on chains that go on below each path to the one below which
+    /// the most paths stand. Each change of chain then leads to half as many paths at most, and no path has
+    /// more changes above it than the number of paths has binary digits.
+    pub(crate) fn copy(&self, alloc: Global) -> Result<Paths, AllocError>
+        ensures { IfOk result (λ paths. paths_seen paths ≡ paths_seen self.now) }
+    {
+        let heaviest = self.heaviest_below(alloc)?;
+        let mut paths = Paths::new(alloc);
+        for step in &self.steps {
+            let goes_on = holds(&heaviest, step.parent, paths.len());
+            paths.add_below(step.parent, step.segment, goes_on)?;
+        }
+        Ok(paths)
+    }
+
+    /// Lays the chains anew where the path with this number has too many changes of chain above it: a
+    /// search looks up one segment a change, and whoever chooses the paths could have one made at each
+    /// level.
+    fn keep_changes_few(&mut self, at: usize) -> Result<(), AllocError>
+        requires { at < length (paths_seen self.old) }
+        ensures { paths_seen self.new ≡ paths_seen self.old }
+    {
+        if self.spot(at).changes > CHANGES + self.len() / PATHS_A_CHANGE {
+            let alloc = *self.steps.allocator();
+            *self = self.copy(alloc)?;
+        }
+        Ok(())
+    }
+
     /// Adds the path that is one segment below the path with this number, and answers its number.
     pub(crate) fn add(&mut self, at: usize, segment: NameSeg) -> Result<usize, AllocError>
         requires there { at < length (paths_seen self.old) }
@@ -182,29 +309,7 @@ impl Paths {
         ensures number { IfOk result (λ n. n ≡ length (paths_seen self.old)) }
         ensures err { OnErr result (paths_seen self.new ≡ paths_seen self.old) }
     {
-        let number = self.len();
-        let step = Step {
-            parent: at,
-            segment,
-        };
-        self.steps.push(step)?;
-        match self.numbers.insert(step, number) {
-            Ok(_) => Ok(number),
-            Err(_) => {
-                self.steps.pop();
-                Err(AllocError)
-            }
-        }
-    }
-
-    /// The same paths under the same numbers.
-    pub(crate) fn copy(&self, alloc: Global) -> Result<Paths, AllocError>
-        ensures { IfOk result (λ paths. paths_seen paths ≡ paths_seen self.now) }
-    {
-        let mut paths = Paths::new(alloc);
-        for step in &self.steps {
-            paths.add(step.parent, step.segment)?;
-        }
-        Ok(paths)
+        self.keep_changes_few(at)?;
+        self.add_below(at, segment, true)
     }
 }

@@ -8,8 +8,8 @@ use Rattle.aml_namespace.proofs.Copies.{nothing, parent_there, step_new}
 use Rattle.aml_namespace.proofs.Tries.{paths_push}
 use Rattle.aml_namespace.proofs.paths.Paths.copy.Goals as goal
 
-pub add-requires-clause-there : goal.add-requires-clause-there
-add-requires-clause-there c =
+pub add_below-requires-clause-there : goal.add_below-requires-clause-there
+add_below-requires-clause-there c =
     let self = c.args.self.now in
     let i = c.loop-step.step-index in
     let step = get_or c.deref-step-items.result.now i nothing in
@@ -17,8 +17,8 @@ add-requires-clause-there c =
     let here = subst (λ (steps : List Step). slice_get steps i ≡ Some step) c.loop-step.invariant.items is in
     subst (λ (paths : List Path). step.parent < length paths) (sym c.loop-step.invariant.made) (parent_there self.numbers self.steps.items self.numbered i step here)
 
-pub add-requires-clause-new : goal.add-requires-clause-new
-add-requires-clause-new c =
+pub add_below-requires-clause-new : goal.add_below-requires-clause-new
+add_below-requires-clause-new c =
     let self = c.args.self.now in
     let i = c.loop-step.step-index in
     let step = get_or c.deref-step-items.result.now i nothing in
@@ -35,7 +35,7 @@ loop-step-preserved c =
     let items = c.loop-step.invariant.items in
     record {
       items = items;
-      made = c.in_ok-add.ensures.ok
+      made = c.in_ok-add_below.ensures.ok
           ∙ ap (λ (paths : List Path). paths ++ path_of paths step ∷ []) c.loop-step.invariant.made
           ∙ sym (paths_push (take i steps) step)
           ∙ ap (λ (first : List Step). paths_of (take i first ++ step ∷ [])) (sym items)

@@ -1,40 +1,47 @@
-use Rattle.std.proofs.Common.{◌<◌, length, suc, sym, ap, ◌∙◌, arith}
-use Rattle.aml_namespace.specs.Paths.{path_number}
+use Rattle.std.proofs.Common.{◌≡◌, ap, sym, ◌∙◌, arith}
+use Rattle.aml_namespace.specs.Chains.{spots_of}
+use Rattle.aml_namespace.specs.Paths.{path_at, root}
 use Rattle.aml_namespace.specs.Steps.{paths_seen}
-use Rattle.aml_namespace.proofs.Fronts.{front_searched, no_number, nowhere_searched}
-use Rattle.aml_namespace.proofs.Seen.{seen_closed}
-use Rattle.aml_namespace.proofs.Upward.{nearest_here, search_from}
+use Rattle.aml_namespace.proofs.Nearest.{found_above_chain, found_nowhere, found_on_chain}
+use Rattle.aml_namespace.proofs.PathNumbers.{path_at_is}
+use Rattle.aml_namespace.proofs.Seen.{seen_closed, seen_distinct, seen_root}
 use Rattle.aml_namespace.proofs.paths.Paths.nearest.Goals as goal
 
-pub returns-in_err-parent : goal.returns-in_err-parent
-returns-in_err-parent c =
+pub returns-in-Some : goal.returns-in-Some
+returns-in-Some c =
     let held = c.args.self.now in
     let paths = paths_seen held in
-    let segment = c.args.segment.bytes in
-    c.from_residual.ensures ∙ sym (c.up.invariant.left
-    ∙ nowhere_searched paths (seen_closed held) (path_number paths) segment c.up.number c.up.invariant.there (no_number paths segment 0 c.up.number c.up.invariant.there c.in_err-parent.ensures))
+    let spot = c.spot-spot.result in
+    let stands = held.numbered.chained c.up.number spot c.spot-spot.ensures in
+    sym (c.up.invariant.left ∙ found_on_chain paths (seen_distinct held) (seen_closed held) c.args.segment.bytes (spots_of held.steps.items) c.up.number spot stands c.in-Some.found (sym c.last_below_chain.ensures ∙ c.in-Some.is))
 
-pub returns-then-number-parent : goal.returns-then-number-parent
-returns-then-number-parent c =
+pub returns-then-spot-eq-ROOT : goal.returns-then-spot-eq-ROOT
+returns-then-spot-eq-ROOT c =
     let held = c.args.self.now in
     let paths = paths_seen held in
-    let segment = c.args.segment.bytes in
-    let parent = c.in_ok-parent.parent in
-    let last = c.in_ok-parent.ensures in
-    let front = c.front-number.result in
-    let on = front_searched paths (seen_closed held) (path_number paths) segment c.up.number c.up.invariant.there parent front c.front-number.ensures.is (no_number paths segment (suc parent) c.up.number c.up.invariant.there last.2) in
-    let there : parent < length paths = omega (arith, last.0, c.up.invariant.there) in
-    let here = nearest_here paths segment parent c.in_ok-parent.found there last.1 in
-    sym (c.up.invariant.left ∙ on ∙ ap (search_from paths segment) c.if-number-parent.true ∙ here)
+    let spot = c.spot-spot.result in
+    let stands = held.numbered.chained c.up.number spot c.spot-spot.ensures in
+    let at_root : path_at paths spot.top ≡ root = ap (path_at paths) c.if-spot-eq-ROOT.true ∙ path_at_is paths 0 root (seen_root held) in
+    sym (c.up.invariant.left ∙ found_nowhere paths (seen_distinct held) (seen_closed held) c.args.segment.bytes (spots_of held.steps.items) c.up.number spot stands (sym c.last_below_chain.ensures ∙ c.in_default.is) at_root)
+
+pub last_step-number-requires-clause-there : goal.last_step-number-requires-clause-there
+last_step-number-requires-clause-there c =
+    let top = (c.args.self.now.numbered.chained c.up.number c.spot-spot.result c.spot-spot.ensures).top in
+    omega (arith, top, c.up.invariant.there)
+
+pub up-smaller : goal.up-smaller
+up-smaller c =
+    let top = (c.args.self.now.numbered.chained c.up.number c.spot-spot.result c.spot-spot.ensures).top in
+    omega (arith, top, c.last_step-number.ensures.earlier)
 
 pub up-preserved : goal.up-preserved
 up-preserved c =
     let held = c.args.self.now in
     let paths = paths_seen held in
-    let segment = c.args.segment.bytes in
-    let parent = c.in_ok-parent.parent in
-    let last = c.in_ok-parent.ensures in
+    let spot = c.spot-spot.result in
+    let step = c.last_step-number in
+    let stands = held.numbered.chained c.up.number spot c.spot-spot.ensures in
     record {
-      there = omega (arith, c.front-number.ensures.before, c.up.invariant.there);
-      left = c.up.invariant.left ∙ front_searched paths (seen_closed held) (path_number paths) segment c.up.number c.up.invariant.there parent c.front-number.result c.front-number.ensures.is (no_number paths segment (suc parent) c.up.number c.up.invariant.there last.2);
+      there = let top = stands.top in omega (arith, top, step.ensures.earlier, c.up.invariant.there);
+      left = c.up.invariant.left ∙ found_above_chain paths (seen_distinct held) (seen_closed held) c.args.segment.bytes (spots_of held.steps.items) c.up.number spot stands (sym c.last_below_chain.ensures ∙ c.in_default.is) step.result step.ensures.leads;
     }

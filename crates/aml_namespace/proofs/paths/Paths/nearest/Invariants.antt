@@ -1,6 +1,6 @@
 use Rattle.std.proofs.Common.{◌≡◌, ◌<◌, length}
 use Rattle.aml_namespace.specs.Steps.{paths_seen}
-use Rattle.aml_namespace.proofs.Upward.{search_from}
+use Rattle.aml_namespace.proofs.Nearest.{search_from}
 use Rattle.aml_namespace.proofs.paths.Paths.nearest.Given as goal
 
 -- the search goes on from the path that was reached
