@@ -89,6 +89,7 @@ impl<'a> Namespace<'a> {
             Ok(loaded) => loaded,
             Err(fault) => return Err(fault),
         };
+        objects.settle_chains()?;
         objects.settle(alloc, tables)?;
         let methods = objects.methods(alloc)?;
         let counted = declared_counts(alloc, &objects, tables, &loaded.externals)?;

@@ -180,6 +180,13 @@ impl Objects {
         }
     }
 
+    /// Makes each search for a name short, once all paths are made.
+    pub(crate) fn settle_chains(&mut self) -> Result<(), AllocError>
+        ensures { entries_seen self.new ≡ entries_seen self.old }
+    {
+        self.paths.settle_chains()
+    }
+
     /// Adds a path, which must be new, and what stands under it.
     #[tactic(auto, using(crate::proofs::Kept::kept_paths, crate::proofs::Kept::zip_push))]
     pub(crate) fn push(

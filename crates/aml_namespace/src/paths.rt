@@ -15,12 +15,15 @@ use std::collections::BTreeMap;
 /// The number of the root's path.
 pub(crate) const ROOT: usize = 0;
 
-/// How many changes of chain every path may have above it.
+/// How many changes of chain a path may have above it, however few paths there are.
 const CHANGES: usize = 64;
 
-/// How many paths allow one change more. Chains are laid anew no sooner than so many changes are made, so
-/// that whoever chooses the paths cannot have them laid anew at each.
+/// How many paths allow a path one change more. So many paths are made between the times at which chains
+/// are laid anew that whoever chooses them gains little by that.
 const PATHS_A_CHANGE: usize = 256;
+
+/// No path of a namespace has so many changes of chain above it where chains are laid anew.
+const FEWEST_CHANGES: usize = 20;
 
 /// A path as one segment below another.
 #[derive(Clone, Copy, Debug)]
@@ -286,16 +289,43 @@ impl Paths {
         Ok(paths)
     }
 
+    /// Lays the chains anew.
+    fn lay_anew(&mut self) -> Result<(), AllocError>
+        ensures { paths_seen self.new ≡ paths_seen self.old }
+    {
+        let alloc = *self.steps.allocator();
+        *self = self.copy(alloc)?;
+        Ok(())
+    }
+
     /// Lays the chains anew where the path with this number has too many changes of chain above it: a
-    /// search looks up one segment a change, and whoever chooses the paths could have one made at each
-    /// level.
+    /// search takes one look-up a change, and whoever chooses the paths could have one made at each level.
     fn keep_changes_few(&mut self, at: usize) -> Result<(), AllocError>
         requires { at < length (paths_seen self.old) }
         ensures { paths_seen self.new ≡ paths_seen self.old }
     {
         if self.spot(at).changes > CHANGES + self.len() / PATHS_A_CHANGE {
-            let alloc = *self.steps.allocator();
-            *self = self.copy(alloc)?;
+            self.lay_anew()?;
+        }
+        Ok(())
+    }
+
+    /// Whether a path has more changes of chain above it than one has on chains that are laid anew.
+    fn has_many_changes(&self) -> bool {
+        for step in &self.steps {
+            if step.spot.changes > FEWEST_CHANGES {
+                return true;
+            }
+        }
+        false
+    }
+
+    /// Makes each search short, once all paths are made.
+    pub(crate) fn settle_chains(&mut self) -> Result<(), AllocError>
+        ensures { paths_seen self.new ≡ paths_seen self.old }
+    {
+        if self.has_many_changes() {
+            self.lay_anew()?;
         }
         Ok(())
     }
