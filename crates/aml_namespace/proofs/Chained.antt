@@ -80,6 +80,13 @@ module _ (paths : List Path) (spots : List Spot) (i : ℕ) (spot : Spot) (held :
 abbrev pub Noted : List ℕ → List ℕ → ℕ → Type 0
 Noted old new number = (t i : ℕ) → slice_get new t ≡ Some i → i < number → slice_get old t ≡ Some i
 
+noted_by : (old lasts : List ℕ) (number : ℕ) → Noted old lasts number → (t i : ℕ) → (slice_get lasts t ≡ Some i) ⊎ ((t ≡ length lasts) × (i ≡ number)) → i < number → slice_get old t ≡ Some i
+noted_by old lasts number kept t i (inl is) lt = kept t i is lt
+noted_by old lasts number kept t i (inr last) lt = absurd (let same = last.1 in omega (arith, same, lt))
+
+pub noted_push : (old lasts new : List ℕ) (number : ℕ) → Noted old lasts number → new ≡ lasts ++ number ∷ [] → Noted old new number
+noted_push old lasts new number kept is t i at lt = noted_by old lasts number kept t i (slice_get_push lasts number t i (sym (ap (λ (xs : List ℕ). slice_get xs t) is) ∙ at)) lt
+
 pub lasts_kept : (old new : List ℕ) (spots : List Spot) (number : ℕ) → length spots ≤ number → Noted old new number → AreLasts old spots → AreLasts new spots
 lasts_kept old new spots number past kept lasts i s is at =
     let within = slice_get_within spots i s is in

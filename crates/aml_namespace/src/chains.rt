@@ -1,4 +1,4 @@
-// Chains of paths, on each of which a path stands one segment below the one before it.
+// Chains of paths: on a chain each path stands one segment below the one before it.
 
 ghost use Rattle.std.specs.Prelude.{◌≡◌, ◌<◌, ℕ, length, slice_get, Some, OnOk, IfOk, IsTrue};
 ghost use Rattle.aml_namespace.specs.Steps.{paths_seen};
@@ -27,14 +27,14 @@ pub(crate) fn holds(numbers: &[usize], place: usize, number: usize) -> bool
     }
 }
 
-/// Notes of the next path, which will have this number, that it is the last on the chain with this top. Of
-/// no path before it is more said than was, also where this wants memory.
+/// Notes of the next path, which will have this number, that it is the last on the chain with this top.
+/// Of no path before it is more said than was, also where this wants memory.
 pub(crate) fn note_last(lasts: &mut Vec<usize>, top: usize, number: usize) -> Result<(), AllocError>
     ensures kept { (t : ℕ) (i : ℕ) → slice_get lasts.new.items t ≡ Some i → i < number
         → slice_get lasts.old.items t ≡ Some i }
     ensures noted { OnOk result ((i : ℕ) → slice_get lasts.new.items top ≡ Some i → i ≡ number) }
 {
-    if lasts.len() == number {
+    'reach: while lasts.len() <= number {
         lasts.push(number)?;
     }
     if top < lasts.len() {
@@ -58,7 +58,8 @@ impl Paths {
         Ok(counts)
     }
 
-    /// Of each path, the number of the path one segment below it that begins the most paths, if any is.
+    /// Of each path, the number of the path one segment below it that begins the most paths; the root's
+    /// where none is.
     pub(crate) fn heaviest_below(&self, alloc: Global) -> Result<Vec<usize>, AllocError> {
         let counts = self.counts_begun(alloc)?;
         let mut most = vec![in alloc; 0usize; self.len()]?;

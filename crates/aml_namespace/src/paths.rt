@@ -18,12 +18,12 @@ pub(crate) const ROOT: usize = 0;
 /// How many changes of chain a path may have above it, however few paths there are.
 const CHANGES: usize = 64;
 
-/// How many paths allow a path one change more. So many paths are made between the times at which chains
-/// are laid anew that whoever chooses them gains little by that.
+/// For so many paths a path may have one change more above it. The more paths there are, the more must
+/// then be made until chains are laid anew, so that whoever chooses them gains little by having them so.
 const PATHS_A_CHANGE: usize = 256;
 
-/// No path of a namespace has so many changes of chain above it where chains are laid anew.
-const FEWEST_CHANGES: usize = 20;
+/// So many changes no path has above it on chains that are laid anew, in a namespace of any size.
+const FEW_CHANGES: usize = 20;
 
 /// A path as one segment below another.
 #[derive(Clone, Copy, Debug)]
@@ -34,8 +34,8 @@ pub(crate) struct Step {
     pub spot: Spot,
 }
 
-/// A segment below a path. In the order of places, those of one segment below the paths of one chain stand
-/// together by depth, so that one look-up searches a whole chain.
+/// A segment below a path. In the order of places, those of one segment below the paths of one chain
+/// stand together by depth, so that one look-up searches a chain.
 #[derive(Clone, Copy, Debug, PartialEq, Eq, PartialOrd, Ord)]
 pub(crate) struct Place {
     pub segment: NameSeg,
@@ -52,8 +52,8 @@ pub(crate) struct Place {
 pub(crate) struct Paths {
     /// Of the paths but the root, in the order of their numbers.
     steps: Vec<Step>,
-    /// The number of the path at a place: an ordered map, so that whoever chooses the segments cannot
-    /// make a look-up slow.
+    /// The number of the path at a place: an ordered map, so that whoever chooses the segments
+    /// cannot make a look-up slow.
     numbers: BTreeMap<Place, usize>,
     /// At the number of a chain's first path, that of its last.
     lasts: Vec<usize>,
@@ -156,11 +156,12 @@ impl Paths {
         Some(number)
     }
 
-    /// The number of the path of this segment below the longest path, up to one at this spot, of a chain,
-    /// below which it stands.
+    /// The number of the path of this segment below the longest path of a chain, of those that are no
+    /// longer than the one at this spot, below which it stands.
     fn last_below_chain(&self, spot: Spot, segment: NameSeg) -> Option<usize>
         ensures { let spots = spots_of self.now.steps.items in
-            result ≡ greatest (number_below_chain (paths_seen self.now) spots spot.top segment.bytes) spot.depth }
+            let find = number_below_chain (paths_seen self.now) spots spot.top segment.bytes in
+            result ≡ greatest find spot.depth }
     {
         let least = Place {
             segment,
@@ -213,8 +214,8 @@ impl Paths {
         Ok(segments)
     }
 
-    /// Where a path may stand that is made one segment below the path with this number, at this spot: on
-    /// that path's chain, if this is wanted and the chain ends there, and else on a chain of its own.
+    /// Where a path may stand that is made one segment below the path with this number, at this spot:
+    /// on that path's chain, if this is wanted and the chain ends there, and else on a chain of its own.
     fn spot_below(&self, at: usize, above: Spot, wants_to_go_on: bool) -> Spot
         requires { slice_get (spots_of self.now.steps.items) at ≡ Some above }
         ensures { CanFollow (spots_of self.now.steps.items) above result }
@@ -235,8 +236,8 @@ impl Paths {
         }
     }
 
-    /// Adds the path that is one segment below the path with this number, on that path's chain if this is
-    /// wanted and the chain ends there, and answers its number.
+    /// Adds the path that is one segment below the path with this number, on that path's chain if this
+    /// is wanted and the chain ends there, and answers its number.
     fn add_below(
         &mut self,
         at: usize,
@@ -274,9 +275,9 @@ impl Paths {
         }
     }
 
-    /// The same paths under the same numbers, on chains that go on below each path to the one below which
-    /// the most paths stand. Each change of chain then leads to half as many paths at most, and no path has
-    /// more changes above it than the number of paths has binary digits.
+    /// The same paths under the same numbers, on chains that go on below each path to the one that begins
+    /// the most. Each change of chain then leads to half as many paths at most, so that no path has more
+    /// changes above it than the number of paths has binary digits.
     pub(crate) fn copy(&self, alloc: Global) -> Result<Paths, AllocError>
         ensures { IfOk result (λ paths. paths_seen paths ≡ paths_seen self.now) }
     {
@@ -298,8 +299,9 @@ impl Paths {
         Ok(())
     }
 
-    /// Lays the chains anew where the path with this number has too many changes of chain above it: a
-    /// search takes one look-up a change, and whoever chooses the paths could have one made at each level.
+    /// Lays the chains anew where the path with this number has too many changes of chain above it. A
+    /// search takes a look-up for each, and whoever chooses the paths could have one at each level: the
+    /// first of several below a path goes on its chain, and may be the one that begins the fewest.
     fn keep_changes_few(&mut self, at: usize) -> Result<(), AllocError>
         requires { at < length (paths_seen self.old) }
         ensures { paths_seen self.new ≡ paths_seen self.old }
@@ -313,7 +315,7 @@ impl Paths {
     /// Whether a path has more changes of chain above it than one has on chains that are laid anew.
     fn has_many_changes(&self) -> bool {
         for step in &self.steps {
-            if step.spot.changes > FEWEST_CHANGES {
+            if step.spot.changes > FEW_CHANGES {
                 return true;
             }
         }
