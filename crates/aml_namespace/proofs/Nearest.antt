@@ -1,7 +1,7 @@
 -- The upward search over chains, and from what it finds.
 use Rattle.std.proofs.Common.{◌≡◌, ℕ, ◌+◌, ◌<◌, ◌≤◌, ◌⊎◌, inl, inr, List, [], ◌∷◌, ◌++◌, length, take, slice_get, Option, Some, None, refl, sym, ap, ◌∙◌, arith, option_and_then}
 use Rattle.std.proofs.lemmas.Bool.{cases_lt}
-use Rattle.std.proofs.lemmas.List.{length-take, length_push, same_from_push, take_all, take-append-le, take-take}
+use Rattle.std.proofs.lemmas.List.{length_push, same_from_push, take_all, take-append-le, take-take}
 use Rattle.std.proofs.lemmas.Option.{none-some, same_Some, slice_get_within}
 use Rattle.aml_namespace.specs.declared.chains.Spot.{Spot}
 use Rattle.aml_namespace.specs.declared.paths.Step.{Step}

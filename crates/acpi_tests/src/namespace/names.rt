@@ -107,6 +107,101 @@ fn nearest_of_several(rt: HostRuntime) -> Result<(), Fail> {
     Ok(())
 }
 
+/// An operator and its contents, of at most 3,999 bytes, behind their length.
+fn package(alloc: Global, op: &[u8], contents: &[u8]) -> Result<Vec<u8>, AllocError> {
+    let length = contents.len() % 4_000 + 2;
+    let mut package = op.to_vec(alloc)?;
+    package.push(0x40 + (length % 16) as u8)?;
+    package.push((length / 16) as u8)?;
+    package.extend_from_slice(contents)?;
+    Ok(package)
+}
+
+/// Definitions in the last of so many devices DEEP, each within the one before.
+fn deep_scope(alloc: Global, depth: u8, inside: &[u8]) -> Result<Vec<u8>, AllocError> {
+    let mut contents = [0x5c, 0x2f, depth].to_vec(alloc)?;
+    for _ in 0..depth {
+        contents.extend_from_slice(b"DEEP")?;
+    }
+    contents.extend_from_slice(inside)?;
+    package(alloc, b"\x10", &contents)
+}
+
+/// Name (SAME, One), so many devices DEEP, each within the one before and behind a device BESD that has
+/// a SAME of its own, and Alias (SAME, LAST) within the last. Each BESD is made before the DEEP beside
+/// it, and so goes on the chain of the DEEP in which both are.
+fn devices_beside(alloc: Global, count: u8) -> Result<Vec<u8>, AllocError> {
+    let mut pair = package(alloc, b"\x5b\x82", b"BESD\x08SAME\x01")?;
+    pair.extend_from_slice(&package(alloc, b"\x5b\x82", b"DEEP")?)?;
+    let mut module = b"\x08SAME\x01".to_vec(alloc)?;
+    module.extend_from_slice(&pair)?;
+    for depth in 1..count {
+        module.extend_from_slice(&deep_scope(alloc, depth, &pair)?)?;
+    }
+    module.extend_from_slice(&deep_scope(alloc, count, b"\x06SAMELAST")?)?;
+    Ok(module)
+}
+
+/// How many devices, and what names name there: the number of a scope, a name, and a number. The first
+/// BESD has 10, the SAME within 11, DEEP 12, the BESD within that 13 and so on.
+const CHAINS: &[(u8, &[(usize, &[u8], Option<usize>)])] = &[
+    // A few chains, which stay as they were made.
+    (
+        2,
+        &[
+            (15, b"SAME", Some(9)),
+            (15, b"LAST", Some(9)),
+            (13, b"SAME", Some(14)),
+            (12, b"BESD", Some(13)),
+            (15, b"DEEP", Some(15)),
+            (12, b"LAST", None),
+        ],
+    ),
+    // Chains that are laid anew once the table is loaded.
+    (
+        40,
+        &[
+            (129, b"SAME", Some(9)),
+            (129, b"LAST", Some(9)),
+            (127, b"SAME", Some(128)),
+            (126, b"BESD", Some(127)),
+            (129, b"DEEP", Some(129)),
+            (12, b"BESD", Some(13)),
+            (10, b"BESD", Some(10)),
+            (126, b"LAST", None),
+        ],
+    ),
+    // Chains that are laid anew also before, when the sixty-fifth DEEP gets what is within.
+    (
+        100,
+        &[
+            (309, b"SAME", Some(9)),
+            (309, b"LAST", Some(9)),
+            (307, b"SAME", Some(308)),
+            (306, b"BESD", Some(307)),
+            (309, b"DEEP", Some(309)),
+            (204, b"DEEP", Some(207)),
+            (202, b"SAME", Some(203)),
+            (12, b"BESD", Some(13)),
+            (306, b"LAST", None),
+        ],
+    ),
+];
+
+#[test]
+fn past_chains(rt: HostRuntime) -> Result<(), Fail> {
+    for (count, rows) in CHAINS {
+        let module = devices_beside(rt.alloc(), *count)?;
+        let table = dsdt_of(rt.alloc(), &module)?;
+        let ns = Namespace::load(rt.alloc(), &[&table], HOST)?;
+        for (scope, name, wanted) in *rows {
+            let number = found(&ns, Scope::At(ObjectId(*scope)), name).map(|id| id.0);
+            assert_eq!(rt; number, *wanted, "{count} {scope} {name:?}");
+        }
+    }
+    Ok(())
+}
+
 /// Method (\M001, 1) {}, Device (DEV0) { Method (MTH2, 2) { ^XXX1 (Arg0), XXX1 (Arg0), ^M001,
 /// M001 (Arg0) }, Method (XXX1, 1) {} } and Method (M002) { M001 (Arg0), ^M001 (Arg1), \M001 (Arg2),
 /// \DEV0.MTH2 (Arg0, Arg1), DEV0.MTH2, MTH2, XXXX, ^^M001, Arg3 }.

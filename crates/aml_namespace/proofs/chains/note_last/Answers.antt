@@ -1,4 +1,3 @@
-use Rattle.std.proofs.Common.{arith}
 use Rattle.aml_namespace.proofs.Chained.{noted_push}
 use Rattle.aml_namespace.proofs.chains.note_last.Goals as goal
 

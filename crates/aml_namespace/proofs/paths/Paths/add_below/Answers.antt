@@ -1,6 +1,5 @@
-use Rattle.std.proofs.Common.{◌≡◌, ◌<◌, ◌≤◌, ℕ, List, length, sym, ap, ◌∙◌, subst, arith}
+use Rattle.std.proofs.Common.{◌≡◌, ◌≤◌, List, length, sym, ap, ◌∙◌, subst, arith}
 use Rattle.std.proofs.lemmas.Grind.{common_steps}
-use Rattle.aml_namespace.specs.declared.chains.Spot.{Spot}
 use Rattle.aml_namespace.specs.declared.paths.Step.{Step}
 use Rattle.aml_namespace.specs.Chains.{AreLasts, spots_of}
 use Rattle.aml_namespace.specs.Steps.{paths_seen}

@@ -1,12 +1,6 @@
-use Rattle.std.proofs.Common.{◌≡◌, ◌<◌, ◌∷◌, [], length, arith}
-use Rattle.std.specs.BTreeMap.{get}
+use Rattle.std.proofs.Common.{arith}
 use Rattle.std.proofs.lemmas.Grind.{common_steps}
-use Rattle.aml_namespace.specs.Chains.{spots_of}
-use Rattle.aml_namespace.specs.Paths.{number_below}
-use Rattle.aml_namespace.specs.Steps.{paths_seen}
-use Rattle.aml_namespace.specs.Trie.{place_order}
 use Rattle.aml_namespace.proofs.Chained.{known_below}
-use Rattle.aml_namespace.proofs.Seen.{seen_distinct}
 use Rattle.aml_namespace.proofs.paths.Paths.child.Goals as goal
 
 pub returns : goal.returns
