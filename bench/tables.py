@@ -20,6 +20,7 @@
 | deep_names | COUNT names in a scope that is 10,000 segments deep |
 | searched | COUNT aliases of MAIN, which is at the root, in a scope that is 1,000 segments deep |
 | searched_past | the same aliases, where beside each device of that scope stands one that has a MAIN of its own |
+| searched_behind | the same, where that one is made first |
 | externals | COUNT Externals of methods of one argument at the root, and a body that calls each |
 | deep_externals | COUNT such Externals in a scope that is 10,000 segments deep |
 
@@ -129,10 +130,12 @@ def deep(depth, inside):
     return made + in_scope(depth, inside)
 
 
-def deep_beside(depth, inside):
+def deep_beside(depth, inside, beside_first=False):
     """Such a chain, beside each device of which stands one that has a MAIN of its own, and the definitions in its last."""
-    pairs = [package(b"\x5b\x82", b"DEEP") + package(b"\x5b\x82", b"SIDE" + b"\x08MAIN\x00")] * depth
-    return b"".join(in_scope(at, pair) for at, pair in enumerate(pairs)) + in_scope(depth, inside)
+    pair = [package(b"\x5b\x82", b"DEEP"), package(b"\x5b\x82", b"SIDE" + b"\x08MAIN\x00")]
+    if beside_first:
+        pair.reverse()
+    return b"".join(in_scope(at, b"".join(pair)) for at in range(depth)) + in_scope(depth, inside)
 
 
 def other_names(count):
@@ -209,6 +212,8 @@ def body_of(kind, count):
         return MAIN + deep(1_000, b"".join(b"\x06MAIN" + name for name in other_names(count)))
     if kind == "searched_past":
         return MAIN + deep_beside(1_000, b"".join(b"\x06MAIN" + name for name in other_names(count)))
+    if kind == "searched_behind":
+        return MAIN + deep_beside(1_000, b"".join(b"\x06MAIN" + name for name in other_names(count)), True)
     if kind == "externals":
         names = other_names(count)
         return b"".join(b"\x15" + name + b"\x08\x01" for name in names) + method(b"MAIN", b"".join(name + b"\x01" for name in names))

@@ -15,6 +15,7 @@ use Rattle.aml_namespace.specs.Chains.{AreChained, AreLasts, CanFollow, EndsAt, 
 use Rattle.aml_namespace.specs.Paths.{AreClosed, AreDistinct, Path, number_below, path_at, path_number}
 use Rattle.aml_namespace.specs.Trie.{AreNumbered, paths_of, place_order}
 use Rattle.aml_namespace.proofs.PathNumbers.{path_at_is, path_at_there, path_number_new, path_number_stays}
+use Rattle.aml_namespace.proofs.Tries.{length-paths_of}
 use Rattle.aml_namespace.proofs.Positions.{position_new, position_other, position_stays, slice_get_last, slice_get_left, slice_get_push}
 
 -- one more step, one more spot
@@ -87,10 +88,10 @@ noted_by old lasts number kept t i (inr last) lt = absurd (let same = last.1 in 
 pub noted_push : (old lasts new : List ℕ) (number : ℕ) → Noted old lasts number → new ≡ lasts ++ number ∷ [] → Noted old new number
 noted_push old lasts new number kept is t i at lt = noted_by old lasts number kept t i (slice_get_push lasts number t i (sym (ap (λ (xs : List ℕ). slice_get xs t) is) ∙ at)) lt
 
-pub lasts_kept : (old new : List ℕ) (spots : List Spot) (number : ℕ) → length spots ≤ number → Noted old new number → AreLasts old spots → AreLasts new spots
-lasts_kept old new spots number past kept lasts i s is at =
-    let within = slice_get_within spots i s is in
-    lasts i s is (kept s.top i at (omega (arith, within)))
+pub lasts_kept : (old new : List ℕ) (steps : List Step) (number : ℕ) → number ≡ length (paths_of steps) → Noted old new number → AreLasts old (spots_of steps) → AreLasts new (spots_of steps)
+lasts_kept old new steps number next kept lasts i s is at =
+    let within = slice_get_within (spots_of steps) i s is in
+    lasts i s is (kept s.top i at (omega (arith, within, next, length-spots_of steps, length-paths_of steps)))
 
 module _ (paths : List Path) (distinct : AreDistinct paths) (closed : AreClosed paths) (spots : List Spot) (count : length spots ≡ length paths) (chained : AreChained spots paths) where
   module _ (at : ℕ) (above : Spot) (is_above : slice_get spots at ≡ Some above) (spot : Spot) (follows : CanFollow spots above spot) where

@@ -34,6 +34,7 @@ pub(crate) fn note_last(lasts: &mut Vec<usize>, top: usize, number: usize) -> Re
         → slice_get lasts.old.items t ≡ Some i }
     ensures noted { OnOk result ((i : ℕ) → slice_get lasts.new.items top ≡ Some i → i ≡ number) }
 {
+    // The root is made without memory, so that its place comes with the first path below it.
     'reach: while lasts.len() <= number {
         lasts.push(number)?;
     }

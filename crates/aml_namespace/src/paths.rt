@@ -55,7 +55,7 @@ pub(crate) struct Paths {
     /// The number of the path at a place: an ordered map, so that whoever chooses the segments
     /// cannot make a look-up slow.
     numbers: BTreeMap<Place, usize>,
-    /// At the number of a chain's first path, that of its last.
+    /// At the number of a chain's first path, but for the root, that of its last.
     lasts: Vec<usize>,
     ghost numbered: { AreNumbered numbers steps.items },
     ghost ended: { AreLasts lasts.items (spots_of steps.items) },

@@ -1,4 +1,4 @@
-use Rattle.std.proofs.Common.{◌≡◌, ◌≤◌, List, length, sym, ap, ◌∙◌, subst, arith}
+use Rattle.std.proofs.Common.{◌≡◌, List, length, sym, ap, ◌∙◌, subst, arith}
 use Rattle.std.proofs.lemmas.Grind.{common_steps}
 use Rattle.aml_namespace.specs.declared.paths.Step.{Step}
 use Rattle.aml_namespace.specs.Chains.{AreLasts, spots_of}
@@ -14,10 +14,9 @@ pub invariant_of-self : goal.invariant_of-self
 invariant_of-self c =
     let old = c.args.self.now in
     let steps = old.steps.items in
-    let many : length (spots_of steps) ≤ c.len-number.result = omega (arith, length-spots_of steps, length-paths_of steps, c.len-number.ensures) in
     record {
       numbered = old.numbered;
-      ended = lasts_kept old.lasts.items c.note_last.new.lasts.items (spots_of steps) c.len-number.result many c.note_last.ensures.kept old.ended;
+      ended = lasts_kept old.lasts.items c.note_last.new.lasts.items steps c.len-number.result c.len-number.ensures c.note_last.ensures.kept old.ended;
     }
 
 pub invariant_of-self-in-Break-branch-2 : goal.invariant_of-self-in-Break-branch-2
@@ -25,11 +24,10 @@ invariant_of-self-in-Break-branch-2 c =
     let old = c.args.self.now in
     let steps = old.steps.items in
     let same : c.push.new.self.items ≡ steps = grind (arith, common_steps) in
-    let many : length (spots_of steps) ≤ c.len-number.result = omega (arith, length-spots_of steps, length-paths_of steps, c.len-number.ensures) in
     record {
       numbered = subst (AreNumbered old.numbers) (sym same) old.numbered;
       ended = subst (λ (s : List Step). AreLasts c.note_last.new.lasts.items (spots_of s)) (sym same)
-          (lasts_kept old.lasts.items c.note_last.new.lasts.items (spots_of steps) c.len-number.result many c.note_last.ensures.kept old.ended);
+          (lasts_kept old.lasts.items c.note_last.new.lasts.items steps c.len-number.result c.len-number.ensures c.note_last.ensures.kept old.ended);
     }
 
 pub invariant_of-self-in-Ok : goal.invariant_of-self-in-Ok
@@ -57,11 +55,10 @@ invariant_of-self-in-Err c =
     let old = c.args.self.now in
     let steps = old.steps.items in
     let same : c.pop.new.self.items ≡ steps = grind (arith, common_steps) in
-    let many : length (spots_of steps) ≤ c.len-number.result = omega (arith, length-spots_of steps, length-paths_of steps, c.len-number.ensures) in
     record {
       numbered = AreNumbered-same old.numbers c.insert.new.self steps c.pop.new.self.items c.in-Err.ensures.err same old.numbered;
       ended = subst (λ (s : List Step). AreLasts c.note_last.new.lasts.items (spots_of s)) (sym same)
-          (lasts_kept old.lasts.items c.note_last.new.lasts.items (spots_of steps) c.len-number.result many c.note_last.ensures.kept old.ended);
+          (lasts_kept old.lasts.items c.note_last.new.lasts.items steps c.len-number.result c.len-number.ensures c.note_last.ensures.kept old.ended);
     }
 
 pub returns-in-Ok-clause-ok : goal.returns-in-Ok-clause-ok
