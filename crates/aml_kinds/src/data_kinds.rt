@@ -2,7 +2,6 @@
 // memory is taken.
 
 ghost use Rattle.std.specs.Prelude.{◌≡◌, ◌≤◌, ◌<◌, ◌∷◌, ◌&&◌, ◌||◌, [], IfSome, length, nat_le};
-ghost use Rattle.aml_lex.specs.NameStrings.{NameString};
 ghost use Rattle.aml_operators.specs.Tree.{Tree};
 ghost use Rattle.aml_operators.specs.declared.row.Code.TheVariants as code;
 ghost use Rattle.aml_operators.specs.declared.row.Spot.TheVariants as spot;
