@@ -4,8 +4,8 @@
 run:
 	@cd crates/acpicheck && rt run < stdin
 
-# The gate: every crate proved from nothing, must-fail edits refused, tests and programs run, and then the built
-# program over its stored cases. The last line counts both.
+# The gate: every crate proved and must-fail edits refused, from nothing but for what a gate on this machine has passed
+# with the same files; tests and programs run, and then the built program over its stored cases. The last line counts all.
 test:
 	@rt ci | python3 bench/cases.py after
 
