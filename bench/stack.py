@@ -4,6 +4,10 @@
 For each form of term a DSDT is made of 64 methods, or as many as may be active, each of which calls the next within as many terms of
 the form, one within the other, as may be. What is printed is the least stack, in KiB, with which the program ends its evaluation, to
 16 KiB, by trying.
+
+The next term of a form is its first operand, or its second where the name of the form says so; of `Store`, whose target is a local,
+it is the source, and of `DerefOf`, which is of an Index, the index. Of `Add into an Index` it is the index of the target, as in
+`Add (1, 1, Index (BUFF, Add (1, 1, Index (BUFF, ..))))`: a Store into an Index cannot stand so, since it is no operand.
 """
 import resource
 import subprocess
@@ -30,7 +34,7 @@ AROUND = {
     "second of Concatenate": (b"\x73\x0da\x00", b"\x00", 1),
     "Store": (b"\x70", b"\x60", 1),
     "DerefOf": (b"\x83\x88BUFF", b"\x00", 2),
-    "Store into an Index": (b"\x70\x01\x88BUFF", b"\x00", 2),
+    "Add into an Index": (b"\x72\x01\x01\x88BUFF", b"\x00", 2),
     "argument": (b"PASS", b"", 1),
 }
 BLOCKS = {"If": b"\xa0", "While": b"\xa2"}
