@@ -4,6 +4,9 @@
 `iasl` and `acpiexec` are of Debian's acpica-tools (apt-get install acpica-tools). One DSDT has a method for each loop, whose argument
 is the number of turns. Each is run at two sizes, the second twice the first, the better of three runs; what a turn costs is the
 difference of both over the difference of the turns, so that starting, loading and reading are left out. Both must give the same value.
+
+Behind `resident` stands how much memory acpicheck had resident at most, at each of its two sizes, by `/usr/bin/time` (apt-get install
+time). It should not grow with the turns, but in TEXT, whose string does.
 """
 import re
 import shutil
@@ -14,6 +17,7 @@ import time
 from pathlib import Path
 
 ACPICHECK = Path(__file__).resolve().parent.parent / "crates/acpicheck/out/acpicheck"
+TIME = "/usr/bin/time"
 STEPS = str(2**64 - 1)
 RUNS = 3
 
@@ -109,15 +113,18 @@ Method (TEXT, 1) {{
 """
 
 
-def best(command):
-    """The least time of some runs, and what the last one printed."""
-    least, said = None, ""
-    for _ in range(RUNS):
+def run(command):
+    """How long a command took, how many KiB it had resident at most, and what it printed."""
+    with tempfile.NamedTemporaryFile("r") as noted:
         start = time.monotonic()
-        said = subprocess.run(command, capture_output=True, text=True, check=False).stdout
-        took = time.monotonic() - start
-        least = took if least is None else min(least, took)
-    return least, said
+        said = subprocess.run([TIME, "-f", "%M", "-o", noted.name, *command], capture_output=True, text=True, check=False).stdout
+        return time.monotonic() - start, int(noted.read().split()[-1]), said
+
+
+def best(command):
+    """The least time of some runs, the most that one had resident, and what the last one printed."""
+    took, resident, said = zip(*(run(command) for _ in range(RUNS)))
+    return min(took), max(resident), said[-1]
 
 
 def value(said):
@@ -138,24 +145,25 @@ def theirs(table, loop, turns):
 
 def main(words):
     program = words[0] if words else str(ACPICHECK)
-    for tool in ("iasl", "acpiexec"):
+    for tool, package in (("iasl", "acpica-tools"), ("acpiexec", "acpica-tools"), (TIME, "time")):
         if not shutil.which(tool):
-            sys.exit(f"{tool} is missing: apt-get install acpica-tools")
+            sys.exit(f"{tool} is missing: apt-get install {package}")
     with tempfile.TemporaryDirectory() as folder:
         asl = Path(folder) / "speed.asl"
         asl.write_text(source())
         subprocess.run(["iasl", "-oa", "-p", folder + "/speed", asl], capture_output=True, check=True)
         table = folder + "/speed.aml"
-        print("loop   turns      here         a turn     turns      acpiexec     a turn     times")
+        print("loop   turns      here         a turn     turns      acpiexec     a turn     times  resident")
         for loop in words[1:] or LOOPS:
             mine, other = LOOPS[loop]
-            (first, _), (second, said) = (ours(program, table, loop, n) for n in (mine, 2 * mine))
-            (before, _), (behind, told) = (theirs(table, loop, n) for n in (other, 2 * other))
+            (first, small, _), (second, large, _) = (ours(program, table, loop, n) for n in (mine, 2 * mine))
+            (before, _, _), (behind, _, told) = (theirs(table, loop, n) for n in (other, 2 * other))
             here, there = (second - first) / mine, (behind - before) / other
-            _, small = ours(program, table, loop, 2 * other)
-            same = "" if value(small) == value(told) else f"  here {value(small)}, there {value(told)}"
+            _, _, said = ours(program, table, loop, 2 * other)
+            same = "" if value(said) == value(told) else f"  here {value(said)}, there {value(told)}"
             print(f"{loop} {2 * mine:9} {first:6.3f} {second:6.3f} s {here * 1e9:8.0f} ns"
-                  f" {2 * other:9} {before:6.3f} {behind:6.3f} s {there * 1e9:8.0f} ns {there / here:8.1f}{same}")
+                  f" {2 * other:9} {before:6.3f} {behind:6.3f} s {there * 1e9:8.0f} ns {there / here:8.1f}"
+                  f" {small:7}, {large} KiB{same}")
 
 
 if __name__ == "__main__":
