@@ -4,7 +4,7 @@ use Rattle.std.specs.Prelude.{IsErrAnd}
 use Rattle.std.specs.Io.KnownBytes.{Appends}
 use Rattle.std.proofs.KnownBytes.{Appends-trans, Appends-nil}
 use Rattle.acpi_text.specs.declared.writing.RunFault.{RunFault}
-use Rattle.acpi_listing.specs.Steps.{Step, Then, Quietly, Gives, Ends, Prints, Tells, Still, Writes}
+use Rattle.acpi_listing.specs.Steps.{Step, Then, Quietly, Obtains, Ends, Prints, Tells, Still, Writes}
 use Rattle.acpi_listing.specs.declared.fault.Fault.{Fault}
 use Rattle.acpi_listing.specs.declared.fault.Stop.{Stop}
 use Rattle.acpi_listing.specs.declared.fault.Stop.TheVariants.{Fault as Faulty, Run}
@@ -35,11 +35,11 @@ quiet_fault does next old new held f r is did = stops (Quietly does) next old ne
 
 -- a step that left the source alone too
 pub given : {F V W : Type 0} (is : Result V Fault → Type 0) (next : V → Step F W) (old new : F) (held holds : Option (List ℕ)) (v : V) (r : Result W Stop)
-    → is (Ok v) → Writes (next v) old new held holds r → Writes (Then (Gives is) next) old new held holds r
+    → is (Ok v) → Writes (next v) old new held holds r → Writes (Then (Obtains is) next) old new held holds r
 given is next old new held holds v r did = quiet (λ o x n. is x × (n ≡ o)) next old old new held holds v r (did, refl)
 
 pub given_fault : {F V W : Type 0} (is : Result V Fault → Type 0) (next : V → Step F W) (old : F) (held : Option (List ℕ)) (f : Fault) (r : Result W Stop)
-    → IsErrAnd r (λ s. s ≡ Faulty f) → is (Err f) → Writes (Then (Gives is) next) old old held held r
+    → IsErrAnd r (λ s. s ≡ Faulty f) → is (Err f) → Writes (Then (Obtains is) next) old old held held r
 given_fault is next old held f r same did = quiet_fault (λ o x n. is x × (n ≡ o)) next old old held f r same (did, refl)
 
 -- the end

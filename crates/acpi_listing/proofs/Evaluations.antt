@@ -17,7 +17,7 @@ use Rattle.acpi_listing.specs.Inputs.{OpensInputs, ReadsInputs, tables_of}
 use Rattle.acpi_listing.specs.Loading.{IsNamespace, Loads, interfaces_of}
 use Rattle.acpi_listing.specs.Registers.{OpensRegisters, ReadsRegisters}
 use Rattle.aml_regions.specs.declared.registers.RegisterFile.{RegisterFile}
-use Rattle.acpi_listing.specs.Steps.{Step, Then, Gives, Still, Tells, Writes}
+use Rattle.acpi_listing.specs.Steps.{Step, Then, Obtains, Still, Tells, Writes}
 use Rattle.acpi_listing.specs.Commands.{EvaluatesBody, EvaluatesFiles, EvaluatesTables, Finds, Fit, IsMeant, IsMethodAt, ListsNames, ReadsArguments, ReadsBody, Takes, evaluation_text, outcome_status}
 use Rattle.acpi_listing.specs.declared.fault.Fault.{Fault}
 use Rattle.acpi_listing.specs.declared.fault.Stop.{Stop}
@@ -34,7 +34,7 @@ known_texts interfaces tables ns passed known same are loaded = (loaded.0, loade
 -- what stands behind the load
 abbrev behind_load : List ℕ → List Value → ℕ → Shown → Step (Unit {0}) ℕ
 behind_load word arguments steps ns =
-    Then (Gives (Finds ns word)) (λ found. Then (Gives (ReadsBody ns found.0 found.1)) (EvaluatesBody ns found arguments steps))
+    Then (Obtains (Finds ns word)) (λ found. Then (Obtains (ReadsBody ns found.0 found.1)) (EvaluatesBody ns found arguments steps))
 
 -- behind the load
 pub after_load : (word : List ℕ) (arguments : List Value) (steps : ℕ) (interfaces : List (List ℕ)) (tables : List (List ℕ)) (ns : Shown) (held holds : Option (List ℕ)) (r : Result ℕ Stop)
@@ -45,11 +45,11 @@ after_load word arguments steps interfaces tables ns held holds r loaded = given
 -- behind the method
 pub after_find : (word : List ℕ) (arguments : List Value) (steps : ℕ) (interfaces : List (List ℕ)) (tables : List (List ℕ)) (ns : Shown) (id : ℕ) (m : Method) (held holds : Option (List ℕ)) (r : Result ℕ Stop)
     → IsNamespace interfaces tables ns → IsMethodAt ns word id m
-    → Writes (Then (Gives (ReadsBody ns id m)) (EvaluatesBody ns (id, m) arguments steps)) tt tt held holds r
+    → Writes (Then (Obtains (ReadsBody ns id m)) (EvaluatesBody ns (id, m) arguments steps)) tt tt held holds r
     → Writes (EvaluatesTables word arguments steps interfaces tables) tt tt held holds r
 after_find word arguments steps interfaces tables ns id m held holds r loaded names does =
     after_load word arguments steps interfaces tables ns held holds r loaded
-    (given (Finds ns word) (λ found. Then (Gives (ReadsBody ns found.0 found.1)) (EvaluatesBody ns found arguments steps)) tt tt held holds (id, m) r names does)
+    (given (Finds ns word) (λ found. Then (Obtains (ReadsBody ns found.0 found.1)) (EvaluatesBody ns found arguments steps)) tt tt held holds (id, m) r names does)
 
 -- behind the body's reading
 pub after_body : (word : List ℕ) (arguments : List Value) (steps : ℕ) (interfaces : List (List ℕ)) (tables : List (List ℕ)) (ns : Shown) (id : ℕ) (m : Method) (body : Result (List Tree) Refusal) (held holds : Option (List ℕ)) (r : Result ℕ Stop)
@@ -67,7 +67,7 @@ pub after_outcome : (word : List ℕ) (arguments : List Value) (steps : ℕ) (in
     → Writes (EvaluatesTables word arguments steps interfaces tables) tt tt held holds r
 after_outcome word arguments steps interfaces tables ns id m ts outcome held holds r loaded names body takes meant does =
     after_body word arguments steps interfaces tables ns id m (Ok ts) held holds r loaded names body
-    (given (Fit ns m arguments) (λ _. Then (Gives (IsMeant ns id m (trees ts) arguments steps)) (λ o. Tells (evaluation_text ns.entries o) (outcome_status o.0))) tt tt held holds tt r takes
+    (given (Fit ns m arguments) (λ _. Then (Obtains (IsMeant ns id m (trees ts) arguments steps)) (λ o. Tells (evaluation_text ns.entries o) (outcome_status o.0))) tt tt held holds tt r takes
     (given (IsMeant ns id m (trees ts) arguments steps) (λ o. Tells (evaluation_text ns.entries o) (outcome_status o.0)) tt tt held holds outcome r meant does))
 
 -- an evaluation that wants memory
@@ -76,7 +76,7 @@ pub no_outcome : (word : List ℕ) (arguments : List Value) (steps : ℕ) (inter
     → Writes (EvaluatesTables word arguments steps interfaces tables) tt tt held held r
 no_outcome word arguments steps interfaces tables ns id m ts f held r is loaded names body takes meant =
     after_body word arguments steps interfaces tables ns id m (Ok ts) held held r loaded names body
-    (given (Fit ns m arguments) (λ _. Then (Gives (IsMeant ns id m (trees ts) arguments steps)) (λ o. Tells (evaluation_text ns.entries o) (outcome_status o.0))) tt tt held held tt r takes
+    (given (Fit ns m arguments) (λ _. Then (Obtains (IsMeant ns id m (trees ts) arguments steps)) (λ o. Tells (evaluation_text ns.entries o) (outcome_status o.0))) tt tt held held tt r takes
     (given_fault (IsMeant ns id m (trees ts) arguments steps) (λ o. Tells (evaluation_text ns.entries o) (outcome_status o.0)) tt held f r is meant))
 
 -- what stands behind the inputs, behind the registers, and behind the arguments
@@ -125,7 +125,7 @@ inputs_evaluated answers old mid new names word args regs arguments registers in
 
 -- what stands behind the inputs of `names`, and behind their load
 abbrev behind_tables : {F : Type 0} → Inputs → Step F ℕ
-behind_tables inputs = Then (Gives (Loads [] (tables_of inputs))) (λ ns. Tells (names_text ns) 0)
+behind_tables inputs = Then (Obtains (Loads [] (tables_of inputs))) (λ ns. Tells (names_text ns) 0)
 
 -- no names: inputs that cannot be read, or tables that cannot be loaded
 pub no_names : {F : Type 0} (answers : Answers F) (old new : F) (names : InputNames) (held : Option (List ℕ)) (f : Fault) (r : Result ℕ Stop)

@@ -6,7 +6,7 @@ use Rattle.std.proofs.lemmas.List.{drop_all}
 use Rattle.acpi_listing.specs.Files.{Answers, Opens, ReadsTable, ListsFile, ListsFiles}
 use Rattle.acpi_tables.specs.Fault.{first_fault}
 use Rattle.acpi_tables.specs.declared.fault.TableFault.{TableFault}
-use Rattle.acpi_listing.specs.Steps.{Step, Gives, Prints, Then, Writes}
+use Rattle.acpi_listing.specs.Steps.{Step, Obtains, Prints, Then, Writes}
 use Rattle.acpi_listing.specs.Reading.{file_kind, file_checks, Says}
 use Rattle.acpi_listing.proofs.Chains.{goes_on, stops, quiet, quiet_fault, given, given_fault, printed, cut_off, ended}
 use Rattle.acpi_text.specs.Tables.{table_text}
@@ -23,12 +23,12 @@ pub file_read : {F : Type 0} (answers : Answers F) (number : ℕ) (name bytes le
     → lent ≡ bytes → Opens answers old name (Ok bytes) new → Says (file_kind lent) lent table
     → Writes (Prints (table_text table)) new new held holds r → Writes (ListsFile answers number name) old new held holds r
 file_read answers number name bytes lent table old new held holds r same opens says prints =
-    quiet (λ o x n. Opens answers o name x n) (λ b. Then (Gives (ReadsTable number b)) (λ t. Prints (table_text t))) old new new held holds bytes r opens
+    quiet (λ o x n. Opens answers o name x n) (λ b. Then (Obtains (ReadsTable number b)) (λ t. Prints (table_text t))) old new new held holds bytes r opens
     (given (ReadsTable number bytes) (λ t. Prints (table_text t)) new new held holds table r (subst (λ b. Says (file_kind b) b table) same says) prints)
 
 -- the rest of a file's listing, behind its reading
 abbrev behind_bytes : {F : Type 0} → ℕ → List ℕ → Step F (Unit {0})
-behind_bytes number bytes = Then (Gives (ReadsTable number bytes)) (λ table. Prints (table_text table))
+behind_bytes number bytes = Then (Obtains (ReadsTable number bytes)) (λ table. Prints (table_text table))
 
 pub file_unread : {F : Type 0} (answers : Answers F) (number : ℕ) (name : List ℕ) (old new : F) (held : Option (List ℕ)) (f : Fault) (r : Result (Unit {0}) Stop)
     → IsErrAnd r (λ s. s ≡ Faulty f) → Opens answers old name (Err f) new → Writes (ListsFile answers number name) old new held held r

@@ -28,7 +28,7 @@ use Rattle.acpi_listing.specs.Files.{Answers, ListsFiles}
 use Rattle.acpi_listing.specs.Inputs.{ReadsInputs, tables_of}
 use Rattle.acpi_listing.specs.Loading.{Loads, interfaces_of}
 use Rattle.acpi_listing.specs.Registers.{ReadsRegisters}
-use Rattle.acpi_listing.specs.Steps.{Step, Then, Gives, Still, Tells, Tries}
+use Rattle.acpi_listing.specs.Steps.{Step, Then, Obtains, Still, Tells, Tries}
 use Rattle.acpi_listing.specs.FirstLine.{StartsWith, FailsToStart}
 use Rattle.acpi_listing.specs.Input.{IsRead, hex_answers}
 use Rattle.acpi_listing.specs.Words.{AsksFor, AsksNothing}
@@ -118,7 +118,7 @@ with_events (Err f) events = Err f
 abbrev pub ListsNames : {F : Type 0} → Answers F → InputNames → Step F ℕ
 ListsNames answers names =
     Then (ReadsInputs answers names) (λ inputs.
-    Then (Gives (Loads [] (tables_of inputs))) (λ ns.
+    Then (Obtains (Loads [] (tables_of inputs))) (λ ns.
     Tells (names_text ns) 0))
 
 -- the first path of the object with a number, as it is printed
@@ -129,21 +129,21 @@ printed_path ns id = path_text (path_of ns.entries id)
 abbrev pub EvaluatesBody : Shown → ℕ × Method → List Value → ℕ → Result (List Tree) Refusal → Step (Unit {0}) ℕ
 EvaluatesBody ns (id, m) arguments steps (Err refusal) = Tells (refusal_line (printed_path ns id) m.table refusal) 3
 EvaluatesBody ns (id, m) arguments steps (Ok ts) =
-    Then (Gives (Fit ns m arguments)) (λ _.
-    Then (Gives (IsMeant ns id m (trees ts) arguments steps)) (λ ended.
+    Then (Obtains (Fit ns m arguments)) (λ _.
+    Then (Obtains (IsMeant ns id m (trees ts) arguments steps)) (λ ended.
     Tells (evaluation_text ns.entries ended) (outcome_status ended.0)))
 
 -- `eval` of tables, where `_OSI` knows these texts: the load, the method of that path, its body
 abbrev pub EvaluatesTables : List ℕ → List Value → ℕ → List (List ℕ) → List (List ℕ) → Step (Unit {0}) ℕ
 EvaluatesTables word arguments steps interfaces tables =
-    Then (Gives (Loads interfaces tables)) (λ ns.
-    Then (Gives (Finds ns word)) (λ found.
-    Then (Gives (ReadsBody ns found.0 found.1)) (EvaluatesBody ns found arguments steps)))
+    Then (Obtains (Loads interfaces tables)) (λ ns.
+    Then (Obtains (Finds ns word)) (λ found.
+    Then (Obtains (ReadsBody ns found.0 found.1)) (EvaluatesBody ns found arguments steps)))
 
 -- `eval`: the arguments, the registers, the files, their tables, where `_OSI` knows the text of `--osi`
 abbrev pub EvaluatesFiles : {F : Type 0} → Answers F → InputNames → List ℕ → Option (List ℕ) → Option (List ℕ) → ℕ → Option (List ℕ) → Step F ℕ
 EvaluatesFiles answers names word args regs steps osi =
-    Then (Gives (ReadsArguments args)) (λ arguments.
+    Then (Obtains (ReadsArguments args)) (λ arguments.
     Then (ReadsRegisters answers regs) (λ registers.
     Then (ReadsInputs answers names) (λ inputs.
     Still (EvaluatesTables word arguments steps (interfaces_of osi) (tables_of inputs)))))
@@ -160,7 +160,7 @@ Obeys answers (Eval request) = EvaluatesFiles answers request.inputs request.met
 
 -- a command: its words, and what they ask for
 abbrev pub ObeysWords : {F : Type 0} → Answers F → List (List ℕ) → Step F ℕ
-ObeysWords answers words = Then (Gives (Asks words)) (Obeys answers)
+ObeysWords answers words = Then (Obtains (Asks words)) (Obeys answers)
 
 -- the status of what is wrong
 abbrev pub cause_status : FaultCause → ℕ

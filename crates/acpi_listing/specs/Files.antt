@@ -6,7 +6,7 @@ use Rattle.acpi_tables.specs.Fault.{first_fault}
 use Rattle.acpi_tables.specs.Header.{IsTable}
 use Rattle.acpi_tables.specs.declared.fault.TableFault.{TableFault}
 use Rattle.aml_externals.specs.Table.{table_opened}
-use Rattle.acpi_listing.specs.Steps.{Step, Then, Quietly, Gives, Ends, Prints}
+use Rattle.acpi_listing.specs.Steps.{Step, Then, Quietly, Obtains, Ends, Prints}
 use Rattle.acpi_listing.specs.Reading.{file_kind, file_checks, Says}
 use Rattle.acpi_text.specs.Tables.{table_text}
 use Rattle.acpi_text.specs.declared.table.Table.{Table}
@@ -89,7 +89,7 @@ ReadsTable number bytes (Err f) =
 abbrev pub ListsFile : {F : Type 0} → Answers F → ℕ → List ℕ → Step F (Unit {0})
 ListsFile answers number name =
     Then (Reads answers name) (λ bytes.
-    Then (Gives (ReadsTable number bytes)) (λ table.
+    Then (Obtains (ReadsTable number bytes)) (λ table.
     Prints (table_text table)))
 
 -- files are listed one after the other

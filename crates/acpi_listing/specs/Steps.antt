@@ -31,12 +31,12 @@ Quietly does old text (Err (Faulty f)) new = does old (Err f) new × (text ≡ [
 Quietly does old text (Err (Run _)) new = ⊥
 
 -- the same, and the source is left alone
-abbrev pub Gives : {F V : Type 0} → (Result V Fault → Type 0) → Step F V
-Gives is = Quietly (λ old r new. is r × (new ≡ old))
+abbrev pub Obtains : {F V : Type 0} → (Result V Fault → Type 0) → Step F V
+Obtains is = Quietly (λ old r new. is r × (new ≡ old))
 
 -- the end of a command, with this status
 abbrev pub Ends : {F : Type 0} → ℕ → Step F ℕ
-Ends status = Gives (λ r. r ≡ Ok status)
+Ends status = Obtains (λ r. r ≡ Ok status)
 
 -- a text is written; or writing stops the command, behind a beginning of the text
 abbrev pub Prints : {F : Type 0} → List ℕ → Step F (Unit {0})

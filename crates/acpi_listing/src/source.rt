@@ -53,7 +53,11 @@ pub fn read_within_limit<F: Source>(files: &mut F, name: &str) -> Result<Vec<u8>
 }
 
 // Reads a table of at most `INPUT_LIMIT` bytes that is to be loaded.
-fn read_table<F: Source>(files: &mut F, name: &str, dead_externals: bool) -> Result<Vec<u8>, Fault>
+fn read_table_file<F: Source>(
+    files: &mut F,
+    name: &str,
+    dead_externals: bool,
+) -> Result<Vec<u8>, Fault>
     ensures { Opens (prepared dead_externals F.answers) files.old name.now (bytes_of result)
         files.new }
 {
@@ -94,7 +98,7 @@ pub fn read_files<F: Source>(
 {
     let mut read = Vec::new(alloc);
     for name in names {
-        read.push(read_table(files, name, dead_externals)?)?;
+        read.push(read_table_file(files, name, dead_externals)?)?;
     }
     Ok(read)
 }

@@ -7,7 +7,7 @@ use Rattle.aml_namespace.specs.Shows.{shown}
 use Rattle.aml_kinds.specs.Views as values
 use Rattle.aml_operators.specs.Tree.{view, trees}
 use Rattle.aml_tree.proofs.Shaped.{body_shaped}
-use Rattle.acpi_listing.specs.Steps.{Gives, Tells, Then}
+use Rattle.acpi_listing.specs.Steps.{Obtains, Tells, Then}
 use Rattle.acpi_listing.specs.Inputs.{tables_of}
 use Rattle.acpi_listing.specs.Loading.{Loads, interfaces_of}
 use Rattle.acpi_listing.specs.Commands.{EvaluatesBody, Finds, Fit, IsMeant, ReadsBody, Takes, evaluation_text, outcome_status}
@@ -22,14 +22,14 @@ pub returns-in_err-known-clause-printed : goal.returns-in_err-known-clause-print
 returns-in_err-known-clause-printed g c =
     let word = c.args.request.now.method.now in
     given_fault (Loads (interfaces_of (option_map now c.args.request.now.osi)) (tables_of c.args.inputs.now))
-    (λ ns. Then (Gives (Finds ns word)) (λ found. Then (Gives (ReadsBody ns found.0 found.1)) (EvaluatesBody ns found (map values.view c.args.arguments.items) c.args.request.now.steps)))
+    (λ ns. Then (Obtains (Finds ns word)) (λ found. Then (Obtains (ReadsBody ns found.0 found.1)) (EvaluatesBody ns found (map values.view c.args.arguments.items) c.args.request.now.steps)))
     tt _ _ c.from_residual.result c.from_residual.ensures.1 (inl c.in_err-known.ensures.fault)
 
 pub returns-in_err-namespace-clause-printed : goal.returns-in_err-namespace-clause-printed
 returns-in_err-namespace-clause-printed g c =
     let word = c.args.request.now.method.now in
     given_fault (Loads (interfaces_of (option_map now c.args.request.now.osi)) (tables_of c.args.inputs.now))
-    (λ ns. Then (Gives (Finds ns word)) (λ found. Then (Gives (ReadsBody ns found.0 found.1)) (EvaluatesBody ns found (map values.view c.args.arguments.items) c.args.request.now.steps)))
+    (λ ns. Then (Obtains (Finds ns word)) (λ found. Then (Obtains (ReadsBody ns found.0 found.1)) (EvaluatesBody ns found (map values.view c.args.arguments.items) c.args.request.now.steps)))
     tt _ _ c.from_residual-in_err-namespace.result c.from_residual-in_err-namespace.ensures.1 c.in_err-namespace.ensures
 
 pub returns-in_err-id-clause-printed : goal.returns-in_err-id-clause-printed
@@ -40,7 +40,7 @@ returns-in_err-id-clause-printed g c =
     let ns = shown c.in_ok-namespace.namespace in
     let r = c.from_residual-in_err-id.result in
     after_load word arguments steps (interfaces_of (option_map now c.args.request.now.osi)) (tables_of c.args.inputs.now) ns _ _ r (known_texts _ _ _ _ _ c.as_slice.ensures.value c.in_ok-known.ensures.known c.in_ok-namespace.ensures)
-    (given_fault (Finds ns word) (λ found. Then (Gives (ReadsBody ns found.0 found.1)) (EvaluatesBody ns found arguments steps))
+    (given_fault (Finds ns word) (λ found. Then (Obtains (ReadsBody ns found.0 found.1)) (EvaluatesBody ns found arguments steps))
     tt _ _ r c.from_residual-in_err-id.ensures.1 c.in_err-id.ensures.none)
 
 pub returns-in-Err-NoMemory-clause-printed : goal.returns-in-Err-NoMemory-clause-printed
@@ -73,7 +73,7 @@ returns-then-not-fits-clause-printed g c =
     λ takes. let fits : c.fits.result ≡ true = (rw c.deref.ensures.value at c.fits.ensures).1 takes in absurd (cc (fits, c.if-not-fits.true)) in
     let r : Result ℕ Stop = Err (Faulty c.nowhere-then-not-fits.result) in
     after_body word arguments steps (interfaces_of (option_map now c.args.request.now.osi)) (tables_of c.args.inputs.now) ns _ m (Ok ts) _ _ r (known_texts _ _ _ _ _ c.as_slice.ensures.value c.in_ok-known.ensures.known c.in_ok-namespace.ensures) c.in_ok-id.ensures.found body
-    (given_fault (Fit ns m arguments) (λ _. Then (Gives (IsMeant ns c.in_ok-id.id.0 m (trees ts) arguments steps)) (λ o. Tells (evaluation_text ns.entries o) (outcome_status o.0)))
+    (given_fault (Fit ns m arguments) (λ _. Then (Obtains (IsMeant ns c.in_ok-id.id.0 m (trees ts) arguments steps)) (λ o. Tells (evaluation_text ns.entries o) (outcome_status o.0)))
     (tt {0}) _ (nowhere cause.ArgsDontFit) r (ap (λ f. Faulty f) c.nowhere-then-not-fits.ensures) (refuses, refl))
 
 -- the body that was read has its shape
