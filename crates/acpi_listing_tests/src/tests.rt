@@ -3,13 +3,16 @@
 
 mod calls;
 mod faults;
+mod given;
 mod names;
 mod rows;
 mod several;
 mod values;
 mod whole;
+mod worked;
 
 use acpi_listing::{RunFault, run};
+use given::ARGUMENTS;
 use hex;
 use rows::{EVAL, INPUTS, TABLES};
 use several::SEVERAL;
@@ -18,6 +21,7 @@ use std::io;
 use std::io::Write;
 use std::process::Abort;
 use std::test::Fail;
+use worked::WORKED;
 
 const TABLE_1: &str =
     "4453445430000000021f41435049434b524f57533030303101000000524f575301000000140b4d30303001a472680100";
@@ -117,19 +121,36 @@ fn evaluation(alloc: Global, words: &str, revision: u8, body: &str) -> Option<St
     format!(in alloc; "eval {words} @\n{table}\n").ok()
 }
 
-// `rt try --test --fail-alloc N` refuses the N-th growth: each test that is named for rows then still
-// passes.
-#[test]
-fn rows_of_evaluations(rt: HostRuntime) -> Result<(), Fail> {
-    let alloc = rt.alloc();
-    for (words, revision, body, text, status) in EVAL {
+// Words of `eval`, revision and body of the DSDT, what is printed, and the status.
+type Evaluation = (&'static str, u8, &'static str, &'static str, u8);
+
+// Each row prints what it says.
+fn each_prints(rt: &impl Abort, alloc: Global, rows: &[Evaluation]) -> Result<(), Fail> {
+    for (words, revision, body, text, status) in rows {
         let input = match evaluation(alloc, words, *revision, body) {
             Some(input) => input,
             None => evaluation(alloc, words, *revision, body).ok_or("an input")?,
         };
-        prints(&rt, alloc, input.as_str(), text, *status)?;
+        prints(rt, alloc, input.as_str(), text, *status)?;
     }
     Ok(())
+}
+
+// `rt try --test --fail-alloc N` refuses the N-th growth: each test that is named for rows then still
+// passes.
+#[test]
+fn rows_of_evaluations(rt: HostRuntime) -> Result<(), Fail> {
+    each_prints(&rt, rt.alloc(), EVAL)
+}
+
+#[test]
+fn rows_of_worked_evaluations(rt: HostRuntime) -> Result<(), Fail> {
+    each_prints(&rt, rt.alloc(), WORKED)
+}
+
+#[test]
+fn rows_of_evaluations_with_arguments(rt: HostRuntime) -> Result<(), Fail> {
+    each_prints(&rt, rt.alloc(), ARGUMENTS)
 }
 
 #[test]

@@ -38,11 +38,17 @@ const SUM: &[u8] = b"\x72\x01\x0a\x02\x88BUF0\x0a\x03\x00\xa4BUF0";
 /// Divide (7, 2, Index (BUF0, Zero), Index (BUF0, One)), Return (BUF0)
 const DIVISION: &[u8] = b"\x78\x0a\x07\x0a\x02\x88BUF0\x00\x00\x88BUF0\x01\x00\xa4BUF0";
 
-/// Store (Store (5, Index (BUF0, Zero)), Index (BUF0, One)), Return (BUF0)
-const TWICE: &[u8] = b"\x70\x70\x0a\x05\x88BUF0\x00\x00\x88BUF0\x01\x00\xa4BUF0";
+/// Store (Add (5, Zero, Index (BUF0, Zero)), Index (BUF0, One)), Return (BUF0)
+const TWICE: &[u8] = b"\x70\x72\x0a\x05\x00\x88BUF0\x00\x00\x88BUF0\x01\x00\xa4BUF0";
 
-/// Store (7, Index (BUF0, Store (Zero, Index (BUF0, One)))), Return (BUF0)
-const WITHIN: &[u8] = b"\x70\x0a\x07\x88BUF0\x70\x00\x88BUF0\x01\x00\x00\xa4BUF0";
+/// Store (7, Index (BUF0, Add (Zero, Zero, Index (BUF0, One)))), Return (BUF0)
+const WITHIN: &[u8] = b"\x70\x0a\x07\x88BUF0\x72\x00\x00\x88BUF0\x01\x00\x00\xa4BUF0";
+
+/// Store (Store (5, Index (BUF0, Zero)), Index (BUF0, One)), whose first Store may not stand there.
+const STORED_TWICE: &[u8] = b"\x70\x70\x0a\x05\x88BUF0\x00\x00\x88BUF0\x01\x00";
+
+/// Store (7, Index (BUF0, Store (Zero, Index (BUF0, One)))), whose second Store may not stand there.
+const STORED_WITHIN: &[u8] = b"\x70\x0a\x07\x88BUF0\x70\x00\x88BUF0\x01\x00\x00";
 
 /// Store (Increment (INT0), Index (BUF0, INT0)), Return (BUF0)
 const SOURCE_FIRST: &[u8] = b"\x70\x75INT0\x88BUF0INT0\x00\xa4BUF0";
@@ -79,10 +85,14 @@ fn rows_of_bytes_written(rt: HostRuntime) -> Result<(), Fail> {
         (SUM, 2, 6, Wanted::OutOfSteps),
         (DIVISION, 2, 9, Wanted::Buf(b"\x01\x03\x34\x12")),
         (DIVISION, 2, 8, Wanted::OutOfSteps),
-        (TWICE, 2, 9, Wanted::Buf(b"\x05\x05\x34\x12")),
-        (TWICE, 2, 8, Wanted::OutOfSteps),
-        (WITHIN, 2, 9, Wanted::Buf(b"\x07\x00\x34\x12")),
-        (WITHIN, 2, 8, Wanted::OutOfSteps),
+        (TWICE, 2, 10, Wanted::Buf(b"\x05\x05\x34\x12")),
+        (TWICE, 2, 9, Wanted::OutOfSteps),
+        (WITHIN, 2, 10, Wanted::Buf(b"\x07\x00\x34\x12")),
+        (WITHIN, 2, 9, Wanted::OutOfSteps),
+        (STORED_TWICE, 2, 2, Wanted::Error(AmlCause::Outside, 44)),
+        (STORED_TWICE, 2, 1, Wanted::OutOfSteps),
+        (STORED_WITHIN, 2, 3, Wanted::Error(AmlCause::Outside, 51)),
+        (STORED_WITHIN, 2, 2, Wanted::OutOfSteps),
         (SOURCE_FIRST, 2, 8, Wanted::Buf(b"\x78\x56\x02\x12")),
         (SOURCE_FIRST, 2, 7, Wanted::OutOfSteps),
         (CONVERTED, 2, 10, Wanted::Buf(b"\x78\x56\x01\x12")),

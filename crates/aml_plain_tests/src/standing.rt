@@ -12,8 +12,11 @@ use std::test::Fail;
 /// Return (DerefOf (Index (BUF0, Add (One, One))))
 const BY_A_SUM: &[u8] = b"\xa4\x83\x88BUF0\x72\x01\x01\x00\x00";
 
-/// Return (DerefOf (Index (BUF0, Store (Zero, Index (BUF0, Zero)))))
-const WRITTEN_BEHIND: &[u8] = b"\xa4\x83\x88BUF0\x70\x00\x88BUF0\x00\x00\x00";
+/// Return (DerefOf (Index (BUF0, Add (Zero, Zero, Index (BUF0, Zero)))))
+const WRITTEN_BEHIND: &[u8] = b"\xa4\x83\x88BUF0\x72\x00\x00\x88BUF0\x00\x00\x00";
+
+/// Return (DerefOf (Index (BUF0, Store (Zero, Index (BUF0, Zero))))), whose Store may not stand there.
+const INDEX_STORED_BEHIND: &[u8] = b"\xa4\x83\x88BUF0\x70\x00\x88BUF0\x00\x00\x00";
 
 /// Store (BUF0, Local0), Return (DerefOf (Index (Local0, Add (Zero, Zero, Local0))))
 const SUMMED_BEHIND: &[u8] = b"\x70BUF0\x60\xa4\x83\x88\x60\x72\x00\x00\x60\x00";
@@ -40,8 +43,13 @@ const CONVERTED_AND_GIVEN: &[u8] = b"\xa4\x93\x96BUF0\x60\x60";
 const OWN: &[u8] = b"\x08OWN0\x11\x04\x0a\x02\x01\xa4\x83\x88OWN0\x00\x00";
 
 /// Name (OWN0, Buffer (2) {1}),
-/// Return (DerefOf (Index (OWN0, Store (Zero, Index (OWN0, Zero)))))
+/// Return (DerefOf (Index (OWN0, Add (Zero, Zero, Index (OWN0, Zero)))))
 const OWN_WRITTEN_BEHIND: &[u8] =
+    b"\x08OWN0\x11\x04\x0a\x02\x01\xa4\x83\x88OWN0\x72\x00\x00\x88OWN0\x00\x00\x00";
+
+/// Name (OWN0, Buffer (2) {1}),
+/// Return (DerefOf (Index (OWN0, Store (Zero, Index (OWN0, Zero))))), whose Store may not stand there.
+const OWN_STORED_BEHIND: &[u8] =
     b"\x08OWN0\x11\x04\x0a\x02\x01\xa4\x83\x88OWN0\x70\x00\x88OWN0\x00\x00\x00";
 
 #[test]
@@ -49,8 +57,15 @@ fn rows_of_operands_that_stand(rt: HostRuntime) -> Result<(), Fail> {
     let rows: &[Row] = &[
         (BY_A_SUM, 2, 7, Wanted::Int(0x34)),
         (BY_A_SUM, 2, 6, Wanted::OutOfSteps),
-        (WRITTEN_BEHIND, 2, 8, Wanted::Int(0x78)),
-        (WRITTEN_BEHIND, 2, 7, Wanted::OutOfSteps),
+        (WRITTEN_BEHIND, 2, 9, Wanted::Int(0x78)),
+        (WRITTEN_BEHIND, 2, 8, Wanted::OutOfSteps),
+        (
+            INDEX_STORED_BEHIND,
+            2,
+            5,
+            Wanted::Error(AmlCause::Outside, 50),
+        ),
+        (INDEX_STORED_BEHIND, 2, 4, Wanted::OutOfSteps),
         (SUMMED_BEHIND, 2, 11, Wanted::Int(0x78)),
         (SUMMED_BEHIND, 2, 10, Wanted::OutOfSteps),
         (STORED_BEHIND, 2, 9, Wanted::Int(0)),
@@ -72,8 +87,15 @@ fn rows_of_operands_that_stand(rt: HostRuntime) -> Result<(), Fail> {
         (b"\xa4\x93STR0EMPT", 2, 4, Wanted::Int(0)),
         (OWN, 2, 7, Wanted::Int(1)),
         (OWN, 2, 6, Wanted::OutOfSteps),
-        (OWN_WRITTEN_BEHIND, 2, 10, Wanted::Int(1)),
-        (OWN_WRITTEN_BEHIND, 2, 9, Wanted::OutOfSteps),
+        (OWN_WRITTEN_BEHIND, 2, 11, Wanted::Int(1)),
+        (OWN_WRITTEN_BEHIND, 2, 10, Wanted::OutOfSteps),
+        (
+            OWN_STORED_BEHIND,
+            2,
+            7,
+            Wanted::Error(AmlCause::Outside, 60),
+        ),
+        (OWN_STORED_BEHIND, 2, 6, Wanted::OutOfSteps),
         // Return (LEqual (Local0, DerefOf (Local1))), Return (LEqual (BUF0, Local1))
         (
             b"\xa4\x93\x60\x83\x61",
