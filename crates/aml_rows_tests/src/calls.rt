@@ -1,12 +1,12 @@
-// Calls that have no value, or cannot be made: ACPI 6.5, 5.5.2.3, 19.6, External and Method. A name
-// that names nothing is told at once, also where an External gave it arguments.
+// Calls that have no value, or cannot be made: ACPI 6.5, 5.5.2.3, 19.6, External and Method. A
+// name that names nothing is told at once, also where an External gave it arguments.
 
 use crate::rows::{Row, Wanted, each_ends};
 use aml_meaning::AmlCause;
 use std::test::Fail;
 
-/// External (FOO_, MethodObj) of two arguments, Method (SETS) {Store (One, Local0)}, Method (TAKE, 1)
-/// {Return (Arg0)}, Name (INT0, One), Name (STR0, "ab"), Device (DEV0) {}.
+/// External (FOO_, MethodObj) of two arguments, Method (SETS) {Store (One, Local0)}, Method (TAKE,
+/// 1) {Return (Arg0)}, Name (INT0, One), Name (STR0, "ab"), Device (DEV0) {}.
 const OTHERS: &[u8] = b"\x15FOO_\x08\x02\x14\x09SETS\x00\x70\x01\x60\x14\x08TAKE\x01\xa4\x68\
     \x08INT0\x01\x08STR0\x0dab\x00\x5b\x82\x05DEV0";
 
@@ -132,8 +132,8 @@ fn calls_without_a_value(rt: HostRuntime) -> Result<(), Fail> {
     Ok(())
 }
 
-/// Method (DOWN, 1) {If (Arg0) {Return (DOWN (Subtract (Arg0, One)))} Return (LAST ())}, whose LAST stands at
-/// place 70 behind a MAIN of 7 bytes; and a LAST that is no list of terms.
+/// Method (DOWN, 1) {If (Arg0) {Return (DOWN (Subtract (Arg0, One)))} Return (LAST ())}, whose
+/// LAST stands at place 70 behind a MAIN of 7 bytes; and a LAST that is no list of terms.
 const TO_NO_BODY: &[u8] =
     b"\x14\x17DOWN\x01\xa0\x0b\x68\xa4DOWN\x74\x68\x01\x00\xa4LAST\x14\x07LAST\x00\xfe";
 
@@ -148,15 +148,15 @@ const WITH_AN_ARGUMENT: &[u8] =
 /// The same with LAST, which names nothing.
 const TO_NOTHING: &[u8] = b"\x14\x17DOWN\x01\xa0\x0b\x68\xa4DOWN\x74\x68\x01\x00\xa4LAST";
 
-/// Return (DOWN (62)): DOWN (0) is the 64th active method. MAIN takes 3 steps, each DOWN down to DOWN (1)
-/// seven, and DOWN (0) four with its call of LAST.
+/// Return (DOWN (62)): DOWN (0) is the 64th active method. MAIN takes 3 steps, each DOWN down to
+/// DOWN (1) seven, and DOWN (0) four with its call of LAST.
 const DEEPEST: &[u8] = b"\xa4DOWN\x0a\x3e";
 
 /// Return (DOWN (61)): DOWN (0) is the 63rd, and LAST may be the 64th.
 const LESS_DEEP: &[u8] = b"\xa4DOWN\x0a\x3d";
 
-/// What is told of a call in the 64th active method: that its name names nothing, what its arguments are, that
-/// its body is none, and then that it would be the 65th.
+/// What is told of a call in the 64th active method: that its name names nothing, what its
+/// arguments are, that its body is none, and then that it would be the 65th.
 #[test]
 fn calls_at_the_greatest_depth(rt: HostRuntime) -> Result<(), Fail> {
     let rows: &[(&[u8], &[u8], u64, Wanted)] = &[

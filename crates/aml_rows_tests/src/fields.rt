@@ -1,6 +1,6 @@
 // Fields of regions that cannot be read or written: ACPI 6.5, 5.5.2.4 and 19.6, Field, IndexField,
-// BankField and OperationRegion. Each is an error at its name, where it is read and where it is stored
-// into.
+// BankField and OperationRegion. Each is an error at its name, where it is read and where it is
+// stored into.
 
 use crate::rows::{Row, Wanted, each_ends};
 use aml_meaning::AmlCause;
@@ -24,11 +24,14 @@ const FIELDS: &[u8] = b"\x08BUF0\x11\x03\x0a\x02\x08INT0\x01\
     \x5b\x80RGNE\x00\xff\x0a\x04\x5b\x81\x0bRGNE\x01FLEN\x08\
     \x5b\x81\x15RGN0\x01FLBC\x08\x02BUF0FLCN\x08\x5b\x81\x0fRGN0\x01\x03\x01\x02\x03FLEA\x08\
     \x5b\x80RGN3\x01\x0a\x70\x0a\x03\x5b\x81\x0dRGN3\x02\x00\x10FLW1\x08\
-    \x5b\x86\x0fIDX0DAT0\x02IXWD\x08\x5b\x86\x0fINT0DAT0\x01IXIN\x08\x5b\x86\x0fIDX0MISS\x01IXMI\x08\
+    \x5b\x86\x0fIDX0DAT0\x02IXWD\x08\x5b\x86\x0fINT0DAT0\x01IXIN\x08\
+    \x5b\x86\x0fIDX0MISS\x01IXMI\x08\
     \x5b\x86\x0fFLS4DAT0\x01IXIS\x08\x5b\x86\x0fIDX0FLS4\x01IXDS\x08\
-    \x5b\x86\x0fIDX0DAT0\x01IXGD\x08\x5b\x86\x0fIDX0IXGD\x01IXIX\x08\x5b\x86\x0fIDX0DAT0\x05IXA5\x08\
+    \x5b\x86\x0fIDX0DAT0\x01IXGD\x08\x5b\x86\x0fIDX0IXGD\x01IXIX\x08\
+    \x5b\x86\x0fIDX0DAT0\x05IXA5\x08\
     \x5b\x87\x13RGN0IDX0\x72\x01\x01\x00\x01BKCV\x08\x5b\x87\x10RGN0FLS4\x01\x01BKUB\x08\
-    \x5b\x87\x10RGN0INT0\x01\x01BKIN\x08\x5b\x87\x10BUF0IDX0\x01\x01BKRG\x08\x5b\x87\x10RGN4IDX0\x01\x01BKR4\x08\
+    \x5b\x87\x10RGN0INT0\x01\x01BKIN\x08\x5b\x87\x10BUF0IDX0\x01\x01BKRG\x08\
+    \x5b\x87\x10RGN4IDX0\x01\x01BKR4\x08\
     \x5b\x87\x10RGN0IXGD\x01\x01BKIX\x08\x5b\x87\x10RGN0IDX0\x01\x05BKA5\x08";
 
 /// Of each field Return (it) and Store (One, it).
@@ -131,9 +134,10 @@ fn fields_that_are_not_sound(rt: HostRuntime) -> Result<(), Fail> {
     Ok(())
 }
 
-/// Of each field Return (it) and Store (One, it).
+/// Of each field Return (it) and Store (One, it); then where such a field is asked at all.
 #[test]
 fn index_and_bank_fields_that_are_not_sound(rt: HostRuntime) -> Result<(), Fail> {
+    let kind = |at| Wanted::Error(AmlCause::Kind, at);
     let region = |at| Wanted::Error(AmlCause::Region, at);
     let rows: &[Row] = &[
         // an index field by words whose data field has a byte
@@ -206,16 +210,6 @@ fn index_and_bank_fields_that_are_not_sound(rt: HostRuntime) -> Result<(), Fail>
         (b"\xa4BKA5", 1, Wanted::OutOfSteps),
         (b"\x70\x01BKA5", 3, region(45)),
         (b"\x70\x01BKA5", 2, Wanted::OutOfSteps),
-    ];
-    each_ends(&rt, rt.alloc(), FIELDS, rows)?;
-    Ok(())
-}
-
-#[test]
-fn where_fields_are_asked(rt: HostRuntime) -> Result<(), Fail> {
-    let kind = |at| Wanted::Error(AmlCause::Kind, at);
-    let region = |at| Wanted::Error(AmlCause::Region, at);
-    let rows: &[Row] = &[
         // Store ("A", FLS4), Increment (FLS4), Add (FLS4, Local0), Store (FLS4, Local0)
         (b"\x70\x0dA\x00FLS4", 3, region(47)),
         (b"\x70\x0dA\x00FLS4", 2, Wanted::OutOfSteps),

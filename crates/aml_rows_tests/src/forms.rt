@@ -1,19 +1,42 @@
-// Forms that firmware uses: a Switch as it is compiled, what the system tells as data, and aliases.
-// ACPI 6.5, 5.3.1, 5.7 and 19.6, Alias, Switch.
+// Forms that firmware uses: a Switch as it is compiled, what the system tells as data, and
+// aliases. ACPI 6.5, 5.3.1, 5.7 and 19.6, Alias, Switch.
 
 use crate::rows::{Row, Wanted, each_ends};
 use aml_meaning::AmlCause;
 use std::test::Fail;
 
-/// What `iasl` writes of Method (MORE, 1, Serialized) {Switch (Arg0) {Case (1) {Return (0x11)}, Case (2) {Store
-/// (0x22, Local0)}, Default {Store (0x33, Local0)}} Return (Local0)}; and of Method (PICK, 1) with Switch
-/// (ToInteger (Arg0)) and Package () {2, 3} as its second case: an own name, and a While (One) with a Break.
+/// What `iasl` writes of Method (MORE, 1, Serialized) {Switch (Arg0) {Case (1) {Return (0x11)},
+/// Case (2) {Store (0x22, Local0)}, Default {Store (0x33, Local0)}} Return (Local0)}; and of
+/// Method (PICK, 1) with Switch (ToInteger (Arg0)) and Package () {2, 3} as its second case: an
+/// own name, and a While (One) with a Break.
 const SWITCHES: &[u8] = b"\x14\x38MORE\x09\x08_T_0\x00\xa2\x29\x01\x70\x68_T_0\
     \xa0\x0a\x93_T_0\x01\xa4\x0a\x11\xa1\x14\xa0\x0c\x93_T_0\x0a\x02\x70\x0a\x22\x60\
     \xa1\x05\x70\x0a\x33\x60\xa5\xa4\x60\
     \x14\x47\x04PICK\x09\x08_T_0\x00\xa2\x37\x01\x70\x99\x68\x00_T_0\
     \xa0\x0a\x93_T_0\x01\xa4\x0a\x11\xa1\x20\xa0\x18\x92\x93\x89\x12\x06\x02\x0a\x02\x0a\x03\x01\
     _T_0\x00\x00\x00\xff\x70\x0a\x22\x60\xa1\x05\x70\x0a\x33\x60\xa5\xa4\x60";
+
+/// Store (One, Local0), While (One) {If (LEqual (Local0, One)) {Store (0x11, Local1)} Else {If
+/// (LEqual (Local0, 2)) {Store (0x22, Local1)} Else {Store (0x33, Local1)}} Break}, Return
+/// (Local1); with the byte literal 1.
+const FIRST_CASE: &[u8] =
+    b"\x70\x0a\x01\x60\xa2\x1e\x01\xa0\x08\x93\x60\x01\x70\x0a\x11\x61\xa1\x11\xa0\x09\
+    \x93\x60\x0a\x02\x70\x0a\x22\x61\xa1\x05\x70\x0a\x33\x61\xa5\xa4\x61";
+
+/// The same with 2.
+const SECOND_CASE: &[u8] =
+    b"\x70\x0a\x02\x60\xa2\x1e\x01\xa0\x08\x93\x60\x01\x70\x0a\x11\x61\xa1\x11\xa0\x09\
+    \x93\x60\x0a\x02\x70\x0a\x22\x61\xa1\x05\x70\x0a\x33\x61\xa5\xa4\x61";
+
+/// The same with 3.
+const NO_CASE: &[u8] =
+    b"\x70\x0a\x03\x60\xa2\x1e\x01\xa0\x08\x93\x60\x01\x70\x0a\x11\x61\xa1\x11\xa0\x09\
+    \x93\x60\x0a\x02\x70\x0a\x22\x61\xa1\x05\x70\x0a\x33\x61\xa5\xa4\x61";
+
+/// The same with "a", of which the first case asks whether it is One.
+const TEXT: &[u8] =
+    b"\x70\x0da\x00\x60\xa2\x1e\x01\xa0\x08\x93\x60\x01\x70\x0a\x11\x61\xa1\x11\xa0\x09\
+    \x93\x60\x0a\x02\x70\x0a\x22\x61\xa1\x05\x70\x0a\x33\x61\xa5\xa4\x61";
 
 #[test]
 fn switches(rt: HostRuntime) -> Result<(), Fail> {
@@ -37,60 +60,16 @@ fn switches(rt: HostRuntime) -> Result<(), Fail> {
             Wanted::Error(AmlCause::Outside, 149),
         ),
         (b"\xa4PICK\x0a\x02", 18, Wanted::OutOfSteps),
+        (FIRST_CASE, 15, Wanted::Int(0x11)),
+        (FIRST_CASE, 14, Wanted::OutOfSteps),
+        (SECOND_CASE, 19, Wanted::Int(0x22)),
+        (SECOND_CASE, 18, Wanted::OutOfSteps),
+        (NO_CASE, 19, Wanted::Int(0x33)),
+        (NO_CASE, 18, Wanted::OutOfSteps),
+        (TEXT, 9, Wanted::Error(AmlCause::Kind, 55)),
+        (TEXT, 8, Wanted::OutOfSteps),
     ];
     each_ends(&rt, rt.alloc(), SWITCHES, rows)?;
-    Ok(())
-}
-
-#[test]
-fn chains_of_cases(rt: HostRuntime) -> Result<(), Fail> {
-    let rows: &[Row] = &[
-        // Store (X, Local0), While (One) {If (LEqual (Local0, One)) {Store (0x11, Local1)} Else
-        // {If (LEqual (Local0, 2)) {Store (0x22, Local1)} Else {Store (0x33, Local1)}} Break}
-        // Return (Local1), with X as 1, 2, 3
-        (
-            b"\x70\x0a\x01\x60\xa2\x1e\x01\xa0\x08\x93\x60\x01\x70\x0a\x11\x61\xa1\x11\xa0\x09\x93\x60\x0a\x02\x70\x0a\x22\x61\xa1\x05\x70\x0a\x33\x61\xa5\xa4\x61",
-            15,
-            Wanted::Int(0x11),
-        ),
-        (
-            b"\x70\x0a\x01\x60\xa2\x1e\x01\xa0\x08\x93\x60\x01\x70\x0a\x11\x61\xa1\x11\xa0\x09\x93\x60\x0a\x02\x70\x0a\x22\x61\xa1\x05\x70\x0a\x33\x61\xa5\xa4\x61",
-            14,
-            Wanted::OutOfSteps,
-        ),
-        (
-            b"\x70\x0a\x02\x60\xa2\x1e\x01\xa0\x08\x93\x60\x01\x70\x0a\x11\x61\xa1\x11\xa0\x09\x93\x60\x0a\x02\x70\x0a\x22\x61\xa1\x05\x70\x0a\x33\x61\xa5\xa4\x61",
-            19,
-            Wanted::Int(0x22),
-        ),
-        (
-            b"\x70\x0a\x02\x60\xa2\x1e\x01\xa0\x08\x93\x60\x01\x70\x0a\x11\x61\xa1\x11\xa0\x09\x93\x60\x0a\x02\x70\x0a\x22\x61\xa1\x05\x70\x0a\x33\x61\xa5\xa4\x61",
-            18,
-            Wanted::OutOfSteps,
-        ),
-        (
-            b"\x70\x0a\x03\x60\xa2\x1e\x01\xa0\x08\x93\x60\x01\x70\x0a\x11\x61\xa1\x11\xa0\x09\x93\x60\x0a\x02\x70\x0a\x22\x61\xa1\x05\x70\x0a\x33\x61\xa5\xa4\x61",
-            19,
-            Wanted::Int(0x33),
-        ),
-        (
-            b"\x70\x0a\x03\x60\xa2\x1e\x01\xa0\x08\x93\x60\x01\x70\x0a\x11\x61\xa1\x11\xa0\x09\x93\x60\x0a\x02\x70\x0a\x22\x61\xa1\x05\x70\x0a\x33\x61\xa5\xa4\x61",
-            18,
-            Wanted::OutOfSteps,
-        ),
-        // the same with "a" as X: the first case asks for an integer
-        (
-            b"\x70\x0da\x00\x60\xa2\x1e\x01\xa0\x08\x93\x60\x01\x70\x0a\x11\x61\xa1\x11\xa0\x09\x93\x60\x0a\x02\x70\x0a\x22\x61\xa1\x05\x70\x0a\x33\x61\xa5\xa4\x61",
-            9,
-            Wanted::Error(AmlCause::Kind, 55),
-        ),
-        (
-            b"\x70\x0da\x00\x60\xa2\x1e\x01\xa0\x08\x93\x60\x01\x70\x0a\x11\x61\xa1\x11\xa0\x09\x93\x60\x0a\x02\x70\x0a\x22\x61\xa1\x05\x70\x0a\x33\x61\xa5\xa4\x61",
-            8,
-            Wanted::OutOfSteps,
-        ),
-    ];
-    each_ends(&rt, rt.alloc(), &[], rows)?;
     Ok(())
 }
 
@@ -134,8 +113,8 @@ fn predefined_names_as_data(rt: HostRuntime) -> Result<(), Fail> {
     Ok(())
 }
 
-/// Name (INT0, One), Name (BUF0, Buffer (4) {0x78, 0x56, 0x34, 0x12}), Device (DEV0) {}, Alias (INT0, ALI0),
-/// Alias (ALI0, ALI1), Alias (BUF0, ALB0), Alias (DEV0, ALDV), Alias (_OSI, ALOS).
+/// Name (INT0, One), Name (BUF0, Buffer (4) {0x78, 0x56, 0x34, 0x12}), Device (DEV0) {}, Alias
+/// (INT0, ALI0), Alias (ALI0, ALI1), Alias (BUF0, ALB0), Alias (DEV0, ALDV), Alias (_OSI, ALOS).
 const ALIASES: &[u8] = b"\x08INT0\x01\x08BUF0\x11\x07\x0a\x04\x78\x56\x34\x12\x5b\x82\x05DEV0\
     \x06INT0ALI0\x06ALI0ALI1\x06BUF0ALB0\x06DEV0ALDV\x06_OSIALOS";
 

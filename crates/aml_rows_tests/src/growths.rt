@@ -1,5 +1,6 @@
-// What names hold where memory is wanted within an evaluation: what they hold behind some number of its steps.
-// The states that each evaluation goes through were worked out by hand (ACPI 6.5, 19.6, Store).
+// What names hold where memory is wanted within an evaluation: what they hold behind some number
+// of its steps. The states that each evaluation goes through were worked out by hand (ACPI 6.5,
+// 19.6, Store).
 
 use crate::rows::{Wanted, ends, first_names, gives, outcome_in};
 use acpi_samples::{HOST, table_of};
@@ -47,8 +48,8 @@ fn are_in_last(names: &Names, states: &[State]) -> bool {
     }
 }
 
-/// A row is evaluated: its outcome is the wanted one and names are in the last state then; or memory is
-/// wanted, and they are in one of the states.
+/// A row is evaluated: its outcome is the wanted one and names are in the last state then; or
+/// memory is wanted, and they are in one of the states.
 fn is_evaluated(rt: &impl Abort, alloc: Global, row: Row) -> Result<(), LoadFault> {
     let (module, number, fuel, wanted, states) = row;
     let table = table_of(alloc, *b"DSDT", 2, module)?;
@@ -80,7 +81,8 @@ fn each_is_evaluated(rt: &impl Abort, alloc: Global, rows: &[Row]) -> Result<(),
     Ok(())
 }
 
-/// Method (AAAA) {Return (BBBB ())}, Method (BBBB) {Return (AAAA ())}, Method (CCCC) {Return (AAAA ())}.
+/// Method (AAAA) {Return (BBBB ())}, Method (BBBB) {Return (AAAA ())}, Method (CCCC) {Return (AAAA
+/// ())}.
 const ONE_ANOTHER: &[u8] =
     b"\x14\x0bAAAA\x00\xa4BBBB\x14\x0bBBBB\x00\xa4AAAA\x14\x0bCCCC\x00\xa4AAAA";
 
@@ -154,8 +156,8 @@ fn rows_of_integers_refused_in_turn(rt: HostRuntime) -> Result<(), Fail> {
     Ok(())
 }
 
-/// Name (BUF0, Buffer (16) {}), Method (MAIN) {Store (Zero, Local0)
-/// While (LLess (Local0, 16)) {Store (Local0, Index (BUF0, Local0)) Increment (Local0)} Return (BUF0)}.
+/// Name (BUF0, Buffer (16) {}), Method (MAIN) {Store (Zero, Local0) While (LLess (Local0, 16))
+/// {Store (Local0, Index (BUF0, Local0)) Increment (Local0)} Return (BUF0)}.
 const FILLED: &[u8] = b"\x08BUF0\x11\x03\x0a\x10\x14\x1fMAIN\x00\x70\x00\x60\
     \xa2\x10\x95\x60\x0a\x10\x70\x60\x88BUF0\x60\x00\x75\x60\xa4BUF0";
 
@@ -228,8 +230,8 @@ fn rows_of_a_filled_buffer_refused_in_turn(rt: HostRuntime) -> Result<(), Fail> 
     let rows: &[Row] = &[
         (FILLED, 10, 169, Wanted::Buf(ALL), BYTES),
         (FILLED, 10, 168, Wanted::OutOfSteps, BYTES),
-        // a turn costs 10 steps: its test 3, the store of a byte 4 and the Increment 3; four come before
-        // the first
+        // a turn costs 10 steps: its test 3, the store of a byte 4 and the Increment 3; four come
+        // before the first
         (FILLED, 10, 31, Wanted::OutOfSteps, &BYTES[..3]),
         (FILLED, 10, 30, Wanted::OutOfSteps, &BYTES[..2]),
     ];
@@ -237,11 +239,10 @@ fn rows_of_a_filled_buffer_refused_in_turn(rt: HostRuntime) -> Result<(), Fail> 
     Ok(())
 }
 
-/// Method (MAIN) {Store (MAKE (One), Local0) Store (DerefOf (Index (Local0, Zero)), BUF0)
-/// Store (MAKE (2), Local1) Store (DerefOf (Index (Local1, One)), STR0)
-/// Return (DerefOf (Index (Local1, Zero)))},
-/// Name (CNT0, Zero), Name (BUF0, Buffer (2) {}), Name (STR0, "ab"),
-/// Method (MAKE, 1) {Add (CNT0, Arg0, CNT0) Return (Package (3) {Buffer (2) {1, 2}, "xy", Package (1) {7}})}.
+/// Method (MAIN) {Store (MAKE (One), Local0) Store (DerefOf (Index (Local0, Zero)), BUF0) Store
+/// (MAKE (2), Local1) Store (DerefOf (Index (Local1, One)), STR0) Return (DerefOf (Index (Local1,
+/// Zero)))}, Name (CNT0, Zero), Name (BUF0, Buffer (2) {}), Name (STR0, "ab"), Method (MAKE, 1)
+/// {Add (CNT0, Arg0, CNT0) Return (Package (3) {Buffer (2) {1, 2}, "xy", Package (1) {7}})}.
 const CALLED: &[u8] = b"\x14\x2fMAIN\x00\x70MAKE\x01\x60\x70\x83\x88\x60\x00\x00BUF0\
     \x70MAKE\x0a\x02\x61\x70\x83\x88\x61\x01\x00STR0\xa4\x83\x88\x61\x00\x00\
     \x08CNT0\x00\x08BUF0\x11\x03\x0a\x02\x08STR0\x0dab\x00\

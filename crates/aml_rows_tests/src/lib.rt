@@ -1,5 +1,5 @@
-//! Rows of methods from the bytes of their tables, worked out from the text of ACPI 6.5: what each gives, what
-//! it costs, and which error comes first.
+//! Rows of methods from the bytes of their tables, worked out from the text of ACPI 6.5: what each
+//! gives, what it costs, and which error comes first.
 #![tactic(auto)]
 
 #[cfg(test)]

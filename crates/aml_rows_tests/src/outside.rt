@@ -1,12 +1,12 @@
-// Operators and definitions that have no meaning in a body: each takes its one step, and errs at its
-// opcode; nothing in it is evaluated. In which order that is told: ACPI 6.5, 19.6 and 20.2.5.
+// Operators and definitions that have no meaning in a body: each takes its one step, and errs at
+// its opcode; nothing in it is evaluated. In which order that is told: ACPI 6.5, 19.6 and 20.2.5.
 
 use crate::rows::{Row, Wanted, each_ends};
 use aml_meaning::AmlCause;
 use std::test::Fail;
 
 #[test]
-fn operators_with_a_value(rt: HostRuntime) -> Result<(), Fail> {
+fn operators(rt: HostRuntime) -> Result<(), Fail> {
     let outside = |at| Wanted::Error(AmlCause::Outside, at);
     let rows: &[Row] = &[
         // Return (RefOf (Local0))
@@ -43,7 +43,7 @@ fn operators_with_a_value(rt: HostRuntime) -> Result<(), Fail> {
             1,
             Wanted::OutOfSteps,
         ),
-        // Return (Load (FOO_, Local0), where nothing has that name)
+        // Return (Load (FOO_, Local0)), where nothing has that name
         (b"\xa4\x5b\x20FOO_\x60", 2, outside(44)),
         (b"\xa4\x5b\x20FOO_\x60", 1, Wanted::OutOfSteps),
         // Return (Acquire (_GL_, 0xffff))
@@ -64,15 +64,6 @@ fn operators_with_a_value(rt: HostRuntime) -> Result<(), Fail> {
         // Return (Revision)
         (b"\xa4\x5b\x30", 2, outside(44)),
         (b"\xa4\x5b\x30", 1, Wanted::OutOfSteps),
-    ];
-    each_ends(&rt, rt.alloc(), &[], rows)?;
-    Ok(())
-}
-
-#[test]
-fn statements(rt: HostRuntime) -> Result<(), Fail> {
-    let outside = |at| Wanted::Error(AmlCause::Outside, at);
-    let rows: &[Row] = &[
         // Signal (Local0)
         (b"\x5b\x24\x60", 1, outside(43)),
         (b"\x5b\x24\x60", 0, Wanted::OutOfSteps),

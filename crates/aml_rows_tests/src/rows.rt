@@ -98,7 +98,8 @@ pub(crate) fn outcome_in(
     }
 }
 
-/// The outcome of a method MAIN of this body, before other definitions. The body begins at place 43.
+/// The outcome of a method MAIN of this body, before other definitions. The body begins at place
+/// 43.
 fn outcome_before(
     rt: &impl Abort,
     alloc: Global,
@@ -118,8 +119,8 @@ fn outcome_before(
 /// A body, steps, and what is wanted.
 pub(crate) type Row = (&'static [u8], u64, Wanted);
 
-/// Each row's outcome, before other definitions, is the wanted one; asked again where memory is wanted
-/// the first time.
+/// Each row's outcome, before other definitions, is the wanted one; asked again where memory is
+/// wanted the first time.
 pub(crate) fn each_ends(
     rt: &impl Abort,
     alloc: Global,

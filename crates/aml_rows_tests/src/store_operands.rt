@@ -1,20 +1,20 @@
-// Store where its value is wanted: it may go to a local, an argument, the debugger or nowhere (ACPI
-// 6.5, 19.6, Store). Anywhere else it takes its step and errs at its opcode, before its source is
-// evaluated.
+// Store where its value is wanted: it may go to a local, an argument, the debugger or nowhere
+// (ACPI 6.5, 19.6, Store). Anywhere else it takes its step and errs at its opcode, before its
+// source is evaluated.
 
 use crate::rows::{Row, Wanted, each_ends};
 use aml_meaning::AmlCause;
 use std::test::Fail;
 
-/// Name (BUF0, Buffer (4) {0x78, 0x56, 0x34, 0x12}), Name (INT0, One), Name (STR0, "ab"), Device (DEV0) {},
-/// CreateByteField (BUF0, 0, BYT0), OperationRegion (RGN0, SystemIO, 0x70, 4), Field (RGN0, ByteAcc,
-/// NoLock, Preserve) {FLD0, 8}, Method (TAKE, 1) {Return (Arg0)}.
+/// Name (BUF0, Buffer (4) {0x78, 0x56, 0x34, 0x12}), Name (INT0, One), Name (STR0, "ab"), Device
+/// (DEV0) {}, CreateByteField (BUF0, 0, BYT0), OperationRegion (RGN0, SystemIO, 0x70, 4), Field
+/// (RGN0, ByteAcc, NoLock, Preserve) {FLD0, 8}, Method (TAKE, 1) {Return (Arg0)}.
 const OTHERS: &[u8] = b"\x08BUF0\x11\x07\x0a\x04\x78\x56\x34\x12\x08INT0\x01\x08STR0\x0dab\x00\
     \x5b\x82\x05DEV0\x8cBUF0\x00BYT0\x5b\x80RGN0\x01\x0a\x70\x0a\x04\
     \x5b\x81\x0bRGN0\x01FLD0\x08\x14\x08TAKE\x01\xa4\x68";
 
 #[test]
-fn to_what_may_not_stand(rt: HostRuntime) -> Result<(), Fail> {
+fn stores_that_may_not_stand(rt: HostRuntime) -> Result<(), Fail> {
     let outside = |at| Wanted::Error(AmlCause::Outside, at);
     let rows: &[Row] = &[
         // Return (Store (Local0, X)) of INT0, STR0, BUF0, FLD0, BYT0, Index (BUF0, Local1)
@@ -56,15 +56,6 @@ fn to_what_may_not_stand(rt: HostRuntime) -> Result<(), Fail> {
         (b"\xa4\x70\x5b\x33INT0", 1, Wanted::OutOfSteps),
         (b"\xa4\x70FOO_FLD0", 2, outside(44)),
         (b"\xa4\x70FOO_FLD0", 1, Wanted::OutOfSteps),
-    ];
-    each_ends(&rt, rt.alloc(), OTHERS, rows)?;
-    Ok(())
-}
-
-#[test]
-fn wherever_a_value_is_wanted(rt: HostRuntime) -> Result<(), Fail> {
-    let outside = |at| Wanted::Error(AmlCause::Outside, at);
-    let rows: &[Row] = &[
         // Add (Store (Local0, INT0), One), Add (One, Store (Local0, INT0))
         (b"\x72\x70\x60INT0\x01\x00", 2, outside(44)),
         (b"\x72\x70\x60INT0\x01\x00", 1, Wanted::OutOfSteps),
@@ -122,7 +113,7 @@ fn wherever_a_value_is_wanted(rt: HostRuntime) -> Result<(), Fail> {
 }
 
 #[test]
-fn to_what_may_stand(rt: HostRuntime) -> Result<(), Fail> {
+fn stores_that_may_stand(rt: HostRuntime) -> Result<(), Fail> {
     let unset = |at| Wanted::Error(AmlCause::Unset, at);
     let rows: &[Row] = &[
         // Return (Store (7, X)) of Local0, Arg0, none, Debug
@@ -180,14 +171,6 @@ fn to_what_may_stand(rt: HostRuntime) -> Result<(), Fail> {
             6,
             Wanted::OutOfSteps,
         ),
-    ];
-    each_ends(&rt, rt.alloc(), OTHERS, rows)?;
-    Ok(())
-}
-
-#[test]
-fn as_statements(rt: HostRuntime) -> Result<(), Fail> {
-    let rows: &[Row] = &[
         // Store (5, INT0), Return (INT0), and with the Store in an If, an Else and a While
         (b"\x70\x0a\x05INT0\xa4INT0", 5, Wanted::Int(5)),
         (b"\x70\x0a\x05INT0\xa4INT0", 4, Wanted::OutOfSteps),

@@ -1,10 +1,12 @@
-// Rows of `eval` whose arguments are buffers, strings and packages, worked out from the text of ACPI 6.5,
-// 19.6, step by step.
+// Rows of `eval` whose arguments are buffers, strings and packages, worked out from the text of
+// ACPI 6.5, 19.6, step by step.
 
 use super::Evaluation;
 
 const M030: &str = "14084d30333001a468";
+
 const M031: &str = "14114d3033310373686960a4728760876a00";
+
 const M032: &str = "140c4d30333202a48388686900";
 
 /// Words of `eval`, revision and body of the DSDT, what is printed, and the status.
