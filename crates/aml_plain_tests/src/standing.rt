@@ -117,6 +117,61 @@ fn rows_of_operands_that_stand(rt: HostRuntime) -> Result<(), Fail> {
     Ok(())
 }
 
+/// Store (STR0, Local0), Concatenate (Local0, "x", Local0), Return (Local0)
+const LONGER: &[u8] = b"\x70STR0\x60\x73\x60\x0dx\x00\x60\xa4\x60";
+
+/// Store (BUF0, Local0), Concatenate (Local0, Buffer (1) {7}, Local0), Return (Local0)
+const LONGER_BUFFER: &[u8] = b"\x70BUF0\x60\x73\x60\x11\x03\x01\x07\x60\xa4\x60";
+
+/// Store (STR0, Local0), Concatenate (Local0, Buffer (1) {7}, Local0)
+const OF_TWO_KINDS: &[u8] = b"\x70STR0\x60\x73\x60\x11\x03\x01\x07\x60";
+
+/// Store (STR0, Local0), Concatenate (Local0, "x", Local1), Return (Concatenate (Local0, Local1))
+const INTO_ANOTHER: &[u8] = b"\x70STR0\x60\x73\x60\x0dx\x00\x61\xa4\x73\x60\x61\x00";
+
+/// Store (STR0, Local0), Return (Concatenate (Local0, "x", Local0))
+const AS_OPERAND: &[u8] = b"\x70STR0\x60\xa4\x73\x60\x0dx\x00\x60";
+
+/// Store (STR0, Local0), Concatenate ("x", Local0, Local0), Return (Local0)
+const BEHIND: &[u8] = b"\x70STR0\x60\x73\x0dx\x00\x60\x60\xa4\x60";
+
+/// Concatenate (Local0, "x", Local0)
+const OF_NOTHING: &[u8] = b"\x73\x60\x0dx\x00\x60";
+
+/// Store (One, Local0), Concatenate (Local0, "x", Local0)
+const OF_AN_INTEGER: &[u8] = b"\x70\x01\x60\x73\x60\x0dx\x00\x60";
+
+/// Store (BUF0, Local0), Store (Zero, Local1),
+/// While (LLess (Local1, 14)) {Concatenate (Local0, Local0, Local0), Increment (Local1)},
+/// Concatenate (Local0, Buffer (1) {7}, Local0), one byte more than a buffer may have
+const TOO_LONG: &[u8] = b"\x70BUF0\x60\x70\x00\x61\xa2\x0b\x95\x61\x0a\x0e\x73\x60\x60\x60\x75\x61\
+    \x73\x60\x11\x03\x01\x07\x60";
+
+/// The first operand of a Concatenate stands in the local that is its target: it may grow there.
+#[test]
+fn rows_of_locals_that_grow(rt: HostRuntime) -> Result<(), Fail> {
+    let rows: &[Row] = &[
+        (LONGER, 2, 9, Wanted::Str(b"abx")),
+        (LONGER, 2, 8, Wanted::OutOfSteps),
+        (LONGER, 2, 6, Wanted::OutOfSteps),
+        (LONGER_BUFFER, 2, 9, Wanted::Buf(b"\x78\x56\x34\x12\x07")),
+        (OF_TWO_KINDS, 2, 6, Wanted::Error(AmlCause::Kind, 51)),
+        (OF_TWO_KINDS, 2, 5, Wanted::OutOfSteps),
+        (OF_TWO_KINDS, 2, 9, Wanted::Error(AmlCause::Kind, 51)),
+        (INTO_ANOTHER, 2, 11, Wanted::Str(b"ababx")),
+        (INTO_ANOTHER, 2, 10, Wanted::OutOfSteps),
+        (AS_OPERAND, 2, 8, Wanted::Str(b"abx")),
+        (AS_OPERAND, 2, 7, Wanted::OutOfSteps),
+        (BEHIND, 2, 9, Wanted::Str(b"xab")),
+        (OF_NOTHING, 2, 2, Wanted::Error(AmlCause::Unset, 44)),
+        (OF_AN_INTEGER, 2, 6, Wanted::Error(AmlCause::Kind, 47)),
+        (TOO_LONG, 2, 153, Wanted::Error(AmlCause::Outside, 64)),
+        (TOO_LONG, 2, 152, Wanted::OutOfSteps),
+    ];
+    each_ends(&rt, rt.alloc(), rows)?;
+    Ok(())
+}
+
 /// Name (BUFX, Buffer (2) {}), which holds bytes 7 then,
 /// Method (SETX) {Store (Zero, Index (BUFX, Zero)), Return (Zero)},
 /// Method (SECO, 1) {Return (DerefOf (Index (Arg0, One)))},
