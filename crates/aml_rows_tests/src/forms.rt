@@ -181,3 +181,153 @@ fn aliases(rt: HostRuntime) -> Result<(), Fail> {
     each_ends(&rt, rt.alloc(), ALIASES, rows)?;
     Ok(())
 }
+
+/// Name (STR0, "ab"), Name (BUF0, Buffer (2) {}), Method (APND, 1) {Concatenate (Arg0, "c", Arg0)
+/// Return (Arg0)}.
+const STRINGS: &[u8] = b"\x08STR0\x0dab\x00\x08BUF0\x11\x03\x0a\x02\
+    \x14\x0eAPND\x01\x73\x68\x0dc\x00\x68\xa4\x68";
+
+/// What Concatenate makes of its own first operand. Each body whose row begins with a local
+/// begins with Store (STR0, Local0).
+#[test]
+fn strings_appended(rt: HostRuntime) -> Result<(), Fail> {
+    let kind = |at| Wanted::Error(AmlCause::Kind, at);
+    let unset = |at| Wanted::Error(AmlCause::Unset, at);
+    let rows: &[Row] = &[
+        // Concatenate (Local0, "c", Local0), Return (Local0); then with Local1 as the target
+        (
+            b"\x70STR0\x60\x73\x60\x0dc\x00\x60\xa4\x60",
+            9,
+            Wanted::Str(b"abc"),
+        ),
+        (
+            b"\x70STR0\x60\x73\x60\x0dc\x00\x60\xa4\x60",
+            8,
+            Wanted::OutOfSteps,
+        ),
+        (
+            b"\x70STR0\x60\x73\x60\x0dc\x00\x61\xa4\x60",
+            9,
+            Wanted::Str(b"ab"),
+        ),
+        (
+            b"\x70STR0\x60\x73\x60\x0dc\x00\x61\xa4\x60",
+            8,
+            Wanted::OutOfSteps,
+        ),
+        // Return (LEqual (Concatenate (Local0, "c", Local0), Local0))
+        (
+            b"\x70STR0\x60\xa4\x93\x73\x60\x0dc\x00\x60\x60",
+            10,
+            Wanted::Int(u64::MAX),
+        ),
+        (
+            b"\x70STR0\x60\xa4\x93\x73\x60\x0dc\x00\x60\x60",
+            9,
+            Wanted::OutOfSteps,
+        ),
+        // Concatenate (Local0, Concatenate (Local0, "c", Local0), Local0), Return (Local0): the
+        // first operand is what it was before the second
+        (
+            b"\x70STR0\x60\x73\x60\x73\x60\x0dc\x00\x60\x60\xa4\x60",
+            12,
+            Wanted::Str(b"ababc"),
+        ),
+        (
+            b"\x70STR0\x60\x73\x60\x73\x60\x0dc\x00\x60\x60\xa4\x60",
+            11,
+            Wanted::OutOfSteps,
+        ),
+        // Concatenate (Local0, Store ("c", Local0), Local0), Return (Local0); Concatenate (Store
+        // ("c", Local0), Local0, Local0), Return (Local0)
+        (
+            b"\x70STR0\x60\x73\x60\x70\x0dc\x00\x60\x60\xa4\x60",
+            11,
+            Wanted::Str(b"abc"),
+        ),
+        (
+            b"\x70STR0\x60\x73\x60\x70\x0dc\x00\x60\x60\xa4\x60",
+            10,
+            Wanted::OutOfSteps,
+        ),
+        (
+            b"\x70STR0\x60\x73\x70\x0dc\x00\x60\x60\x60\xa4\x60",
+            11,
+            Wanted::Str(b"cc"),
+        ),
+        (
+            b"\x70STR0\x60\x73\x70\x0dc\x00\x60\x60\x60\xa4\x60",
+            10,
+            Wanted::OutOfSteps,
+        ),
+        // Store (Local0, Local1), Concatenate (Local0, "c", Local0), Return (Local1)
+        (
+            b"\x70STR0\x60\x70\x60\x61\x73\x60\x0dc\x00\x60\xa4\x61",
+            12,
+            Wanted::Str(b"ab"),
+        ),
+        (
+            b"\x70STR0\x60\x70\x60\x61\x73\x60\x0dc\x00\x60\xa4\x61",
+            11,
+            Wanted::OutOfSteps,
+        ),
+        // Store (APND (Local0), Local1), Return (Concatenate (Local0, Local1)), and Return (APND
+        // (STR0))
+        (
+            b"\x70STR0\x60\x70APND\x60\x61\xa4\x73\x60\x61\x00",
+            17,
+            Wanted::Str(b"ababc"),
+        ),
+        (
+            b"\x70STR0\x60\x70APND\x60\x61\xa4\x73\x60\x61\x00",
+            16,
+            Wanted::OutOfSteps,
+        ),
+        (b"\xa4APNDSTR0", 9, Wanted::Str(b"abc")),
+        (b"\xa4APNDSTR0", 8, Wanted::OutOfSteps),
+        // Concatenate (Local0, BUF0, Local0), Concatenate (Local0, Local1, Local0), Concatenate
+        // (Local1, STR0, Local1)
+        (b"\x70STR0\x60\x73\x60BUF0\x60", 6, kind(51)),
+        (b"\x70STR0\x60\x73\x60BUF0\x60", 5, Wanted::OutOfSteps),
+        (b"\x70STR0\x60\x73\x60\x61\x60", 6, unset(51)),
+        (b"\x70STR0\x60\x73\x60\x61\x60", 5, Wanted::OutOfSteps),
+        (b"\x73\x61STR0\x61", 2, unset(44)),
+        (b"\x73\x61STR0\x61", 1, Wanted::OutOfSteps),
+        // Concatenate (STR0, "", STR0), Return (STR0); Concatenate (STR0, "c", STR0), which is
+        // longer than the name's strings
+        (b"\x73STR0\x0d\x00STR0\xa4STR0", 6, Wanted::Str(b"ab")),
+        (b"\x73STR0\x0d\x00STR0\xa4STR0", 5, Wanted::OutOfSteps),
+        (b"\x73STR0\x0dc\x00STR0", 4, kind(51)),
+        (b"\x73STR0\x0dc\x00STR0", 3, Wanted::OutOfSteps),
+        // Name (OWN0, "ab"), Concatenate (OWN0, "", OWN0), Return (OWN0); and with "c"
+        (
+            b"\x08OWN0\x0dab\x00\x73OWN0\x0d\x00OWN0\xa4OWN0",
+            8,
+            Wanted::Str(b"ab"),
+        ),
+        (
+            b"\x08OWN0\x0dab\x00\x73OWN0\x0d\x00OWN0\xa4OWN0",
+            7,
+            Wanted::OutOfSteps,
+        ),
+        (b"\x08OWN0\x0dab\x00\x73OWN0\x0dc\x00OWN0", 6, kind(60)),
+        (
+            b"\x08OWN0\x0dab\x00\x73OWN0\x0dc\x00OWN0",
+            5,
+            Wanted::OutOfSteps,
+        ),
+        // Concatenate (Local0, "c", Index (BUF0, Zero)): a string is no byte
+        (
+            b"\x70STR0\x60\x73\x60\x0dc\x00\x88BUF0\x00\x00",
+            8,
+            kind(54),
+        ),
+        (
+            b"\x70STR0\x60\x73\x60\x0dc\x00\x88BUF0\x00\x00",
+            7,
+            Wanted::OutOfSteps,
+        ),
+    ];
+    each_ends(&rt, rt.alloc(), STRINGS, rows)?;
+    Ok(())
+}

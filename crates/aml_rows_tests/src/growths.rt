@@ -14,8 +14,9 @@ use std::test::Fail;
 /// What some names hold, by the numbers of their objects.
 type State = &'static [(usize, Wanted)];
 
-/// A module, the number of its method, steps, what is wanted, and the states in their order.
-type Row = (&'static [u8], usize, u64, Wanted, &'static [State]);
+/// A module, the number of its method, steps, what is wanted, the states that it goes through, and
+/// the number of the last one that it comes to, from 0.
+type Row = (&'static [u8], usize, u64, Wanted, &'static [State], usize);
 
 /// Whether names are in a state.
 fn are_in(names: &Names, state: State) -> bool {
@@ -30,41 +31,40 @@ fn are_in(names: &Names, state: State) -> bool {
     true
 }
 
-/// Whether names are in one of some states.
-fn are_in_one(names: &Names, states: &[State]) -> bool {
-    for state in states {
-        if are_in(names, state) {
+/// Whether names are in one of some states, up to the one with that number.
+fn are_in_one(names: &Names, states: &[State], last: usize) -> bool {
+    for (i, state) in states.iter().enumerate() {
+        if i <= last && are_in(names, state) {
             return true;
         }
     }
     false
 }
 
-/// Whether names are in the last of some states.
-fn are_in_last(names: &Names, states: &[State]) -> bool {
-    match states.last() {
+/// Whether names are in the state with that number.
+fn are_in_last(names: &Names, states: &[State], last: usize) -> bool {
+    match states.get(last) {
         Some(state) => are_in(names, state),
         None => false,
     }
 }
 
-/// A row is evaluated: its outcome is the wanted one and names are in the last state then; or
+/// A row is evaluated: its outcome is the wanted one and names are in its last state then; or
 /// memory is wanted, and they are in one of the states.
 fn is_evaluated(rt: &impl Abort, alloc: Global, row: Row) -> Result<(), LoadFault> {
-    let (module, number, fuel, wanted, states) = row;
+    let (module, number, fuel, wanted, states, last) = row;
     let table = table_of(alloc, *b"DSDT", 2, module)?;
     let namespace = Namespace::load(alloc, &[&table], HOST)?;
-    let method = ObjectId(number);
-    assert!(rt; namespace.method(method).is_some());
+    assert!(rt; namespace.method(ObjectId(number)).is_some());
     let mut names = first_names(alloc, &namespace)?;
-    match outcome_in(alloc, &namespace, method, &mut names, fuel) {
+    match outcome_in(alloc, &namespace, ObjectId(number), &mut names, fuel) {
         Ok(found) => {
             assert!(rt; ends(&found, wanted), "{module:?} {fuel} {wanted:?}");
-            assert!(rt; are_in_last(&names, states), "{module:?} {fuel}");
+            assert!(rt; are_in_last(&names, states, last), "{module:?} {fuel}");
             Ok(())
         }
         Err(fault) => {
-            assert!(rt; are_in_one(&names, states), "{module:?} {fuel}");
+            assert!(rt; are_in_one(&names, states, last), "{module:?} {fuel}");
             Err(fault)
         }
     }
@@ -118,31 +118,35 @@ fn rows_of_integers_refused_in_turn(rt: HostRuntime) -> Result<(), Fail> {
             128,
             Wanted::Error(AmlCause::Depth, 56),
             UNCHANGED,
+            0,
         ),
-        (ONE_ANOTHER, 9, 127, Wanted::OutOfSteps, UNCHANGED),
+        (ONE_ANOTHER, 9, 127, Wanted::OutOfSteps, UNCHANGED, 0),
         (
             ONE_ANOTHER,
             11,
             128,
             Wanted::Error(AmlCause::Depth, 44),
             UNCHANGED,
+            0,
         ),
-        (DIVIDED, 9, 7, Wanted::Int(3), UNCHANGED),
-        (DIVIDED, 9, 6, Wanted::OutOfSteps, UNCHANGED),
-        (DIVIDED_INTO_NAMES, 11, 5, Wanted::Nothing, QUOTIENT_LAST),
+        (DIVIDED, 9, 7, Wanted::Int(3), UNCHANGED, 0),
+        (DIVIDED, 9, 6, Wanted::OutOfSteps, UNCHANGED, 0),
+        (DIVIDED_INTO_NAMES, 11, 5, Wanted::Nothing, QUOTIENT_LAST, 2),
         (
             DIVIDED_INTO_NAMES,
             11,
             4,
             Wanted::OutOfSteps,
-            &QUOTIENT_LAST[..2],
+            QUOTIENT_LAST,
+            1,
         ),
         (
             DIVIDED_INTO_NAMES,
             11,
             3,
             Wanted::OutOfSteps,
-            &QUOTIENT_LAST[..1],
+            QUOTIENT_LAST,
+            0,
         ),
         (
             NOT_STORED,
@@ -150,6 +154,7 @@ fn rows_of_integers_refused_in_turn(rt: HostRuntime) -> Result<(), Fail> {
             2,
             Wanted::Error(AmlCause::Outside, 50),
             STILL_ONE,
+            0,
         ),
     ];
     each_is_evaluated(&rt, rt.alloc(), rows)?;
@@ -228,12 +233,12 @@ const ALL: &[u8] = &[0, 1, 2, 3, 4, 5, 6, 7, 8, 9, 10, 11, 12, 13, 14, 15];
 #[test]
 fn rows_of_a_filled_buffer_refused_in_turn(rt: HostRuntime) -> Result<(), Fail> {
     let rows: &[Row] = &[
-        (FILLED, 10, 169, Wanted::Buf(ALL), BYTES),
-        (FILLED, 10, 168, Wanted::OutOfSteps, BYTES),
+        (FILLED, 10, 169, Wanted::Buf(ALL), BYTES, 15),
+        (FILLED, 10, 168, Wanted::OutOfSteps, BYTES, 15),
         // a turn costs 10 steps: its test 3, the store of a byte 4 and the Increment 3; four come
         // before the first
-        (FILLED, 10, 31, Wanted::OutOfSteps, &BYTES[..3]),
-        (FILLED, 10, 30, Wanted::OutOfSteps, &BYTES[..2]),
+        (FILLED, 10, 31, Wanted::OutOfSteps, BYTES, 2),
+        (FILLED, 10, 30, Wanted::OutOfSteps, BYTES, 1),
     ];
     each_is_evaluated(&rt, rt.alloc(), rows)?;
     Ok(())
@@ -282,16 +287,58 @@ const STORED: &[State] = &[
 #[test]
 fn rows_of_calls_and_packages_refused_in_turn(rt: HostRuntime) -> Result<(), Fail> {
     let rows: &[Row] = &[
-        (CALLED, 9, 37, Wanted::Buf(&[1, 2]), STORED),
-        (CALLED, 9, 36, Wanted::OutOfSteps, STORED),
-        (CALLED, 9, 32, Wanted::OutOfSteps, STORED),
-        (CALLED, 9, 31, Wanted::OutOfSteps, &STORED[..4]),
-        (CALLED, 9, 23, Wanted::OutOfSteps, &STORED[..4]),
-        (CALLED, 9, 22, Wanted::OutOfSteps, &STORED[..3]),
-        (CALLED, 9, 16, Wanted::OutOfSteps, &STORED[..3]),
-        (CALLED, 9, 15, Wanted::OutOfSteps, &STORED[..2]),
-        (CALLED, 9, 7, Wanted::OutOfSteps, &STORED[..2]),
-        (CALLED, 9, 6, Wanted::OutOfSteps, &STORED[..1]),
+        (CALLED, 9, 37, Wanted::Buf(&[1, 2]), STORED, 4),
+        (CALLED, 9, 36, Wanted::OutOfSteps, STORED, 4),
+        (CALLED, 9, 32, Wanted::OutOfSteps, STORED, 4),
+        (CALLED, 9, 31, Wanted::OutOfSteps, STORED, 3),
+        (CALLED, 9, 23, Wanted::OutOfSteps, STORED, 3),
+        (CALLED, 9, 22, Wanted::OutOfSteps, STORED, 2),
+        (CALLED, 9, 16, Wanted::OutOfSteps, STORED, 2),
+        (CALLED, 9, 15, Wanted::OutOfSteps, STORED, 1),
+        (CALLED, 9, 7, Wanted::OutOfSteps, STORED, 1),
+        (CALLED, 9, 6, Wanted::OutOfSteps, STORED, 0),
+    ];
+    each_is_evaluated(&rt, rt.alloc(), rows)?;
+    Ok(())
+}
+
+/// Name (STR0, "ab"), Method (MAIN) {Concatenate (STR0, "", STR0) Return (STR0)}.
+const JOINED: &[u8] = b"\x08STR0\x0dab\x00\x14\x16MAIN\x00\x73STR0\x0d\x00STR0\xa4STR0";
+
+/// Name (STR0, "ab"), Method (MAIN) {Concatenate (STR0, "c", STR0)}, which is longer than what
+/// STR0 may hold.
+const LONGER: &[u8] = b"\x08STR0\x0dab\x00\x14\x12MAIN\x00\x73STR0\x0dc\x00STR0";
+
+/// Name (STR0, "ab"), Method (MAIN) {Store (Concatenate ("x", "y"), STR0)
+/// Store (Concatenate ("p", "q"), STR0)}.
+const STORED_TWICE: &[u8] = b"\x08STR0\x0dab\x00\x14\x20MAIN\x00\
+    \x70\x73\x0dx\x00\x0dy\x00\x00STR0\x70\x73\x0dp\x00\x0dq\x00\x00STR0";
+
+const STILL_AB: &[State] = &[&[(9, Wanted::Str(b"ab"))]];
+
+const FIRST_AB: &[State] = &[
+    &[(9, Wanted::Str(b"ab"))],
+    &[(9, Wanted::Str(b"xy"))],
+    &[(9, Wanted::Str(b"pq"))],
+];
+
+#[test]
+fn rows_of_strings_refused_in_turn(rt: HostRuntime) -> Result<(), Fail> {
+    let rows: &[Row] = &[
+        (JOINED, 10, 6, Wanted::Str(b"ab"), STILL_AB, 0),
+        (JOINED, 10, 5, Wanted::OutOfSteps, STILL_AB, 0),
+        (
+            LONGER,
+            10,
+            4,
+            Wanted::Error(AmlCause::Kind, 60),
+            STILL_AB,
+            0,
+        ),
+        (LONGER, 10, 3, Wanted::OutOfSteps, STILL_AB, 0),
+        (STORED_TWICE, 10, 10, Wanted::Nothing, FIRST_AB, 2),
+        (STORED_TWICE, 10, 9, Wanted::OutOfSteps, FIRST_AB, 1),
+        (STORED_TWICE, 10, 4, Wanted::OutOfSteps, FIRST_AB, 0),
     ];
     each_is_evaluated(&rt, rt.alloc(), rows)?;
     Ok(())

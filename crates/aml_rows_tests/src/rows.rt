@@ -58,6 +58,18 @@ pub(crate) fn first_names(alloc: Global, namespace: &Namespace<'_>) -> Result<Na
     }
 }
 
+/// The fault of a body, as that of its table.
+fn refused(fault: TreeFault) -> LoadFault {
+    match fault {
+        TreeFault::NoMemory => LoadFault::NoMemory,
+        TreeFault::Refused(refusal) => LoadFault::Refused(LoadRefusal {
+            cause: LoadCause::Tree(refusal.cause),
+            table: 0,
+            at: refusal.at,
+        }),
+    }
+}
+
 /// The outcome of a method without arguments, whose body parses.
 fn outcome_of_method(
     alloc: Global,
@@ -89,12 +101,7 @@ pub(crate) fn outcome_in(
 {
     match namespace.tree(alloc, method) {
         Ok(_) => outcome_of_method(alloc, namespace, method, names, fuel),
-        Err(TreeFault::NoMemory) => Err(LoadFault::NoMemory),
-        Err(TreeFault::Refused(refusal)) => Err(LoadFault::Refused(LoadRefusal {
-            cause: LoadCause::Tree(refusal.cause),
-            table: 0,
-            at: refusal.at,
-        })),
+        Err(fault) => Err(refused(fault)),
     }
 }
 
