@@ -5,12 +5,14 @@ ghost use Rattle.aml_kinds.specs.Values.{Int};
 ghost use Rattle.aml_kinds.specs.Views.{view};
 ghost use Rattle.aml_meaning.specs.Buffers as rule;
 ghost use Rattle.aml_namespace.specs.Widths.{bits_of};
-ghost use Rattle.aml_rules.specs.Tells.{Obeys, place_of, told};
+ghost use Rattle.aml_rules.specs.Tells.{GrowsBy, Obeys, place_of, told};
 
 use crate::place::{Place, RuleFault, error_at};
 use aml_kinds::{Bytes, Value};
 use aml_meaning::{AmlCause, AmlError};
 use aml_namespace::Width;
+use std::alloc::Global;
+use std::mem;
 
 /// As many bytes as a buffer or a string may have.
 const MOST_BYTES: usize = 65_536;
@@ -44,6 +46,34 @@ pub fn concatenated(
     }
 }
 
+/// The same, made of the first where it stands. It stays as it was where there is an error, and where
+/// memory is wanted.
+pub fn append(
+    alloc: Global,
+    operator: Place,
+    first_operand: Place,
+    first: &mut Value,
+    second_operand: Place,
+    second: &Value,
+) -> Result<(), RuleFault>
+    ensures { GrowsBy result (rule.concatenated (place_of operator)
+        (place_of first_operand) (view first.old) (place_of second_operand) (view second.now))
+        (view first.old) (view first.new) }
+{
+    let of_another_kind = RuleFault::Error(error_at(AmlCause::Kind, second_operand));
+    match first {
+        Value::Buf(front) => match second {
+            Value::Buf(back) => grow(alloc, operator, front, back.as_slice()),
+            _ => Err(of_another_kind),
+        },
+        Value::Str(front) => match second {
+            Value::Str(back) => grow(alloc, operator, front, back.as_slice()),
+            _ => Err(of_another_kind),
+        },
+        _ => Err(RuleFault::Error(error_at(AmlCause::Kind, first_operand))),
+    }
+}
+
 /// Bytes behind others, no more than a buffer may have.
 fn joined(operator: Place, front: Bytes, back: &[u8]) -> Result<Bytes, RuleFault>
     ensures { Obeys (λ b. b) result (rule.limited (place_of operator) (front ++ back.now)) }
@@ -54,6 +84,21 @@ fn joined(operator: Place, front: Bytes, back: &[u8]) -> Result<Bytes, RuleFault
     let mut bytes = front.into_vec();
     bytes.extend_from_slice(back)?;
     Ok(Bytes::new(bytes))
+}
+
+/// The same, put behind the first where they stand.
+fn grow(alloc: Global, operator: Place, front: &mut Bytes, back: &[u8]) -> Result<(), RuleFault>
+    ensures { GrowsBy result (rule.limited (place_of operator) (front.old ++ back.now))
+        front.old front.new }
+{
+    if !fits(front.len(), back.len()) {
+        return Err(RuleFault::Error(error_at(AmlCause::Outside, operator)));
+    }
+    let mut bytes = mem::replace(front, Bytes::new(Vec::new(alloc))).into_vec();
+    let grown = bytes.extend_from_slice(back);
+    *front = Bytes::new(bytes);
+    grown?;
+    Ok(())
 }
 
 /// Whether so many bytes and so many are no more than a buffer may have.

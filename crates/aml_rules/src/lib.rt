@@ -9,7 +9,7 @@ mod equality;
 mod law;
 mod place;
 
-pub use buffers::{concatenated, size_of};
+pub use buffers::{append, concatenated, size_of};
 pub use conversions::{to_buffer, to_integer};
 pub use elements::{ByteStore, byte_stored, element_at};
 pub use equality::equal;
