@@ -9,6 +9,7 @@ pub mod Branches
 pub mod Around
 pub mod Stored
 pub mod Written
+pub mod Grown
 pub mod InPlace
 pub mod Known
 pub mod Bodies

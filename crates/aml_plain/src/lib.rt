@@ -9,6 +9,7 @@ mod eval;
 mod field;
 mod form;
 mod frame;
+mod grow;
 mod halt;
 mod index;
 mod integer;

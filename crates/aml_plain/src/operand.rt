@@ -7,7 +7,7 @@ ghost use Rattle.aml_operators.specs.Tree as tree;
 ghost use Rattle.aml_operators.specs.Tree.{views};
 ghost use Rattle.aml_regions.specs.declared.event.Event.{Event};
 ghost use Rattle.aml_meaning.specs.declared.action.Action.TheVariants as does;
-ghost use Rattle.aml_meaning.specs.Meaning.{act, asked, is_there, measured, named_seen, size, sizeless, untargeted};
+ghost use Rattle.aml_meaning.specs.Meaning.{act, asked, changed_in_place, is_there, measured, named_seen, size, sizeless, takes_operand, untargeted};
 ghost use Rattle.aml_meaning.specs.Runs.{Runs};
 ghost use Rattle.aml_plain.specs.Shapes.{HasParts, name_and_target, one_name};
 ghost use Rattle.aml_plain.specs.Tells.{now, setting_of, told, value_of, went};
@@ -210,5 +210,36 @@ pub fn untargeted(here: Setting<'_>, at: usize, target: Action) -> Result<(), Ha
     match target {
         Action::NoTarget => Ok(()),
         _ => Err(fails(AmlCause::Outside, here, at)),
+    }
+}
+
+/// Whether a Store into this target may be an operand.
+pub fn takes_operand(target: Action) -> bool
+    ensures { result ≡ takes_operand target }
+{
+    match target {
+        Action::Local(_) | Action::Argument(_) | Action::NoTarget | Action::Debug => true,
+        _ => false,
+    }
+}
+
+/// That what Increment or Decrement changes is no DerefOf. A6 there, with a step, where it is one.
+pub fn changed_in_place(
+    here: Setting<'_>,
+    action: Action,
+    at: usize,
+    machine: &mut Machine,
+) -> Result<(), Halt>
+    ensures means { (around : _) (log : List Event) → Runs (went result)
+        (changed_in_place (setting_of here.entry around) action at)
+        (now machine.old log) (now machine.new log) }
+    ensures falls { machine.new.steps ≤ machine.old.steps }
+{
+    match action {
+        Action::Dereference => {
+            machine.take_step()?;
+            Err(fails(AmlCause::Outside, here, at))
+        }
+        _ => Ok(()),
     }
 }

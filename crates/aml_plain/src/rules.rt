@@ -13,7 +13,8 @@ ghost use Rattle.aml_meaning.specs.declared.action.Conversion.TheVariants as con
 ghost use Rattle.aml_meaning.specs.declared.error.AmlError.{AmlError};
 ghost use Rattle.aml_rules.specs.Tells.{Obeys, place_of};
 ghost use Rattle.aml_rules.specs.Tells as rules;
-ghost use Rattle.aml_plain.specs.Tells.{IsOrNoMemory, division_of, itself, place_in, told};
+ghost use Rattle.aml_plain.specs.Stores.{Becomes};
+ghost use Rattle.aml_plain.specs.Tells.{IsOrNoMemory, division_of, itself, place_in, told, went};
 
 use crate::halt::{Halt, Setting, fails};
 use crate::integer::{holds, joined, transformed_bits, truth};
@@ -243,6 +244,30 @@ pub fn concatenated(
     let first = place(here, x_at);
     let second = place(here, y_at);
     obeyed(aml_rules::concatenated(operator, first, x, second, y))
+}
+
+/// The same, made of the first where it stands.
+pub fn append(
+    alloc: Global,
+    here: Setting<'_>,
+    at: usize,
+    x_at: usize,
+    x: &mut Value,
+    y_at: usize,
+    y: &Value,
+) -> Result<(), Halt>
+    ensures { Becomes itself (went result) (concatenated (place_in here.entry at)
+        (place_in here.entry x_at) (view x.old) (place_in here.entry y_at) (view y.now))
+        (view x.old) (view x.new) }
+{
+    let operator = place(here, at);
+    let first = place(here, x_at);
+    let second = place(here, y_at);
+    match aml_rules::append(alloc, operator, first, x, second, y) {
+        Ok(()) => Ok(()),
+        Err(RuleFault::Error(error)) => Err(Halt::Error(error)),
+        Err(RuleFault::NoMemory) => Err(Halt::NoMemory),
+    }
 }
 
 /// A byte or a copy of an element of a value.
