@@ -27,7 +27,7 @@ fn held(names: &Names, number: u64) -> u64 {
 }
 
 /// The integers that names hold, one name a turn, summed up.
-pub fn get_again(alloc: Global, turns: u64) -> Option<u64> {
+pub(crate) fn get_again(alloc: Global, turns: u64) -> Option<u64> {
     let names = integers(alloc)?;
     let mut sum = 0u64;
     for turn in 0..turns {
@@ -37,7 +37,7 @@ pub fn get_again(alloc: Global, turns: u64) -> Option<u64> {
 }
 
 /// A name is given an integer in each turn; what they hold last, summed up.
-pub fn set_again(alloc: Global, turns: u64) -> Option<u64> {
+pub(crate) fn set_again(alloc: Global, turns: u64) -> Option<u64> {
     let mut names = integers(alloc)?;
     for turn in 0..turns {
         if names

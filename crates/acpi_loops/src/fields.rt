@@ -21,7 +21,7 @@ fn field(at: u64) -> AnyField {
 }
 
 /// The field's integer, once a turn, summed up.
-pub fn read_again(turns: u64) -> Option<u64> {
+pub(crate) fn read_again(turns: u64) -> Option<u64> {
     let mut world = ReadUnit {
         reads: 0,
         refused: 0,
@@ -41,7 +41,7 @@ pub fn read_again(turns: u64) -> Option<u64> {
 }
 
 /// The field is given an integer, once a turn; how many turns the world took.
-pub fn write_again(turns: u64) -> Option<u64> {
+pub(crate) fn write_again(turns: u64) -> Option<u64> {
     let mut world = KeptUnit {
         written: 0xac3a,
         turns: 0,

@@ -1,14 +1,14 @@
 -- Runs of single events.
-use Rattle.std.proofs.Common.{◌≡◌, ℕ, zero, suc, ◌+◌, ◌<◌, ◌≤◌, ◌^◌, List, [], ◌∷◌, ◌++◌, Some, Ok, Err, refl, sym, ap, ◌∙◌, subst, arith, length, true}
-use Rattle.std.specs.Prelude.{slice_get, ◌==◌}
+use Rattle.std.proofs.Common.{◌≡◌, ℕ, zero, suc, ◌+◌, ◌<◌, ◌≤◌, ◌^◌, List, [], ◌∷◌, ◌++◌, Some, Ok, Err, refl, ap, ◌∙◌, arith, length, true}
+use Rattle.std.specs.Prelude.{slice_get}
 use Rattle.std.proofs.lemmas.Bool.Decides.{nat_tests}
 use Rattle.aml_regions.specs.declared.access.Access.{Access}
 use Rattle.aml_regions.specs.declared.event.Event.{Event}
 use Rattle.aml_regions.specs.declared.event.Event.TheVariants.{Read, Written}
 use Rattle.aml_regions.specs.Events.{AreWords, same_access}
-use Rattle.aml_meaning.specs.State.{State, Frame, Names, with_steps, Goes, NoAnswer}
+use Rattle.aml_meaning.specs.State.{State, Frame, Names, with_steps, Goes}
 use Rattle.aml_meaning.specs.Parts.{M, answer, make_event, read_unit, with_event}
-use Rattle.aml_meaning.specs.Runs.{Halt, NoMemory, OutOfSteps, IsPrefix, state, Runs}
+use Rattle.aml_meaning.specs.Runs.{NoMemory, OutOfSteps, IsPrefix, state, Runs}
 use Rattle.aml_meaning.proofs.Runs.{runs_paid, runs_unpaid, runs_no_memory_at}
 
 at_the_end : (log : List Event) (e : Event) (rest : List Event) → slice_get ((log ++ e ∷ []) ++ rest) (length log) ≡ Some e

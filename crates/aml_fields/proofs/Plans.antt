@@ -1,5 +1,5 @@
 -- Fields, however their units are reached.
-use Rattle.std.proofs.Common.{◌≡◌, ℕ, ◌+◌, ◌-◌, ◌≤◌, List, Result, Ok, Err, refl, sym, subst, arith}
+use Rattle.std.proofs.Common.{◌≡◌, ℕ, ◌+◌, ◌-◌, List, Result, Ok, Err, refl, subst, arith}
 use Rattle.aml_namespace.specs.declared.memory.NoMemory.{NoMemory}
 use Rattle.aml_regions.specs.declared.event.Event.{Event}
 use Rattle.aml_regions.specs.declared.field.AnyField.{AnyField}

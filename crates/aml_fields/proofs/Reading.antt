@@ -1,17 +1,15 @@
 -- How a field's answers become its value.
-use Rattle.std.proofs.Common.{◌≡◌, ℕ, suc, ◌+◌, ◌-◌, ◌*◌, ◌/◌, ◌%◌, ◌^◌, ◌<◌, List, [], ◌∷◌, ◌++◌, length, get_or, Option, Result, Ok, Err, refl, ap, subst, ◌∙◌, arith}
+use Rattle.std.proofs.Common.{◌≡◌, ℕ, suc, ◌+◌, ◌-◌, ◌*◌, ◌/◌, ◌%◌, ◌^◌, ◌<◌, List, [], ◌∷◌, ◌++◌, length, get_or, Result, Ok, Err, refl, ap, subst, ◌∙◌, arith}
 use Rattle.std.proofs.lemmas.Nat.{div-mul-add, mod-mul-add, div_below}
 use Rattle.std.proofs.lemmas.List.{get_or_at, get_or_append_left}
 use Rattle.std.proofs.lemmas.Nat.Bits.{bit_at-lt}
 use Rattle.std.specs.Int.{bit_at}
 use Rattle.aml_regions.specs.Bits.{number}
 use Rattle.aml_fields.proofs.Numbers.{number-add, number-lt, number_same}
-use Rattle.aml_kinds.specs.Values.{Value}
-use Rattle.aml_regions.specs.declared.event.Event.{Event}
 use Rattle.aml_meaning.specs.Fields.{UnitPlan, bytes_in, bytes_read, integer_read, plan_reads, read_from}
 use Rattle.aml_meaning.specs.Parts.{M}
-use Rattle.aml_meaning.specs.State.{Frame, State}
-use Rattle.aml_meaning.specs.Runs.{Halt, Runs, state}
+use Rattle.aml_meaning.specs.State.{State}
+use Rattle.aml_meaning.specs.Runs.{Halt, Runs}
 use Rattle.aml_meaning.proofs.Runs.{runs_then, runs_stop, runs_give}
 use Rattle.aml_regions.specs.declared.field.FieldLayout.{FieldLayout}
 use Rattle.aml_regions.specs.Fields.{bits_of, count, end, first, field_bit, integer_of}

@@ -1,5 +1,5 @@
 -- What the units of a field are written with.
-use Rattle.std.proofs.Common.{◌≡◌, ℕ, suc, ◌+◌, ◌-◌, ◌*◌, ◌/◌, ◌%◌, ◌^◌, ◌<◌, ◌≤◌, Bool, true, false, min, List, [], ◌∷◌, ◌++◌, Option, Result, Ok, Err, ⊎_elim, refl, sym, ap, ◌∙◌, subst, arith}
+use Rattle.std.proofs.Common.{◌≡◌, ℕ, suc, ◌+◌, ◌-◌, ◌*◌, ◌/◌, ◌%◌, ◌^◌, ◌<◌, ◌≤◌, Bool, true, false, min, Result, Ok, Err, ⊎_elim, refl, sym, ap, ◌∙◌, subst, arith}
 use Rattle.std.proofs.lemmas.Bool.{cases_lt}
 use Rattle.std.proofs.Math.Nat.{mod-eq_of_lt}
 use Rattle.std.specs.Prelude.{nat_eq, if◌then◌else◌}
@@ -7,12 +7,10 @@ use Rattle.std.proofs.lemmas.Nat.Bits.{bit_at-lt}
 use Rattle.std.specs.Int.{bit_at}
 use Rattle.aml_regions.specs.Bits.{number}
 use Rattle.aml_fields.proofs.Numbers.{number_put, number_same, number-lt, number-bit_at}
-use Rattle.aml_kinds.specs.Values.{Value}
-use Rattle.aml_regions.specs.declared.event.Event.{Event}
 use Rattle.aml_meaning.specs.Fields.{UnitPlan, bits_written, cost_from, others_cost, others_of, plan_writes, write_from}
 use Rattle.aml_meaning.specs.Parts.{M}
-use Rattle.aml_meaning.specs.State.{Frame, State}
-use Rattle.aml_meaning.specs.Runs.{Halt, Runs, state}
+use Rattle.aml_meaning.specs.State.{State}
+use Rattle.aml_meaning.specs.Runs.{Halt, Runs}
 use Rattle.aml_meaning.proofs.Runs.{runs_then, runs_stop, runs_give}
 use Rattle.aml_regions.specs.declared.field.FieldLayout.{FieldLayout}
 use Rattle.aml_regions.specs.declared.field.OtherBits.{OtherBits}

@@ -8,8 +8,6 @@ use Rattle.aml_regions.specs.declared.field.AnyField.TheVariants.{Plain, Banked,
 use Rattle.aml_regions.specs.declared.field.BankedField.{BankedField}
 use Rattle.aml_regions.specs.declared.field.FieldLayout.{FieldLayout}
 use Rattle.aml_regions.specs.declared.field.IndexedField.{IndexedField}
-use Rattle.aml_regions.specs.declared.field.OtherBits.{OtherBits}
-use Rattle.aml_regions.specs.declared.field.OtherBits.TheVariants.{Preserve, Ones, Zeros}
 use Rattle.aml_regions.specs.declared.field.RegionField.{RegionField}
 use Rattle.aml_regions.specs.declared.field.UnitWidth.{UnitWidth}
 use Rattle.aml_regions.specs.declared.field.UnitWidth.TheVariants.{Byte, Word, DWord, QWord}

@@ -1,5 +1,4 @@
 use Rattle.std.proofs.Common.{arith}
-use Rattle.aml_regions.specs.Fields.{count}
 use Rattle.aml_fields.proofs.Places.{first_end, count_most}
 use Rattle.aml_fields.proofs.count.units_of.Goals as goal
 

@@ -1,4 +1,4 @@
-use Rattle.std.proofs.Common.{refl, sym, ap}
+use Rattle.std.proofs.Common.{refl}
 use Rattle.aml_meaning.proofs.Reached.{found_by}
 use Rattle.aml_fields.proofs.reach.field_in.Goals as goal
 

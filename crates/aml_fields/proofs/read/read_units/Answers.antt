@@ -1,9 +1,9 @@
-use Rattle.std.proofs.Common.{◌≡◌, ◌-◌, ◌+◌, ◌*◌, ◌%◌, ◌<◌, ◌^◌, [], ◌∷◌, ◌++◌, refl, sym, ap, ◌∙◌, subst, arith}
+use Rattle.std.proofs.Common.{◌≡◌, ◌-◌, ◌+◌, ◌*◌, ◌%◌, ◌<◌, ◌^◌, [], ◌∷◌, ◌++◌, refl, ap, ◌∙◌, subst, arith}
 use Rattle.std.proofs.lemmas.List.{length-append}
 use Rattle.std.proofs.lemmas.Nat.Bits.{bit_at-lt}
 use Rattle.std.proofs.lemmas.Result.{err_from_is_err_and}
 use Rattle.aml_regions.specs.Bits.{number}
-use Rattle.aml_regions.specs.Fields.{bits_of, end, field_bit, first, integer_of}
+use Rattle.aml_regions.specs.Fields.{end, field_bit, integer_of}
 use Rattle.aml_fields.proofs.Numbers.{number-lt}
 use Rattle.aml_fields.proofs.Places.{places_in, above_fits, first_before, done_all, first_end}
 use Rattle.aml_fields.proofs.Reading.{value_more, value_lt, read_more, read_stops, read_all, plan_integer, plan_reads_left, reads_more}

@@ -1,4 +1,4 @@
-use Rattle.std.proofs.Common.{◌≡◌, ◌≤◌, ◌-◌, ℕ, ◌+◌, ◌*◌, length, List, min, Result}
+use Rattle.std.proofs.Common.{◌≡◌, ◌≤◌, ◌-◌, ℕ, ◌*◌, length, List, min, Result}
 use Rattle.aml_regions.specs.Bits.{number}
 use Rattle.aml_regions.specs.Fields.{bits_of, end, field_bit, first, integer_of}
 use Rattle.aml_meaning.specs.Fields.{integer_read, plan_reads, read_from}

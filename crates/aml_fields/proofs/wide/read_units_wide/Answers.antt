@@ -2,7 +2,7 @@ use Rattle.std.proofs.Common.{◌≡◌, ◌-◌, ◌+◌, ◌*◌, ◌/◌, ◌
 use Rattle.std.proofs.lemmas.List.{length-append}
 use Rattle.std.proofs.lemmas.Result.{err_from_is_err_and}
 use Rattle.aml_regions.specs.BufferFields.{bytes_of}
-use Rattle.aml_regions.specs.Fields.{end, field_bit, first}
+use Rattle.aml_regions.specs.Fields.{end, field_bit}
 use Rattle.aml_meaning.specs.Fields.{bytes_in}
 use Rattle.aml_fields.proofs.Places.{places_in, first_before, done_all, first_end}
 use Rattle.aml_fields.proofs.Reading.{run_there, bits_before, field_bit_lt, read_more, read_stops, read_all, plan_bytes, plan_reads_left, reads_more}

@@ -1,7 +1,7 @@
-use Rattle.std.proofs.Common.{◌≡◌, ◌-◌, ◌^◌, sym, ap, ◌∙◌, arith}
+use Rattle.std.proofs.Common.{◌≡◌, ◌-◌, ◌^◌, sym, ap, ◌∙◌}
 use Rattle.aml_regions.specs.Fields.{bits_of}
 use Rattle.aml_regions.specs.declared.field.OtherBits.TheVariants.{Preserve, Ones, Zeros}
-use Rattle.aml_fields.proofs.Writing.{others_kept, others_ones, others_zeros, kept_cost, ones_cost, zeros_cost}
+use Rattle.aml_fields.proofs.Writing.{others_kept, others_ones, others_zeros, kept_cost}
 use Rattle.aml_meaning.proofs.Runs.{runs_give}
 use Rattle.aml_fields.proofs.write.others.Goals as goal
 

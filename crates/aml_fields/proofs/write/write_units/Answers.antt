@@ -1,9 +1,7 @@
-use Rattle.std.proofs.Common.{◌≡◌, ℕ, ◌<◌, ◌^◌, ◌-◌, ◌+◌, ◌*◌, ◌%◌, Bool, Result, Ok, refl, sym, ap, ◌∙◌, subst, arith}
-use Rattle.std.specs.Prelude.{nat_eq}
+use Rattle.std.proofs.Common.{◌≡◌, ◌<◌, ◌^◌, ◌-◌, Ok, refl, ap, ◌∙◌, arith}
 use Rattle.std.proofs.lemmas.Result.{err_from_is_err_and}
-use Rattle.aml_regions.specs.Fields.{bits_of, count, end, mixed}
-use Rattle.aml_meaning.specs.Fields.{cost_from, others_cost, others_of}
-use Rattle.aml_meaning.specs.Runs.{Runs}
+use Rattle.aml_regions.specs.Fields.{bits_of, end, mixed}
+use Rattle.aml_meaning.specs.Fields.{cost_from}
 use Rattle.aml_fields.proofs.Places.{first_before, first_end}
 use Rattle.aml_fields.proofs.Writing.{turn, mixed_lt, mixed_same, plan_cost, plan_write, write_more, write_stops, write_ends, write_all}
 use Rattle.aml_fields.proofs.write.write_units.Goals as goal

@@ -1,4 +1,4 @@
-use Rattle.std.proofs.Common.{◌≡◌, ◌≤◌, ◌-◌, ◌*◌, List, min, Result}
+use Rattle.std.proofs.Common.{◌≡◌, ◌≤◌, ◌-◌, ◌*◌, min, Result}
 use Rattle.aml_regions.specs.Fields.{bits_of, end, first}
 use Rattle.aml_meaning.specs.Fields.{bits_written, cost_from, plan_writes, write_from}
 use Rattle.aml_meaning.specs.State.{Frame, Names, State}

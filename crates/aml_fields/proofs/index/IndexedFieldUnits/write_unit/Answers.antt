@@ -1,5 +1,5 @@
 use Rattle.std.proofs.lemmas.Result.{err_from_is_err_and}
-use Rattle.aml_meaning.specs.Fields.{indexed_plan, region_plan}
+use Rattle.aml_meaning.specs.Fields.{indexed_plan}
 use Rattle.aml_meaning.proofs.Runs.{runs_then, runs_stop}
 use Rattle.aml_fields.proofs.index.IndexedFieldUnits.write_unit.Goals as goal
 
