@@ -28,6 +28,7 @@ LOOPS = {
     "CALL": (1_000_000, 50_000),
     "DEEP": (30_000, 1_000),
     "PACK": (1_000_000, 10_000),
+    "NEST": (1_000_000, 10_000),
     "CRCS": (300, 10),
     "TEXT": (10_000, 10_000),
 }
@@ -43,6 +44,7 @@ def crc_table():
 def source():
     """The ASL of the loops."""
     integers = ", ".join(str(n * 7) for n in range(1000))
+    inner = ", ".join(f"Package (250) {{ {', '.join(str(n * 7) for n in range(first, first + 250))} }}" for first in range(0, 1000, 250))
     table = ", ".join(hex(n) for n in crc_table())
     deep = "".join(
         f"Method (D{n:03}, 1) {{ Return ({f'D{n + 1:03} (Arg0)' if n < 59 else 'Add (Arg0, 1)'}) }}\n" for n in reversed(range(60)))
@@ -50,6 +52,7 @@ def source():
 DefinitionBlock ("", "DSDT", 2, "ACPICK", "SPEED", 1) {{
 Name (BUF0, Buffer (65536) {{}})
 Name (PKG0, Package (1000) {{ {integers} }})
+Name (PKG1, Package (4) {{ {inner} }})
 Name (CRC0, Package (256) {{ {table} }})
 Name (DAT0, Buffer (4096) {{ 1, 2, 3, 4, 5, 6, 7, 8 }})
 Method (ARIT, 1) {{
@@ -86,6 +89,15 @@ Method (PACK, 1) {{
   Store (Zero, Local1)
   While (LLess (Local0, Arg0)) {{
     Add (Local1, DerefOf (Index (PKG0, Mod (Local0, 1000))), Local1)
+    Increment (Local0)
+  }}
+  Return (Local1)
+}}
+Method (NEST, 1) {{
+  Store (Zero, Local0)
+  Store (Zero, Local1)
+  While (LLess (Local0, Arg0)) {{
+    Add (Local1, DerefOf (Index (DerefOf (Index (PKG1, And (Local0, 3))), Mod (Local0, 250))), Local1)
     Increment (Local0)
   }}
   Return (Local1)

@@ -17,3 +17,4 @@ pub mod OwnFields
 mod QuietTerms
 mod Spots
 mod Stores
+mod Within

@@ -12,6 +12,7 @@ mod frame;
 mod grow;
 mod halt;
 mod index;
+mod inner;
 mod integer;
 mod interfaces;
 mod law;

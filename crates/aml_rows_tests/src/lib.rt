@@ -11,6 +11,8 @@ mod forms;
 #[cfg(test)]
 mod growths;
 #[cfg(test)]
+mod inner;
+#[cfg(test)]
 mod operands;
 #[cfg(test)]
 mod outside;
