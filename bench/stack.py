@@ -6,7 +6,7 @@ the form, one within the other, as may be. What is printed is the least stack, i
 16 KiB, by trying.
 
 The next term of a form is its first operand, or its second where the name of the form says so; of `Store`, whose target is a local,
-it is the source, and of `DerefOf`, which is of an Index, the index. Of `Add into an Index` it is the index of the target, as in
+it is the source, and of `DerefOf`, which is of an Index, the index, or what that is of: a package in packages, down to its integer. Of `Add into an Index` it is the index of the target, as in
 `Add (1, 1, Index (BUFF, Add (1, 1, Index (BUFF, ..))))`: a Store into an Index cannot stand so, since it is no operand.
 """
 import resource
@@ -34,6 +34,7 @@ AROUND = {
     "second of Concatenate": (b"\x73\x0da\x00", b"\x00", 1),
     "Store": (b"\x70", b"\x60", 1),
     "DerefOf": (b"\x83\x88BUFF", b"\x00", 2),
+    "source of DerefOf": (b"\x83\x88", b"\x00\x00", 2),
     "Add into an Index": (b"\x72\x01\x01\x88BUFF", b"\x00", 2),
     "argument": (b"PASS", b"", 1),
 }
@@ -51,14 +52,29 @@ def statement(form, inside):
     return before * times + inside + behind * times
 
 
+def packages(deep):
+    """One in packages, so many in one another."""
+    inside = b"\x01"
+    for _ in range(deep):
+        inside = package(b"\x12", b"\x01" + inside)
+    return inside
+
+
+def constant(form):
+    """What the last method begins with."""
+    if form == "source of DerefOf":
+        return b"DEEP"
+    return b"\x0db\x00" if "Concatenate" in form else b"\x01"
+
+
 def table(form):
     """The methods, the last of which does the same round a constant."""
-    text = "Concatenate" in form
-    last = b"\x0db\x00" if text else b"\x01"
+    last = constant(form)
     methods = METHODS - 1 if form == "argument" else METHODS
     names = [b"MAIN", *names_in_order(methods - 1)]
     calls = b"".join(method(name, statement(form, inside) + b"\xa4" + last) for name, inside in zip(names, [*names[1:], last]))
-    return dsdt(b"\x08BUFF" + package(b"\x11", b"\x0a\x04") + package(b"\x14", b"PASS\x01\xa4\x68") + calls)
+    names_first = b"\x08BUFF" + package(b"\x11", b"\x0a\x04") + b"\x08DEEP" + packages((DEPTH - 2) // 2)
+    return dsdt(names_first + package(b"\x14", b"PASS\x01\xa4\x68") + calls)
 
 
 def ends(program, file, kib):
