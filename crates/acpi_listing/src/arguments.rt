@@ -1,6 +1,6 @@
 // The arguments of a method, as the text of `--args` lists them.
 
-ghost use Rattle.std.specs.Prelude.{◌≡◌, ◌↔◌, ◌∷◌, ◌≤◌, ◌<◌, ◌^◌, [], IsTrue};
+ghost use Rattle.std.specs.Prelude.{◌≡◌, ◌↔◌, ◌∷◌, ◌≤◌, ◌<◌, ◌^◌, IsTrue};
 ghost use Rattle.std.specs.Prelude.{ℕ, List, MatchOption, map, vec_items};
 ghost use Rattle.std.specs.Str.Parse.{IsNumeral, digits_value};
 ghost use Rattle.aml_kinds.specs.Values.{Int, none};

@@ -1,7 +1,7 @@
 // The command `eval`.
 
-ghost use Rattle.std.specs.Prelude.{◌≡◌, ◌≤◌, ◌⊎◌, ◌↔◌, ℕ, List, [], IsSome, Some, true};
-ghost use Rattle.std.specs.Prelude.{IfOk, IfErr, length, map, option_map, vec_items};
+ghost use Rattle.std.specs.Prelude.{◌≡◌, ◌≤◌, ◌↔◌, [], IsSome, Some, true};
+ghost use Rattle.std.specs.Prelude.{IfOk, IfErr, map, option_map, vec_items};
 ghost use Rattle.acpi_listing.specs.Arguments.{ListsArguments, ListsBadArguments};
 ghost use Rattle.aml_kinds.specs.Views.{view};
 ghost use Rattle.aml_namespace.specs.Names.{method_at};

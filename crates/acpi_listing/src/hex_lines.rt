@@ -1,6 +1,6 @@
 // The lines of standard input, of which the first has the words and the others are files in hex.
 
-ghost use Rattle.std.specs.Prelude.{◌≡◌, ℕ, List, Option, option_map};
+ghost use Rattle.std.specs.Prelude.{◌≡◌, Option, option_map};
 ghost use Rattle.acpi_listing.specs.Input.{NextLine, hex_answers};
 
 use crate::source::{Source, SourceFault};

@@ -1,6 +1,6 @@
 // The program over any source of files and any writer.
 
-ghost use Rattle.std.specs.Prelude.{◌≡◌, ◌≤◌, IfOk, map};
+ghost use Rattle.std.specs.Prelude.{◌≤◌, IfOk, map};
 ghost use Rattle.acpi_listing.specs.Commands.{ObeysWords, Reports, RunsWords, RunsInput};
 ghost use Rattle.acpi_listing.specs.Steps.{Writes};
 
@@ -13,7 +13,7 @@ use crate::input::read_input;
 use crate::names::list_names_of;
 use crate::source::Source;
 use crate::words::{Request, read_words};
-use acpi_text::{RunFault, put};
+use acpi_text::RunFault;
 use std::alloc::Global;
 use std::convert::AsStr;
 use std::io::{Read, Write};

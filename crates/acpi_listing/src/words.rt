@@ -1,6 +1,6 @@
 // The words of a command line.
 
-ghost use Rattle.std.specs.Prelude.{◌≡◌, ◌⊎◌, IfErr, IfOk, IfSome, Some, None, false, codes, map, vec_items};
+ghost use Rattle.std.specs.Prelude.{◌≡◌, ◌⊎◌, IfOk, IfSome, Some, None, false, codes, map, vec_items};
 ghost use Rattle.clap.specs.Words.{HasKind, all_of, app_of, fault_of, found_of, rows_of, rule_of, subcommand_rows_of};
 ghost use Rattle.clap.specs.declared.Command.TheViews.{out-Command as fields_of};
 ghost use Rattle.acpi_listing.specs.Steps.{Tries};

@@ -2,7 +2,7 @@
 // in the same order, so the count tells it. Calls on them are not inlined, as those of a world that
 // someone else wrote would not be.
 
-ghost use Rattle.std.specs.Prelude.{◌<◌, ◌^◌, [], ◌∷◌};
+ghost use Rattle.std.specs.Prelude.{◌<◌, [], ◌∷◌};
 ghost use Rattle.aml_regions.specs.declared.event.Event.TheVariants.{Read, Written};
 ghost use Rattle.acpi_loops.specs.Turns.{turns_of, with_first};
 

@@ -1,6 +1,6 @@
 // Where an ISA interrupt goes (ACPI 6.5, 5.2.12.5).
 
-ghost use Rattle.std.specs.Prelude.{◌≡◌, Some, None};
+ghost use Rattle.std.specs.Prelude.{◌≡◌, Some};
 ghost use Rattle.acpi_tables.specs.Isa.{route, overrides};
 
 use crate::entry::Entry;

@@ -1,7 +1,6 @@
 // How far a definition goes (ACPI 6.5, 20.2.5).
 
 ghost use Rattle.std.specs.Prelude.{◌≡◌, ◌≤◌, ◌<◌, ◌+◌, length, IfSome, Some, None, if◌then◌else◌};
-ghost use Rattle.aml_operators.specs.Places.{size_of};
 ghost use Rattle.aml_externals.specs.Extents.{has_byte, name_end, text_end, package_at, bytes_end, operator_at, piece_end, letters_end, list_at, term_end};
 
 use aml_lex::{name_string, package_end, string_data};

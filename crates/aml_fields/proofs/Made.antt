@@ -1,5 +1,5 @@
 -- Events that need no answer.
-use Rattle.std.proofs.Common.{◌≡◌, refl}
+use Rattle.std.proofs.Common.{refl}
 use Rattle.aml_meaning.specs.Parts.{make_event, paid}
 use Rattle.aml_fields.specs.Laws.{EventIsMade, NoEventWithoutStep}
 

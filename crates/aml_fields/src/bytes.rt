@@ -1,8 +1,7 @@
 // Bytes by their bits.
 
 ghost use Rattle.std.proofs.lemmas.Nat.Bits.{bit_at-lt};
-ghost use Rattle.std.specs.Prelude.{◌≡◌, ℕ, ◌+◌, ◌^◌, ◌<◌, ◌≤◌, ◌*◌, length, slice_index};
-ghost use Rattle.std.specs.Int.{bit_at};
+ghost use Rattle.std.specs.Prelude.{◌≡◌, ℕ, ◌+◌, ◌^◌, ◌<◌, ◌≤◌, slice_index};
 ghost use Rattle.aml_regions.specs.Bits.{byte_bit, number};
 
 use crate::kernel::{above, run};

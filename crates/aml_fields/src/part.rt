@@ -1,6 +1,6 @@
 // The fields of buffers of a namespace (ACPI 6.5, 19.6, CreateField and its kin).
 
-ghost use Rattle.std.specs.Prelude.{◌≡◌, ◌<◌, ◌≤◌, ◌+◌, ◌*◌, ◌^◌, length, IfOk, IfSome, IsTrue, is_none};
+ghost use Rattle.std.specs.Prelude.{◌≡◌, ◌<◌, ◌≤◌, ◌+◌, ◌*◌, ◌^◌, length, IfOk, IfSome, IsTrue};
 ghost use Rattle.aml_kinds.specs.Views.{view};
 ghost use Rattle.aml_namespace.specs.Shows.{shown};
 ghost use Rattle.aml_namespace.specs.Widths.{bits_of};

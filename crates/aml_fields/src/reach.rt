@@ -4,7 +4,7 @@ ghost use Rattle.std.specs.Prelude.{◌≡◌, ◌%◌, ◌^◌, IfSome};
 ghost use Rattle.aml_namespace.specs.Shows.{shown};
 ghost use Rattle.aml_namespace.specs.Widths.{bits_of};
 ghost use Rattle.aml_regions.specs.Fields.{IsSoundField};
-ghost use Rattle.aml_meaning.specs.Reached.{field_layout, in_region, is_sound_field, named, other_bits, plain_field, reached, reached_through, unit_width, usable};
+ghost use Rattle.aml_meaning.specs.Reached.{field_layout, in_region, named, other_bits, plain_field, reached, reached_through, unit_width, usable};
 
 use crate::soundness::{is_known, sound};
 use aml_namespace::{AccessType, Field, Namespace, Object, Reference, Through, UpdateRule, Width};

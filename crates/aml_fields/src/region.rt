@@ -1,6 +1,6 @@
 // Single accesses of the units of a region.
 
-ghost use Rattle.std.specs.Prelude.{◌≡◌, ◌<◌, ◌≤◌, ◌-◌, ◌^◌, IfOk, IfSome, IfNone, Ok, false};
+ghost use Rattle.std.specs.Prelude.{◌≡◌, ◌<◌, Ok, false};
 ghost use Rattle.aml_regions.specs.Fields.{IsSound, access, end};
 ghost use Rattle.aml_meaning.specs.Fields.{region_plan};
 

@@ -1,6 +1,6 @@
 // The units that a field touches, and what is read and written unit by unit.
 
-ghost use Rattle.std.specs.Prelude.{◌≡◌, ℕ, ◌<◌, ◌≤◌, ◌+◌, ◌-◌, ◌^◌, IfOk, IfSome, IfNone, Ok, false};
+ghost use Rattle.std.specs.Prelude.{◌≡◌, ◌<◌, ◌≤◌, ◌+◌, ◌-◌, ◌^◌, IfOk, IfSome, IfNone, Ok, false};
 ghost use Rattle.aml_regions.specs.Fields.{IsLaidOut, bits_of, end, first, unit_place};
 ghost use Rattle.aml_regions.specs.Worlds.{CountsRefusal};
 ghost use Rattle.aml_meaning.specs.Fields.{Takes, UnitPlan, told, went};

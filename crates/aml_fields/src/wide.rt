@@ -1,6 +1,6 @@
 // Reads of fields as bytes.
 
-ghost use Rattle.std.specs.Prelude.{◌≡◌, ℕ, ◌<◌, ◌≤◌, ◌+◌, ◌-◌, ◌*◌, ◌/◌, length, slice_index};
+ghost use Rattle.std.specs.Prelude.{◌≡◌, ℕ, ◌<◌, ◌+◌, ◌-◌, ◌/◌, length, slice_index};
 ghost use Rattle.aml_regions.specs.Fields.{IsSoundField, layout_of};
 ghost use Rattle.aml_regions.specs.Worlds.{CountsRefusal};
 ghost use Rattle.aml_meaning.specs.Fields.{Takes, bytes_read, plan_reads, read_bytes, read_count, told_bytes};

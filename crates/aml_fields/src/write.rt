@@ -1,6 +1,6 @@
 // Writes of fields.
 
-ghost use Rattle.std.specs.Prelude.{◌≡◌, ◌<◌, ◌≤◌, ◌-◌, ◌^◌, IfOk, IfSome, IfNone, Ok, false};
+ghost use Rattle.std.specs.Prelude.{◌≡◌, ◌<◌, ◌-◌, ◌^◌, IfOk, IfSome, IfNone, Ok, false};
 ghost use Rattle.aml_regions.specs.Fields.{IsSoundField, bits_of, end};
 ghost use Rattle.aml_regions.specs.Worlds.{CountsRefusal};
 ghost use Rattle.aml_meaning.specs.Fields.{Takes, bits_written, others_cost, others_of, plan_writes, told, went, write_bits, write_count};

@@ -11,7 +11,7 @@ use aml_fields::{
 };
 use aml_namespace::{NoMemory, ObjectId};
 use aml_regions::{Access, AnyField, Event, FieldLayout, OtherBits, RegionField, UnitWidth, World};
-use std::alloc::{AllocError, Global};
+use std::alloc::Global;
 use std::test::Fail;
 
 /// The integer that fields are given.

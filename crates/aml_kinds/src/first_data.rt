@@ -1,6 +1,6 @@
 // What data holds, by its term (ACPI 6.5, 19.6, Name, Buffer and Package).
 
-ghost use Rattle.std.specs.Prelude.{◌≡◌, ◌≤◌, ◌-◌, ◌++◌, IfOk, drop, length, map, replicate, take};
+ghost use Rattle.std.specs.Prelude.{◌≡◌, ◌-◌, ◌++◌, IfOk, drop, length, map, replicate, take};
 ghost use Rattle.aml_lex.specs.Standing.{bytes_between};
 ghost use Rattle.aml_operators.specs.Tree.{view, views};
 ghost use Rattle.aml_namespace.specs.Shows.{shown};

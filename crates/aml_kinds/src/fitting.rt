@@ -2,7 +2,7 @@
 
 ghost use Rattle.std.specs.Prelude.{◌≡◌};
 ghost use Rattle.aml_kinds.specs.Fits as spec;
-ghost use Rattle.aml_kinds.specs.Fits.{fits_shape, fits_place, most_elements};
+ghost use Rattle.aml_kinds.specs.Fits.{fits_shape, fits_place};
 ghost use Rattle.aml_kinds.specs.Views.{view, element, elements_of};
 ghost use Rattle.aml_kinds.specs.KindViews.{kind_of, element_kind, shape_of};
 

@@ -1,13 +1,13 @@
 // What data names hold.
 
-ghost use Rattle.std.specs.Prelude.{◌≡◌, ◌<◌, ◌↔◌, ◌++◌, ◌∷◌, [], length, OnOk, OnErr, IfOk, IfErr, IsTrue, is_ok, true, Some};
+ghost use Rattle.std.specs.Prelude.{◌≡◌, ◌↔◌, ◌++◌, ◌∷◌, [], OnOk, OnErr, IfOk, IfErr, IsTrue, is_ok, true, Some};
 ghost use Rattle.std.specs.Option.{option_map};
 ghost use Rattle.aml_namespace.specs.Shows.{shown};
 ghost use Rattle.aml_kinds.specs.Belongs.{Belong};
 ghost use Rattle.aml_kinds.specs.Contents.{HoldTheirKinds, are_fitting, changed_byte, content_at, has_byte, kind_at, may_hold, with_byte, with_content};
 ghost use Rattle.aml_kinds.specs.ContentViews.{content, content_kind, content_kinds_of, contents_of};
 ghost use Rattle.aml_kinds.specs.DataKinds.{name_kind_told, object_kind};
-ghost use Rattle.aml_kinds.specs.FirstKinds.{first_kind, greatest_of, held_first, within_width};
+ghost use Rattle.aml_kinds.specs.FirstKinds.{first_kind, greatest_of, held_first};
 ghost use Rattle.aml_kinds.specs.KindViews.{kind_of};
 ghost use Rattle.aml_kinds.specs.SameKinds.{same_content_kind, same_kind};
 ghost use Rattle.aml_kinds.specs.Views.{view};

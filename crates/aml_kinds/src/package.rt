@@ -1,6 +1,6 @@
 // Packages, no deeper than terms may be.
 
-ghost use Rattle.std.specs.Prelude.{◌≡◌, ◌≤◌, ◌↔◌, suc, IfOk, IfErr, IsOk};
+ghost use Rattle.std.specs.Prelude.{◌≡◌, ◌≤◌, ◌↔◌, IfOk, IfErr, IsOk};
 ghost use Rattle.aml_kinds.specs.Values.{package_depth, element_depth, greatest_depth};
 ghost use Rattle.aml_kinds.specs.Values.{most_nested, count};
 ghost use Rattle.aml_kinds.specs.Views.{element, elements_of};

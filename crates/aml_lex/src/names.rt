@@ -1,6 +1,6 @@
 // Name strings as they were read (ACPI 6.5, 20.2.2).
 
-ghost use Rattle.std.specs.Prelude.{◌≡◌, ◌<◌, ◌==◌, ◌&&◌, length, not, slice_get, Some, None, Option, if◌then◌else◌};
+ghost use Rattle.std.specs.Prelude.{◌≡◌, ◌<◌, length, slice_get, Some, None, Option};
 ghost use Rattle.aml_lex.specs.Names.{name_of, seg_bytes, lone_segment};
 
 use std::fmt;

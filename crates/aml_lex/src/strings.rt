@@ -1,6 +1,6 @@
 // String data (ACPI 6.5, 20.2.3).
 
-ghost use Rattle.std.specs.Prelude.{◌≡◌, ◌≤◌, ◌<◌, ℕ, List, length, IfOk};
+ghost use Rattle.std.specs.Prelude.{◌≤◌, ◌<◌, ℕ, List, length, IfOk};
 ghost use Rattle.std.specs.Borrow.{Bor};
 ghost use Rattle.aml_lex.specs.Exact.{Reads};
 ghost use Rattle.aml_lex.specs.Reading.{IsSeenAs, string_data_at, with_value};

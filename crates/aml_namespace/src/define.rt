@@ -1,6 +1,6 @@
 // What a module's terms make, in the order of the bytes (ACPI 6.5, 5.3 and 19.6).
 
-ghost use Rattle.std.specs.Prelude.{◌≡◌, ◌≤◌, ◌+◌, ◌++◌, length, OnOk, OnErr, Err};
+ghost use Rattle.std.specs.Prelude.{◌≡◌, ◌≤◌, ◌++◌, length, OnOk, OnErr, Err};
 ghost use Rattle.aml_operators.specs.declared.row.Code.TheVariants as code;
 ghost use Rattle.aml_operators.specs.Shape.{AreShaped, IsShaped};
 ghost use Rattle.aml_operators.specs.Tree.{view, views};

@@ -1,7 +1,7 @@
 // Why tables cannot be loaded.
 
 ghost use Rattle.aml_namespace.specs.Causes.{load_cause_text};
-ghost use Rattle.std.specs.Prelude.{◌≡◌, ⊤};
+ghost use Rattle.std.specs.Prelude.{◌≡◌};
 ghost use Rattle.aml_namespace.specs.declared.fault.LoadFault.TheVariants.{NoMemory};
 ghost use Rattle.aml_namespace.specs.Fault.{load_refusal, table_refusal, tree_fault};
 

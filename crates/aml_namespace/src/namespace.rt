@@ -20,7 +20,6 @@ use crate::memory::NoMemory;
 use crate::object::{Entry, Method, NamePlace, Object, ObjectId, Scope};
 use crate::objects::Objects;
 use crate::own_names::OwnNames;
-use crate::paths::ROOT;
 use crate::predefined::predefined;
 use crate::width::Width;
 use aml_lex::{NameRef, NameSeg};
@@ -57,7 +56,7 @@ pub struct Namespace<'a> {
 }
 
 impl<'a> Namespace<'a> {
-    ghost use Rattle.std.specs.Prelude.{◌≤◌, Option, IfOk, suc, option_and_then, slice_get};
+    ghost use Rattle.std.specs.Prelude.{Option, IfOk};
     ghost use Rattle.std.specs.Option.{option_map};
     ghost use Rattle.aml_tree.specs.Body.{trees_read};
     ghost use Rattle.aml_namespace.specs.LookUp.{looked_up};

@@ -1,6 +1,6 @@
 // What stands under the paths of a namespace (ACPI 6.5, 5.3).
 
-ghost use Rattle.std.specs.Prelude.{◌≡◌, ◌≤◌, ◌<◌, ◌-◌, ◌^◌, ℕ, suc, length, slice_get, option_and_then, OnOk, OnErr, IfOk, IfSome, None, ◌==◌, if◌then◌else◌, ◌++◌, ◌∷◌, []};
+ghost use Rattle.std.specs.Prelude.{◌≡◌, ◌≤◌, ◌<◌, ◌-◌, ◌^◌, suc, length, slice_get, option_and_then, OnOk, OnErr, IfOk, IfSome, None, ◌==◌, if◌then◌else◌, ◌++◌, ◌∷◌, []};
 ghost use Rattle.std.specs.Option.{option_map};
 ghost use Rattle.aml_lex.specs.Names.{name_of};
 ghost use Rattle.aml_namespace.specs.Enter.{checked_path, made_path};

@@ -1,6 +1,6 @@
 // Paths as they are printed.
 
-ghost use Rattle.std.specs.Prelude.{◌≡◌, ◌+◌, ◌≤◌, ◌∷◌, [], length, drop, slice_index, option_and_then};
+ghost use Rattle.std.specs.Prelude.{◌≡◌, ◌+◌, ◌≤◌, ◌∷◌, [], length, slice_index, option_and_then};
 ghost use Rattle.aml_namespace.specs.Paths.{path_number};
 ghost use Rattle.aml_namespace.specs.Printed.{path_in, segments_in};
 

@@ -1,7 +1,6 @@
 // What a running evaluation changes.
 
 ghost use Rattle.std.specs.Prelude.{◌≡◌, ◌≤◌, suc, List, None, OnOk, Option, Some};
-ghost use Rattle.std.specs.Option.{option_map};
 ghost use Rattle.aml_kinds.specs.Contents.{content_at};
 ghost use Rattle.aml_kinds.specs.Views.{view};
 ghost use Rattle.aml_regions.specs.declared.event.Event.{Event};

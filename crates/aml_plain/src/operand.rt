@@ -3,7 +3,6 @@
 ghost use Rattle.std.specs.Prelude.{◌≡◌, ◌≤◌, IsSome, List};
 ghost use Rattle.aml_kinds.specs.Views.{view};
 ghost use Rattle.aml_operators.specs.Literal.{literal_in};
-ghost use Rattle.aml_operators.specs.Tree as tree;
 ghost use Rattle.aml_operators.specs.Tree.{views};
 ghost use Rattle.aml_regions.specs.declared.event.Event.{Event};
 ghost use Rattle.aml_meaning.specs.declared.action.Action.TheVariants as does;

@@ -1,6 +1,6 @@
 // Bytes by space and address.
 
-ghost use Rattle.std.specs.Prelude.{◌≡◌, ◌<◌, ◌≤◌, ◌+◌, ◌/◌, ◌^◌, ℕ, OnOk, OnErr, IsOk, IsSome, length, slice_index};
+ghost use Rattle.std.specs.Prelude.{◌≡◌, ◌<◌, ◌≤◌, ◌+◌, ◌/◌, ◌^◌, ℕ, OnOk, OnErr, IsOk, length, slice_index};
 ghost use Rattle.aml_regions.specs.Bytes.{byte_of, unit_of, with_run, with_unit, AreSet, IsSet, SameBytes};
 ghost use Rattle.aml_regions.specs.Worlds.{IsUnit};
 

@@ -1,6 +1,6 @@
 // A world of bytes, which keeps its log.
 
-ghost use Rattle.std.specs.Prelude.{◌≡◌, ◌<◌, ◌^◌, ℕ, [], OnOk, OnErr, IfOk, IfErr, IsErr};
+ghost use Rattle.std.specs.Prelude.{◌≡◌, ◌<◌, ◌^◌, [], OnOk, OnErr, IfOk, IfErr, IsErr};
 ghost use Rattle.aml_regions.specs.Bytes.{unit_of, with_unit, SameBytes};
 ghost use Rattle.aml_regions.specs.declared.event.Event.{Event};
 ghost use Rattle.aml_regions.specs.declared.event.Event.TheVariants.{Read, Written, Notified, Slept, Stalled};

@@ -1,6 +1,6 @@
 // A method's body (ACPI 6.5, 20.2.5), in which the names that it makes take no arguments.
 
-ghost use Rattle.std.specs.Prelude.{◌≡◌, ◌≤◌, ◌<◌, ◌↔◌, ℕ, List, length, take, IsTrue, IfOk, IfErr, OnOk, []};
+ghost use Rattle.std.specs.Prelude.{◌≡◌, ◌≤◌, ◌<◌, ◌↔◌, List, length, take, IsTrue, IfOk, IfErr, OnOk, []};
 ghost use Rattle.aml_operators.specs.Tree.{view, views};
 ghost use Rattle.aml_operators.specs.declared.term.Term.{out-Term};
 ghost use Rattle.aml_operators.specs.declared.row.Code.TheVariants as code;

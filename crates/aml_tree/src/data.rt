@@ -1,6 +1,6 @@
 // The data of a Name (ACPI 6.5, 20.2.5.1).
 
-ghost use Rattle.std.specs.Prelude.{◌≡◌, ◌≤◌, length, take};
+ghost use Rattle.std.specs.Prelude.{◌≤◌, length, take};
 ghost use Rattle.aml_operators.specs.Tree.{view};
 ghost use Rattle.aml_tree.specs.Fault.{ReadsAs};
 ghost use Rattle.aml_tree.specs.Data.{ReadsData, data_at, tree_read};

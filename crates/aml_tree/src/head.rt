@@ -1,6 +1,6 @@
 // How data in a module begins (ACPI 6.5, 20.2.5.1), read without memory.
 
-ghost use Rattle.std.specs.Prelude.{◌≡◌, ◌≤◌, ◌<◌, IfOk, IfSome, length};
+ghost use Rattle.std.specs.Prelude.{◌≤◌, ◌<◌, IfOk, IfSome, length};
 ghost use Rattle.aml_operators.specs.declared.row.Spot.TheVariants as spot;
 ghost use Rattle.aml_tree.specs.Body.{greatest_depth};
 ghost use Rattle.aml_tree.specs.Fault.{ReadsAs, TakesNone, same};

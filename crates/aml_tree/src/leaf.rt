@@ -1,7 +1,6 @@
 // Parts without parts of their own.
 
 ghost use Rattle.std.specs.Prelude.{◌≡◌, ◌≤◌, ◌<◌, ◌+◌, length, IfOk, slice_get, true};
-ghost use Rattle.std.specs.Borrow.{Bor};
 ghost use Rattle.aml_lex.specs.Names.{name_of};
 ghost use Rattle.aml_operators.specs.Places.{size_of};
 ghost use Rattle.aml_tree.specs.Fault.{ReadsAs, TakesNone, same, refusal};

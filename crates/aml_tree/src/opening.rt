@@ -1,10 +1,10 @@
 // How a term begins.
 
-ghost use Rattle.std.specs.Prelude.{◌≡◌, ◌≤◌, ◌<◌, ◌+◌, ◌==◌, ◌&&◌, length, IfOk};
+ghost use Rattle.std.specs.Prelude.{◌≡◌, ◌<◌, ◌+◌, ◌==◌, ◌&&◌, length, IfOk};
 ghost use Rattle.aml_operators.specs.Table.{op_of};
 ghost use Rattle.aml_operators.specs.Places.{naming};
 ghost use Rattle.aml_tree.specs.Fault.{ReadsAs, TakesNone, refusal};
-ghost use Rattle.aml_tree.specs.Opening.{is_name_lead, may_be_none, asking, name_opening, row_opening, coded_opening, opening_at};
+ghost use Rattle.aml_tree.specs.Opening.{is_name_lead, may_be_none, asking, name_opening, row_opening, opening_at};
 ghost use Rattle.aml_tree.specs.Openings.{opening_of, IsNext, IsWithin};
 
 use crate::fault::{Refusal, TreeCause, TreeFault};

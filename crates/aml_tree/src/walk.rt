@@ -1,6 +1,6 @@
 // One walk over the bytes by the operator table.
 
-ghost use Rattle.std.specs.Prelude.{◌≡◌, ◌≤◌, ◌<◌, ◌+◌, ◌-◌, ℕ, List, length, map, take, drop, [], IfOk, slice_get, true};
+ghost use Rattle.std.specs.Prelude.{◌≡◌, ◌≤◌, ◌<◌, ◌+◌, ◌-◌, length, map, [], IfOk};
 ghost use Rattle.aml_operators.specs.Fields.{pieces_of};
 ghost use Rattle.aml_operators.specs.Tree.{Node, none, view};
 ghost use Rattle.aml_operators.specs.declared.term.Term.{out-Term};

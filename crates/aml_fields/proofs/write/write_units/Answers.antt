@@ -1,6 +1,6 @@
 use Rattle.std.proofs.Common.{◌≡◌, ◌<◌, ◌^◌, ◌-◌, Ok, refl, ap, ◌∙◌, arith}
 use Rattle.std.proofs.lemmas.Result.{err_from_is_err_and}
-use Rattle.aml_regions.specs.Fields.{bits_of, end, mixed}
+use Rattle.aml_regions.specs.Fields.{bits_of, end}
 use Rattle.aml_meaning.specs.Fields.{cost_from}
 use Rattle.aml_fields.proofs.Places.{first_before, first_end}
 use Rattle.aml_fields.proofs.Writing.{turn, mixed_lt, mixed_same, plan_cost, plan_write, write_more, write_stops, write_ends, write_all}

@@ -1,4 +1,3 @@
-use Rattle.std.proofs.Common.{◌≡◌}
 use Rattle.std.proofs.lemmas.Result.{err_from_is_err_and}
 use Rattle.aml_meaning.specs.Fields.{indexed_plan, region_plan}
 use Rattle.aml_meaning.proofs.Runs.{runs_then, runs_stop}
