@@ -1,16 +1,17 @@
 -- Lists in order, steps of terms, and frames behind calls.
-use Rattle.std.proofs.Common.{◌≡◌, ℕ, zero, suc, List, refl, Option, Some, None}
+use Rattle.std.proofs.Common.{◌≡◌, ◌<◌, ℕ, zero, suc, List, refl, Option, Some, None, arith}
 use Rattle.aml_operators.specs.Tree.{Node, none, more, joined}
 use Rattle.aml_kinds.specs.Values.{Value}
 use Rattle.aml_regions.specs.declared.event.Event.{Event}
-use Rattle.aml_meaning.specs.State.{State, Frame, Out, Goes, Halts, NoAnswer, Spent, Error, Returned, Broke, Continued, state_of}
+use Rattle.aml_meaning.specs.State.{State, Frame, Out, Goes, Halts, NoAnswer, Spent, Error, Returned, Broke, Continued, state_of, with_steps}
 use Rattle.aml_meaning.specs.Parts.{M, ◌>>=◌, then_do, give, stop_with, tick, paid, take_step}
 use Rattle.aml_meaning.specs.Calls.{framed, inside, left}
 use Rattle.aml_meaning.specs.Rules.{Place}
-use Rattle.aml_meaning.specs.Meaning.{mean, mean_all}
+use Rattle.aml_meaning.specs.Actions.{action}
+use Rattle.aml_meaning.specs.Meaning.{act, mean, mean_all}
 use Rattle.aml_meaning.specs.Definitions.{mean_body, statement}
 use Rattle.aml_meaning.specs.Within.{Callee, call_within, callee_or, setting_for}
-use Rattle.aml_meaning.specs.Laws.{ListsAreInOrder, BodiesAreInOrder, TermsTakeAStep, CallsKeepTheFrame}
+use Rattle.aml_meaning.specs.Laws.{ListsAreInOrder, BodiesAreInOrder, TermsTakeAStep, TermsWantAStep, CallsKeepTheFrame}
 
 -- what follows a first part and what follows that follow the first part together
 parted : {U V W : Type 0} (o : Out U) (f : U → State → Out V) (g : V → State → Out W) (h : U → State → Out W) → ((u : U) (s : State) → h u s ≡ then_do (f u s) g) → then_do o h ≡ then_do (then_do o f) g
@@ -37,9 +38,18 @@ bodies_in_order here (more t ts) rest script s =
 spent_there : {V W : Type 0} (n : ℕ) (s : State) (f : State → Out V) (g : V → State → Out W) → n ≡ 0 → then_do (take_step n s f) g ≡ Spent s
 spent_there n s f g e = rw e refl
 
+pub terms_want_a_step : TermsWantAStep
+unfolding ◌>>=◌ tick paid
+terms_want_a_step here (Node op at stop parts) script s e = spent_there s.steps s _ _ e
+
+-- behind a step that is left, fewer are left, whatever follows it
+taken_there : {W : Type 0} (n : ℕ) (s : State) (m : Unit {0} → M W) (script : List Event) → 0 < n → (state_of (then_do (take_step n s (λ next. Goes tt next)) (λ u next. (m u).run script next))).steps < n
+taken_there zero s m script some = omega (arith, some)
+taken_there (suc n) s m script some = omega (arith, (m tt).falls script (with_steps s n))
+
 pub terms_take_a_step : TermsTakeAStep
 unfolding ◌>>=◌ tick paid
-terms_take_a_step here (Node op at stop parts) script s e = spent_there s.steps s _ _ e
+terms_take_a_step here (Node op at stop parts) script s some = taken_there s.steps s (λ u. act here (action op) at parts) script some
 
 -- what is left behind a call is the caller's frame
 left_frame : (table : ℕ) (frame : Frame) (o : Out (Unit {0})) → (state_of (left table frame o)).frame ≡ frame

@@ -1,5 +1,5 @@
 -- Laws of the meaning: what can be said of any term, any list and any call (ACPI 6.5, 5.5.2 and 19.6).
-use Rattle.std.specs.Prelude.{◌≡◌, ℕ, List}
+use Rattle.std.specs.Prelude.{◌≡◌, ◌<◌, ℕ, List}
 use Rattle.aml_operators.specs.Tree.{Tree, Trees, joined}
 use Rattle.aml_kinds.specs.Values.{Value}
 use Rattle.aml_regions.specs.declared.event.Event.{Event}
@@ -21,8 +21,12 @@ BodiesAreInOrder = (here : Setting) (first rest : Trees) (script : List Event) (
     (mean_body here (joined first rest)).run script s ≡ then_do ((mean_body here first).run script s) (λ u next. (mean_body here rest).run script next)
 
 -- a term wants a step, whatever it is: where none is left, nothing comes of it
+abbrev pub TermsWantAStep : Type 0
+TermsWantAStep = (here : Setting) (t : Tree) (script : List Event) (s : State) → s.steps ≡ 0 → (mean here t).run script s ≡ Spent s
+
+-- and it takes one at least: where a step is left before it, fewer are left behind it, however it ends
 abbrev pub TermsTakeAStep : Type 0
-TermsTakeAStep = (here : Setting) (t : Tree) (script : List Event) (s : State) → s.steps ≡ 0 → (mean here t).run script s ≡ Spent s
+TermsTakeAStep = (here : Setting) (t : Tree) (script : List Event) (s : State) → 0 < s.steps → (state_of ((mean here t).run script s)).steps < s.steps
 
 -- behind a call the caller's locals, arguments and own names are as before, however the call ends
 abbrev pub CallsKeepTheFrame : Type 0

@@ -1,6 +1,6 @@
 // Laws of the meaning, over its definitions alone.
 
-ghost use Rattle.aml_meaning.specs.Laws.{BodiesAreInOrder, CallsKeepTheFrame, ListsAreInOrder, TermsTakeAStep};
+ghost use Rattle.aml_meaning.specs.Laws.{BodiesAreInOrder, CallsKeepTheFrame, ListsAreInOrder, TermsTakeAStep, TermsWantAStep};
 ghost use Rattle.aml_meaning.specs.Quiet.{QuietTermsKeep};
 ghost use Rattle.aml_meaning.specs.Whole.{DoneIsStable, ErrorIsStable, LeftBitIsHighest, OtherAnswerIsNone, ReadIsAnswered, RightBitIsLowest, ZeroHasNoBit};
 
@@ -32,9 +32,11 @@ pub fn lists_are_in_order()
     ensures bodies { BodiesAreInOrder }
 {}
 
-/// A term takes a step, whatever it is: with none left, it is out of steps.
+/// A term takes a step, whatever it is: with none left, it is out of steps, and else fewer are left
+/// behind it, however it ends.
 pub fn terms_take_a_step()
-    ensures { TermsTakeAStep }
+    ensures wanted { TermsWantAStep }
+    ensures taken { TermsTakeAStep }
 {}
 
 /// However a call ends, the caller's locals, arguments and own names stand as before.
