@@ -5,6 +5,7 @@
 |---|---|
 | adds | a method MAIN of COUNT statements `Add (Local0, One, Local0)` behind a first Store, and a Return |
 | ones | a method MAIN of COUNT statements One |
+| again | the same, and behind them an If (Zero) in which MAIN calls itself |
 | nested | a method MAIN of COUNT statements, each a chain of 62 LNot, one within the other, round a One |
 | deepest | COUNT methods, the first of them MAIN, each of which returns what it calls the next with: 62 calls, one within the other, of a method that returns its argument |
 | deepest_ifs | COUNT methods, the first of them MAIN, each of which calls the next within 63 Ifs, one within the other |
@@ -180,6 +181,8 @@ def body_of(kind, count):
         return method(b"MAIN", b"\x70\x00\x60" + b"\x72\x60\x01\x60" * count + b"\xa4\x60")
     if kind == "ones":
         return method(b"MAIN", b"\x01" * count)
+    if kind == "again":
+        return method(b"MAIN", b"\x01" * count + package(b"\xa0", b"\x00MAIN"))
     if kind == "nested":
         return method(b"MAIN", (b"\x92" * 62 + b"\x01") * count)
     if kind == "deepest":

@@ -8,9 +8,9 @@ ghost use Rattle.aml_namespace.specs.Names.{method_at};
 ghost use Rattle.aml_namespace.specs.Shows.{bytes_in, shown};
 ghost use Rattle.acpi_listing.specs.Commands.{EvaluatesFiles, EvaluatesTables, IsMethodAt, IsNoMethodAt, printed_path};
 ghost use Rattle.acpi_listing.specs.Commands.{IsMeant, Takes, are_taken, evaluation_text, is_taken, outcome_status, with_events};
-ghost use Rattle.aml_operators.specs.declared.row.Code.TheVariants as code;
-ghost use Rattle.aml_operators.specs.Shape.{AreShaped};
+ghost use Rattle.aml_operators.specs.Tree as terms;
 ghost use Rattle.aml_operators.specs.Tree.{views};
+ghost use Rattle.aml_plain.specs.Methods.{AreStatementsOf};
 ghost use Rattle.acpi_listing.specs.Steps.{Tells, Tries, Writes};
 ghost use Rattle.acpi_listing.specs.Inputs.{tables_of};
 ghost use Rattle.acpi_listing.specs.Loading.{interfaces_of};
@@ -30,7 +30,7 @@ use acpi_text::{RunFault, list_evaluation, list_events, list_refusal};
 use aml_kinds::{Names, Value};
 use aml_namespace::{Method, Namespace, ObjectId, Width};
 use aml_operators::Term;
-use aml_plain::{Outcome, evaluate_terms};
+use aml_plain::{Outcome, evaluate_tree};
 use aml_regions::{Event, RegisterFile};
 use aml_tree::{Refusal, TreeFault};
 use std::alloc::Global;
@@ -111,7 +111,7 @@ fn evaluate_inputs<F: Source, W: Write>(
     }
     let mut world = registers;
     let steps = request.steps;
-    let outcome = outcome_of(alloc, &namespace, id, &body, arguments, &mut world, steps)?;
+    let outcome = outcome_of(alloc, &namespace, id, body, arguments, &mut world, steps)?;
     tell_outcome(alloc, out, &namespace, &outcome, world.events())
 }
 
@@ -120,20 +120,20 @@ fn outcome_of(
     alloc: Global,
     namespace: &Namespace<'_>,
     id: ObjectId,
-    body: &[Term],
+    body: Vec<Term>,
     arguments: Vec<Value>,
     world: &mut RegisterFile,
     steps: u64,
 ) -> Result<Outcome, Fault>
     requires known { IsSome (method_at (shown namespace.now) id.0) }
-    requires shaped { AreShaped code.Body (views body.now) }
+    requires read { AreStatementsOf (shown namespace.now) id.0 (map terms.view body.items) }
     requires fresh { world.old.events.items ≡ [] }
     ensures { (m : Method) → method_at (shown namespace.now) id.0 ≡ Some m →
-        IsMeant (shown namespace.now) id.0 m (views body.now) (map view (vec_items arguments)) steps
+        IsMeant (shown namespace.now) id.0 m (views body.items) (map view (vec_items arguments)) steps
         (with_events result world.new.events.items) }
 {
     let mut names = Names::initial(alloc, namespace)?;
-    let outcome = evaluate_terms(
+    let outcome = evaluate_tree(
         alloc, namespace, &mut names, id, body, arguments, world, steps,
     )?;
     Ok(outcome)

@@ -33,4 +33,4 @@ mod target;
 
 pub use body::Outcome;
 pub use law::bodies_are_there;
-pub use method::{evaluate_plain, evaluate_terms};
+pub use method::{evaluate_plain, evaluate_tree};

@@ -2,21 +2,18 @@
 
 ghost use Rattle.std.specs.Prelude.{◌≡◌, List, Some, IsSome, map};
 ghost use Rattle.aml_kinds.specs.Views as values;
-ghost use Rattle.aml_operators.specs.declared.row.Code.TheVariants as code;
-ghost use Rattle.aml_operators.specs.Shape.{AreShaped};
-ghost use Rattle.aml_operators.specs.Tree.{Tree, trees, views};
+ghost use Rattle.aml_operators.specs.Tree.{Tree, trees, view, views};
 ghost use Rattle.aml_namespace.specs.declared.object.Method.{Method};
 ghost use Rattle.aml_namespace.specs.Shows.{shown};
 ghost use Rattle.aml_namespace.specs.Names.{method_at, IsBodyOf};
-ghost use Rattle.aml_plain.specs.Methods.{Evaluates, Parses};
+ghost use Rattle.aml_plain.specs.Methods.{AreStatementsOf, Evaluates, Parses};
 ghost use Rattle.aml_plain.specs.Tells.{names_of};
 
 use crate::body::{Outcome, evaluate_body};
 use crate::halt::{Scene, Setting};
-use crate::links::Links;
-use crate::prepared::Bodies;
+use crate::prepared::{Bodies, prepare_body};
 use aml_kinds::{Names, Value};
-use aml_namespace::{Namespace, NoMemory, ObjectId, OwnNames};
+use aml_namespace::{Namespace, NoMemory, ObjectId};
 use aml_regions::World;
 use aml_tree::{Term, TreeFault};
 use std::alloc::Global;
@@ -24,47 +21,46 @@ use std::alloc::Global;
 /// How many methods may be active within the first.
 const MOST_WITHIN: u8 = 63;
 
-/// Evaluates a method whose body is these terms, as `Namespace::tree` reads them, with its arguments
+/// Evaluates a method whose body is read already, as `Namespace::tree` answers it, with its arguments
 /// and at most so many steps, over what names hold and a world.
 ///
 /// After an AML error, at the end of the steps and for want of memory, names and world are as the
 /// steps so far left them.
-pub fn evaluate_terms<W: World>(
+pub fn evaluate_tree<W: World>(
     alloc: Global,
     namespace: &Namespace<'_>,
     names: &mut Names,
     method: ObjectId,
-    body: &[Term],
+    body: Vec<Term>,
     arguments: Vec<Value>,
     world: &mut W,
     fuel: u64,
 ) -> Result<Outcome, NoMemory>
     requires known { IsSome (method_at (shown namespace.now) method.0) }
-    requires shaped { AreShaped code.Body (views body.now) }
+    requires read { AreStatementsOf (shown namespace.now) method.0 (map view body.items) }
     ensures { let ns = shown namespace.now in (m : Method) → method_at ns method.0 ≡ Some m →
-        Evaluates ns method.0 m (views body.now) (map values.view arguments.items) fuel
+        Evaluates ns method.0 m (views body.items) (map values.view arguments.items) fuel
         (names_of names.old) (W.log world.old)
         result (names_of names.new) (W.log world.new) }
 {
-    let bytes = namespace.body_bytes(method);
-    let owns = OwnNames::of(alloc, bytes, body)?;
-    let links = Links::of(alloc, namespace, method, bytes, &owns, body)?;
-    let bodies = Bodies::of(alloc, namespace, &links)?;
+    let prepared = prepare_body(alloc, namespace, method, body)?;
+    let bodies = Bodies::of(alloc, namespace, method, prepared)?;
+    let first = &bodies.first;
     let scene = Scene {
-        table: namespace.method(method).unwrap().table,
+        table: first.table,
         width: namespace.width(),
         namespace,
         method,
-        bytes,
-        owns: &owns,
-        links: &links,
+        bytes: namespace.body_bytes(method),
+        owns: &first.owns,
+        links: &first.links,
         bodies: &bodies,
     };
     let here = Setting {
         scene: &scene,
         depth: MOST_WITHIN,
     };
-    evaluate_body(alloc, here, body, arguments, names, world, fuel)
+    evaluate_body(alloc, here, &first.body, arguments, names, world, fuel)
 }
 
 /// Evaluates a method from the bytes of its table, with its arguments and at most so many steps, over
@@ -92,8 +88,8 @@ pub fn evaluate_plain<W: World>(
         result (names_of names.new) (W.log world.new) }
 {
     match namespace.tree(alloc, method) {
-        Ok(body) => evaluate_terms(
-            alloc, namespace, names, method, &body, arguments, world, fuel,
+        Ok(body) => evaluate_tree(
+            alloc, namespace, names, method, body, arguments, world, fuel,
         ),
         Err(TreeFault::NoMemory) => Err(NoMemory),
         Err(TreeFault::Refused(_)) => unreachable!(),

@@ -11,7 +11,7 @@ use aml_meaning::{AmlCause, AmlError};
 use aml_namespace::{
     Content, LoadCause, LoadFault, LoadRefusal, Namespace, NoMemory, Object, ObjectId,
 };
-use aml_plain::{Outcome, evaluate_plain, evaluate_terms};
+use aml_plain::{Outcome, evaluate_plain, evaluate_tree};
 use aml_regions::RegisterFile;
 use aml_tree::TreeFault;
 use std::alloc::{AllocError, Global};
@@ -115,12 +115,12 @@ pub(crate) fn outcome_of_terms(
     };
     let mut names = names_of(alloc, namespace)?;
     let given = integers(alloc, arguments)?;
-    let answer = evaluate_terms(
+    let answer = evaluate_tree(
         alloc,
         namespace,
         &mut names,
         ObjectId(9),
-        &body,
+        body,
         given,
         world,
         fuel,

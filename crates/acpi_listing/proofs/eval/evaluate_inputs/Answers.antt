@@ -6,7 +6,7 @@ use Rattle.acpi_listing.specs.declared.fault.Stop.TheVariants.{Fault as Faulty}
 use Rattle.aml_namespace.specs.Shows.{shown}
 use Rattle.aml_kinds.specs.Views as values
 use Rattle.aml_operators.specs.Tree.{view, trees}
-use Rattle.aml_tree.proofs.Shaped.{body_shaped}
+use Rattle.aml_plain.proofs.Methods.{are_statements}
 use Rattle.acpi_listing.specs.Steps.{Obtains, Tells, Then}
 use Rattle.acpi_listing.specs.Inputs.{tables_of}
 use Rattle.acpi_listing.specs.Loading.{Loads, interfaces_of}
@@ -76,11 +76,9 @@ returns-then-not-fits-clause-printed g c =
     (given_fault (Fit ns m arguments) (λ _. Then (Obtains (IsMeant ns c.in_ok-id.id.0 m (trees ts) arguments steps)) (λ o. Tells (evaluation_text ns.entries o) (outcome_status o.0)))
     (tt {0}) _ (nowhere cause.ArgsDontFit) r (ap (λ f. Faulty f) c.nowhere-then-not-fits.ensures) (refuses, refl))
 
--- the body that was read has its shape
-pub outcome_of-requires-clause-shaped : goal.outcome_of-requires-clause-shaped
-outcome_of-requires-clause-shaped g c =
-    let body = c.in-Ok.ensures c.in_ok-id.method c.in_ok-id.ensures.found.1 in
-    rw c.deref-2.ensures.value (body_shaped _ _ _ _ body).1
+-- the body that is evaluated was read
+pub outcome_of-requires-clause-read : goal.outcome_of-requires-clause-read
+outcome_of-requires-clause-read g c = are_statements (shown c.in_ok-namespace.namespace) c.in_ok-id.id.0 _ c.in-Ok.ensures
 
 pub returns-in_err-outcome-clause-printed : goal.returns-in_err-outcome-clause-printed
 returns-in_err-outcome-clause-printed g c =
@@ -96,7 +94,7 @@ returns-clause-printed g c =
     let ns = shown c.in_ok-namespace.namespace in
     let m = c.in_ok-id.method in
     let body = c.in-Ok.ensures m c.in_ok-id.ensures.found.1 in
-    let meant = rw (c.deref-2.ensures.value, ← c.events.ensures) at (c.in_ok-outcome.ensures m c.in_ok-id.ensures.found.1) in
+    let meant = rw (← c.events.ensures) at (c.in_ok-outcome.ensures m c.in_ok-id.ensures.found.1) in
     after_outcome c.args.request.now.method.now (map values.view c.args.arguments.items) c.args.request.now.steps (interfaces_of (option_map now c.args.request.now.osi)) (tables_of c.args.inputs.now) ns _ m (map view c.in-Ok.body.items) (c.in_ok-outcome.outcome, c.events.result.now) _ _ _
     (known_texts _ _ _ _ _ c.as_slice.ensures.value c.in_ok-known.ensures.known c.in_ok-namespace.ensures) c.in_ok-id.ensures.found body ((rw c.deref.ensures.value at c.fits.ensures).0 c.if-not-fits.false) meant
     c.tell_outcome.ensures.printed

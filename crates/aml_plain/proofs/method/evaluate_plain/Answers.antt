@@ -1,6 +1,5 @@
-use Rattle.aml_tree.proofs.Shaped.{body_shaped}
 use Rattle.aml_namespace.specs.Shows.{shown}
-use Rattle.aml_plain.proofs.Methods.{there, evaluated_body}
+use Rattle.aml_plain.proofs.Methods.{are_statements, there, evaluated_body}
 use Rattle.aml_plain.proofs.Outcomes.{unread}
 use Rattle.aml_plain.proofs.method.evaluate_plain.Goals as goal
 
@@ -12,12 +11,10 @@ unreachable-requires g c =
     refused.1 body.0 body.1
 
 pub returns-in-Ok : goal.returns-in-Ok
-returns-in-Ok g c = evaluated_body (shown c.args.namespace.now) c.args.method.0 _ _ _ _ _ _ _ _ c.in-Ok.ensures (λ m is. rw c.deref.ensures.value at (c.evaluate_terms.ensures m is))
+returns-in-Ok g c = evaluated_body (shown c.args.namespace.now) c.args.method.0 _ _ _ _ _ _ _ _ c.in-Ok.ensures c.evaluate_tree.ensures
 
 pub returns-in-Err-NoMemory : goal.returns-in-Err-NoMemory
 returns-in-Err-NoMemory g c = λ m is ts body around. unread _ _ _ _ _ _ _
 
-pub evaluate_terms-requires-clause-shaped : goal.evaluate_terms-requires-clause-shaped
-evaluate_terms-requires-clause-shaped g c =
-    let m = there (shown c.args.namespace.now) c.args.method.0 c.requires.known in
-    rw c.deref.ensures.value (body_shaped _ _ _ _ (c.in-Ok.ensures m.0 m.1)).1
+pub evaluate_tree-requires-clause-read : goal.evaluate_tree-requires-clause-read
+evaluate_tree-requires-clause-read g c = are_statements (shown c.args.namespace.now) c.args.method.0 _ c.in-Ok.ensures
