@@ -1,14 +1,29 @@
-// What is known to stand at a place, read again.
+// What stands at a place, read again.
 
 ghost use Rattle.std.specs.Prelude.{◌≡◌, IsSome, Some};
+ghost use Rattle.std.specs.Option.{option_map};
 ghost use Rattle.aml_lex.specs.Names.{name_of};
 ghost use Rattle.aml_lex.specs.Standing.{name_there, text_there};
 
-use crate::name_reader::find_name_string;
+use crate::name_reader::{find_name_string, name_string};
 use crate::names::NameRef;
 use crate::strings::find_string_data;
 
-/// The name string that stands at a place.
+/// The name string that stands at a place, where one does; None also past the bytes.
+#[tactic(auto, using(crate::proofs::Fronts::name_there_within))]
+pub fn name_there(bytes: &[u8], at: usize) -> Option<NameRef<'_>>
+    ensures { option_map name_of result ≡ name_there bytes.now at }
+{
+    if at > bytes.len() {
+        return None;
+    }
+    match name_string(bytes, at) {
+        Ok((name, _)) => Some(name),
+        Err(_) => None,
+    }
+}
+
+/// The name string that is known to stand at a place.
 #[tactic(auto, using(crate::proofs::Fronts::name_there_within))]
 pub fn standing_name(bytes: &[u8], at: usize) -> NameRef<'_>
     requires { IsSome (name_there bytes.now at) }
@@ -20,7 +35,7 @@ pub fn standing_name(bytes: &[u8], at: usize) -> NameRef<'_>
     }
 }
 
-/// The text that stands at a place, without its closing 00.
+/// The text that is known to stand at a place, without its closing 00.
 #[tactic(auto, using(crate::proofs::Fronts::text_there_within))]
 pub fn standing_text(bytes: &[u8], at: usize) -> &[u8]
     requires { IsSome (text_there bytes.now at) }

@@ -11,10 +11,9 @@ ghost use Rattle.aml_namespace.specs.Steps.{paths_seen};
 ghost use Rattle.aml_namespace.specs.Trie.{CountsWithin};
 
 use crate::external::External;
-use crate::here::name_at;
 use crate::made::number_of_scope;
 use crate::paths::{Paths, ROOT};
-use aml_lex::{NameRef, NameSeg};
+use aml_lex::{NameRef, NameSeg, name_there};
 use std::alloc::{AllocError, Global};
 use std::collections::BTreeMap;
 
@@ -97,7 +96,7 @@ impl Counted {
         let Some(bytes) = tables.get(external.name.table) else {
             return Ok(());
         };
-        let Some(name) = name_at(bytes, external.name.at) else {
+        let Some(name) = name_there(bytes, external.name.at) else {
             return Ok(());
         };
         let Some(base) = self.paths.base(scope, &name) else {

@@ -14,12 +14,11 @@ use crate::enter::{enter, enter_alias, open};
 use crate::external::External;
 use crate::fault::LoadFault;
 use crate::fields::Cursor;
-use crate::here::{Here, name_at};
+use crate::here::Here;
 use crate::made::{name_place, number_in, object_of, reference};
 use crate::object::{Entry, Field, Object, Through};
 use crate::objects::Objects;
-use crate::parts::{first_and_rest, three, two};
-use aml_operators::{Op, Term, literal_of};
+use aml_operators::{Op, Term, first_and_rest, literal_of, three, two};
 
 /// The object type of methods.
 const METHOD_TYPE: u64 = 8;
@@ -38,7 +37,7 @@ fn enter_object(
     let Some((at, object)) = made else {
         return Ok(());
     };
-    match name_at(here.bytes, at) {
+    match name_there(here.bytes, at) {
         Some(name) => enter(here, objects, at, &name, Entry::Own(object)),
         None => Ok(()),
     }
@@ -97,7 +96,10 @@ fn define_alias(
         Makes result (entries_seen objects.new) (alias_entered (here_of here.entry) entries source_at at) }
     ensures grows { OnOk result (length (entries_seen objects.old) ≤ length (entries_seen objects.new)) }
 {
-    match (name_at(here.bytes, source_at), name_at(here.bytes, at)) {
+    match (
+        name_there(here.bytes, source_at),
+        name_there(here.bytes, at),
+    ) {
         (Some(source), Some(name)) => enter_alias(here, objects, source_at, &source, at, &name),
         _ => Ok(()),
     }
@@ -237,7 +239,7 @@ fn define_within(
         OnOk result (externals.new.items ≡ externals.old.items ++ declared_holding (here_of here.entry)
         entries made (view name.now) (λ inner es. all_declared inner es (views body.now))) }
 {
-    let Some(path) = name_at(here.bytes, name.at) else {
+    let Some(path) = name_there(here.bytes, name.at) else {
         return Ok(());
     };
     enter(here, objects, name.at, &path, Entry::Own(made))?;
@@ -268,7 +270,7 @@ fn define_reopened(
         OnOk result (externals.new.items ≡ externals.old.items ++ declared_reopening (here_of here.entry)
         entries (view name.now) (λ inner. all_declared inner entries (views body.now))) }
 {
-    let Some(path) = name_at(here.bytes, name.at) else {
+    let Some(path) = name_there(here.bytes, name.at) else {
         return Ok(());
     };
     let scope = open(here, objects, name.at, &path)?;

@@ -8,8 +8,7 @@ ghost use Rattle.aml_namespace.specs.FieldLists.{access_of, behind, behind_acces
 
 use crate::made::number_in;
 use crate::object::{AccessType, Field, FieldRule, Through, UpdateRule};
-use crate::parts::two;
-use aml_operators::{Op, Term};
+use aml_operators::{Op, Term, two};
 
 /// What a field list has said so far, up to one of its items.
 #[derive(Clone, Copy, Debug)]

@@ -20,7 +20,6 @@ mod namespace;
 mod object;
 mod objects;
 mod own_names;
-mod parts;
 mod paths;
 mod predefined;
 mod printed;

@@ -14,8 +14,7 @@ use crate::object::{
     BufferField, BufferFieldSize, Content, DataName, Method, NamePlace, Object, ObjectId,
     Reference, Region, Scope, Source,
 };
-use crate::parts::{four, one, three, two};
-use aml_operators::{Op, Term, literal_of};
+use aml_operators::{Op, Term, four, literal_of, one, three, two};
 use aml_tree::Span;
 
 /// The number that stands beside an opcode.

@@ -13,7 +13,6 @@ ghost use Rattle.aml_namespace.specs.Names.{args_of, link_of, method_in};
 use crate::counted::Counted;
 use crate::external::External;
 use crate::fault::LoadFault;
-use crate::here::name_at;
 use crate::link::Link;
 use crate::load::load_tables;
 use crate::memory::NoMemory;
@@ -22,7 +21,7 @@ use crate::objects::Objects;
 use crate::own_names::OwnNames;
 use crate::predefined::predefined;
 use crate::width::Width;
-use aml_lex::{NameRef, NameSeg};
+use aml_lex::{NameRef, NameSeg, name_there};
 use aml_tree::{Arity, Term, TreeFault, read_body};
 use std::alloc::{AllocError, Global};
 
@@ -203,7 +202,7 @@ impl<'a> Namespace<'a> {
         ensures { option_map (λ id. id.0) result
             ≡ element_at (shown self.now).entries id.0 bytes.now at }
     {
-        let name = name_at(bytes, at)?;
+        let name = name_there(bytes, at)?;
         self.lookup(Scope::At(id), &name)
     }
 

@@ -5,9 +5,8 @@ ghost use Rattle.aml_operators.specs.Tree.{view, views};
 ghost use Rattle.aml_tree.specs.Body.{first_at, made_place, rest_of};
 ghost use Rattle.aml_namespace.specs.OwnNames.{HasFirsts, own_at, own_made, own_names, own_number};
 
-use crate::here::name_at;
 use crate::memory::NoMemory;
-use aml_lex::NameSeg;
+use aml_lex::{NameSeg, name_there};
 use aml_operators::{Op, Term};
 use std::alloc::{AllocError, Global};
 use std::collections::BTreeMap;
@@ -76,7 +75,7 @@ impl OwnNames {
     pub(crate) fn own_at(&self, bytes: &[u8], at: usize) -> Option<usize>
         ensures { result ≡ own_at bytes.now (owns_seen self.now) at }
     {
-        self.number(at, name_at(bytes, at)?.lone_segment()?)
+        self.number(at, name_there(bytes, at)?.lone_segment()?)
     }
 }
 
@@ -123,7 +122,7 @@ fn made_place(term: &Term) -> Option<usize>
 fn own_made(bytes: &[u8], term: &Term) -> Option<OwnName>
     ensures { result ≡ own_made bytes.now (view term.now) }
 {
-    let segment = name_at(bytes, made_place(term)?)?.lone_segment()?;
+    let segment = name_there(bytes, made_place(term)?)?.lone_segment()?;
     Some(OwnName {
         segment,
         from: term.end,

@@ -4,9 +4,9 @@
 ghost use Rattle.std.specs.Prelude.{◌≡◌, map, OnOk};
 ghost use Rattle.aml_namespace.specs.Settled.{found, found_entry, found_object, found_through, named_at, settled};
 
-use crate::here::name_at;
 use crate::object::{BufferField, Entry, Field, NamePlace, Object, ObjectId, Reference, Through};
 use crate::objects::Objects;
+use aml_lex::name_there;
 use std::alloc::{AllocError, Global};
 
 impl Objects {
@@ -16,7 +16,7 @@ impl Objects {
     pub(crate) fn named_at(&self, tables: &[&[u8]], name: NamePlace) -> Option<ObjectId>
         ensures { result ≡ named_at (map (λ t. t.now) tables.now) (entries_seen self.now) name }
     {
-        let spelled = name_at(tables.get(name.table)?, name.at)?;
+        let spelled = name_there(tables.get(name.table)?, name.at)?;
         Some(ObjectId(self.look_up(name.scope, &spelled)?))
     }
 

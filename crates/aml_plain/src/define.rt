@@ -12,14 +12,14 @@ ghost use Rattle.aml_meaning.specs.Runs.{Runs};
 ghost use Rattle.aml_plain.specs.Shapes.{HasParts, counted_field, sized_field};
 ghost use Rattle.aml_plain.specs.Tells.{itself, now, setting_of, told, went};
 
-use crate::form::{first_place_if_any, four, three};
+use crate::form::first_place_if_any;
 use crate::halt::{Halt, Setting, fails};
 use crate::machine::Machine;
 use crate::own::{link_of, makes_own};
 use aml_fields::made_part;
 use aml_meaning::{Action, AmlCause, action_of};
 use aml_namespace::{BufferFieldSize, Link};
-use aml_operators::{Term, literal_in};
+use aml_operators::{Term, four, literal_in, three};
 use std::alloc::Global;
 
 /// The place of the name that the source of a field is, where it is one.

@@ -1,4 +1,4 @@
-// The parts of a term, as many as its operator's letters name.
+// What stands first among parts, and which statements an If has.
 
 ghost use Rattle.std.specs.Prelude.{◌≡◌, ◌<◌, length, IsSome, Some};
 ghost use Rattle.aml_operators.specs.declared.row.Code.TheVariants as code;
@@ -7,7 +7,7 @@ ghost use Rattle.aml_operators.specs.Shape.{AreShaped};
 ghost use Rattle.aml_tree.specs.Body.{first_at};
 ghost use Rattle.aml_meaning.specs.Meaning.{is_else};
 ghost use Rattle.aml_plain.specs.Shapes.{IsBranch, IsSplit};
-ghost use Rattle.aml_operators.specs.Tree.{view, views, more, none};
+ghost use Rattle.aml_operators.specs.Tree.{view, views};
 
 use aml_operators::{Op, Term, literal_in};
 
@@ -31,59 +31,6 @@ pub fn first_place_if_any(parts: &[Term]) -> Option<usize>
     match parts {
         [first, ..] => Some(first.at),
         [] => None,
-    }
-}
-
-pub fn one(parts: &[Term]) -> &Term
-    requires { length parts.now ≡ 1 }
-    ensures { views parts.now ≡ more (view result.now) none }
-{
-    match parts {
-        [a] => a,
-        _ => unreachable!(),
-    }
-}
-
-pub fn two(parts: &[Term]) -> (&Term, &Term)
-    requires { length parts.now ≡ 2 }
-    ensures { views parts.now ≡ more (view result.0.now) (more (view result.1.now) none) }
-{
-    match parts {
-        [a, b] => (a, b),
-        _ => unreachable!(),
-    }
-}
-
-pub fn three(parts: &[Term]) -> (&Term, &Term, &Term)
-    requires { length parts.now ≡ 3 }
-    ensures { views parts.now ≡
-        more (view result.0.now) (more (view result.1.now) (more (view result.2.now) none)) }
-{
-    match parts {
-        [a, b, c] => (a, b, c),
-        _ => unreachable!(),
-    }
-}
-
-pub fn four(parts: &[Term]) -> (&Term, &Term, &Term, &Term)
-    requires { length parts.now ≡ 4 }
-    ensures { views parts.now ≡ more (view result.0.now) (more (view result.1.now)
-        (more (view result.2.now) (more (view result.3.now) none))) }
-{
-    match parts {
-        [a, b, c, d] => (a, b, c, d),
-        _ => unreachable!(),
-    }
-}
-
-/// The first of one or more, and the rest.
-pub fn first_and_rest(parts: &[Term]) -> (&Term, &[Term])
-    requires { 0 < length parts.now }
-    ensures { views parts.now ≡ more (view result.0.now) (views result.1.now) }
-{
-    match parts {
-        [first, rest @ ..] => (first, rest),
-        [] => unreachable!(),
     }
 }
 

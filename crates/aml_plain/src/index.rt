@@ -17,7 +17,6 @@ ghost use Rattle.aml_operators.specs.declared.term.Term.TheViews.{out-Term};
 ghost use Rattle.aml_operators.specs.Tree.{views};
 ghost use Rattle.aml_plain.specs.Tells.{IsChanged, itself, names_of, now, place_in, setting_of, told, went};
 
-use crate::form::first_and_rest;
 use crate::halt::{Halt, Setting, fails};
 use crate::machine::Machine;
 use crate::own::link_of;
@@ -25,7 +24,7 @@ use crate::rules::byte_stored;
 use aml_kinds::{Names, Value};
 use aml_meaning::{Action, AmlCause, action_of};
 use aml_namespace::{Link, ObjectId};
-use aml_operators::Term;
+use aml_operators::{Term, first_and_rest};
 
 /// A target that errs before it evaluates anything: the step of its store, and then the error.
 fn refused(

@@ -11,7 +11,7 @@ ghost use Rattle.aml_meaning.specs.Runs.{Runs};
 ghost use Rattle.aml_plain.specs.Shapes.{HasParts, name_and_target, one_name};
 ghost use Rattle.aml_plain.specs.Tells.{now, setting_of, told, value_of, went};
 
-use crate::form::{number_of_literal, one, two};
+use crate::form::number_of_literal;
 use crate::frame::{held, seen};
 use crate::halt::{Halt, Setting, fails};
 use crate::integer::{truth, wrapped};
@@ -22,7 +22,7 @@ use crate::rules::sized;
 use aml_kinds::Value;
 use aml_meaning::{Action, AmlCause, action_of};
 use aml_namespace::Link;
-use aml_operators::{Op, Term};
+use aml_operators::{Op, Term, one, two};
 use std::alloc::Global;
 
 /// A literal's value.

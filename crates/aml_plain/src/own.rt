@@ -1,15 +1,12 @@
 // What names mean in a method's body, and which of them it makes itself.
 
 ghost use Rattle.std.specs.Prelude.{◌≡◌};
-ghost use Rattle.std.specs.Option.{option_map};
-ghost use Rattle.aml_lex.specs.Names.{name_of};
-ghost use Rattle.aml_lex.specs.Standing.{name_there};
 ghost use Rattle.aml_meaning.specs.Definitions.{is_own, makes_own};
 ghost use Rattle.aml_meaning.specs.Methods.{is_lone};
 ghost use Rattle.aml_plain.specs.Tells.{link_in, setting_of};
 
 use crate::halt::Setting;
-use aml_lex::{NameRef, name_string};
+use aml_lex::name_there;
 use aml_namespace::Link;
 
 /// What the name at a place means. A place that is not kept is looked up: so nothing rests on all being
@@ -36,24 +33,11 @@ fn is_own(link: Link) -> bool
     }
 }
 
-/// The name string that stands at a place, where one does.
-fn name_at(bytes: &[u8], at: usize) -> Option<NameRef<'_>>
-    ensures { option_map name_of result ≡ name_there bytes.now at }
-{
-    if at > bytes.len() {
-        return None;
-    }
-    match name_string(bytes, at) {
-        Ok((name, _)) => Some(name),
-        Err(_) => None,
-    }
-}
-
 /// Whether the name at a place of some bytes is one segment without prefix.
 fn is_lone(bytes: &[u8], at: usize) -> bool
     ensures { result ≡ is_lone bytes.now at }
 {
-    match name_at(bytes, at) {
+    match name_there(bytes, at) {
         Some(name) => name.lone_segment().is_some(),
         None => false,
     }

@@ -12,7 +12,7 @@ returns-in-Name-clause-means c = λ around log. rw (← c.action_of.ensures, c.i
 
 pub returns-in-Invoke-clause-means : goal.returns-in-Invoke-clause-means
 returns-in-Invoke-clause-means c = λ around log.
-    rw (← c.action_of.ensures, c.in-Invoke.is, ← c.deref.ensures.value, c.first_and_rest.ensures, indexed_invoked (setting_of c.args.here around) c.args.at (out-Term c.args.source.now).at c.first_and_rest.result.0.now (views c.first_and_rest.result.1.now)) (c.bound-in-Invoke.ensures.means around log)
+    rw (← c.action_of.ensures, c.in-Invoke.is, ← c.deref.ensures.value, c.first_and_rest.ensures.views, indexed_invoked (setting_of c.args.here around) c.args.at (out-Term c.args.source.now).at c.first_and_rest.result.0.now (views c.first_and_rest.result.1.now)) (c.bound-in-Invoke.ensures.means around log)
 
 pub returns-in_default-clause-means : goal.returns-in_default-clause-means
 returns-in_default-clause-means c = λ around log.

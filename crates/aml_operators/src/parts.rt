@@ -3,9 +3,10 @@
 ghost use Rattle.std.specs.Prelude.{◌≡◌, ◌+◌, ◌<◌, length};
 ghost use Rattle.aml_operators.specs.Tree.{more, none, view, views};
 
-use aml_operators::Term;
+use crate::term::Term;
 
-pub(crate) fn one(parts: &[Term]) -> &Term
+/// The only part.
+pub fn one(parts: &[Term]) -> &Term
     requires { length parts.now ≡ 1 }
     ensures { views parts.now ≡ more (view result.now) none }
 {
@@ -15,7 +16,8 @@ pub(crate) fn one(parts: &[Term]) -> &Term
     }
 }
 
-pub(crate) fn two(parts: &[Term]) -> (&Term, &Term)
+/// Both parts.
+pub fn two(parts: &[Term]) -> (&Term, &Term)
     requires { length parts.now ≡ 2 }
     ensures { views parts.now ≡ more (view result.0.now) (more (view result.1.now) none) }
 {
@@ -25,7 +27,8 @@ pub(crate) fn two(parts: &[Term]) -> (&Term, &Term)
     }
 }
 
-pub(crate) fn three(parts: &[Term]) -> (&Term, &Term, &Term)
+/// All three parts.
+pub fn three(parts: &[Term]) -> (&Term, &Term, &Term)
     requires { length parts.now ≡ 3 }
     ensures { views parts.now ≡
         more (view result.0.now) (more (view result.1.now) (more (view result.2.now) none)) }
@@ -36,7 +39,8 @@ pub(crate) fn three(parts: &[Term]) -> (&Term, &Term, &Term)
     }
 }
 
-pub(crate) fn four(parts: &[Term]) -> (&Term, &Term, &Term, &Term)
+/// All four parts.
+pub fn four(parts: &[Term]) -> (&Term, &Term, &Term, &Term)
     requires { length parts.now ≡ 4 }
     ensures { views parts.now ≡ more (view result.0.now) (more (view result.1.now)
         (more (view result.2.now) (more (view result.3.now) none))) }
@@ -48,7 +52,7 @@ pub(crate) fn four(parts: &[Term]) -> (&Term, &Term, &Term, &Term)
 }
 
 /// The first part, and those behind it.
-pub(crate) fn first_and_rest(parts: &[Term]) -> (&Term, &[Term])
+pub fn first_and_rest(parts: &[Term]) -> (&Term, &[Term])
     requires { 0 < length parts.now }
     ensures views { views parts.now ≡ more (view result.0.now) (views result.1.now) }
     ensures length { length parts.now ≡ length result.1.now + 1 }

@@ -3,7 +3,7 @@ use Rattle.std.specs.Prelude.{IsSome}
 use Rattle.aml_lex.proofs.Fronts.{name_there_within}
 use Rattle.aml_lex.specs.NameStrings.{NameString}
 use Rattle.aml_lex.specs.Standing.{name_there}
-use Rattle.aml_namespace.proofs.here.name_at.Goals as goal
+use Rattle.aml_lex.proofs.standing.name_there.Goals as goal
 
 none_there : (name : Option NameString) → (IsSome name → ⊥) → None ≡ name
 none_there None h = refl
