@@ -27,5 +27,6 @@ pub mod Distinct
 pub mod Settling
 pub mod Copies
 pub mod Telling
+pub mod Answering
 pub mod OwnFirsts
 pub mod OwnsRead

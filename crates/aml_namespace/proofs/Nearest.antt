@@ -121,6 +121,15 @@ module _ (paths : List Path) (distinct : AreDistinct paths) (closed : AreClosed 
           greatest_last (below (told count) segment whole) stands.at (length whole) x stands.within (ap (option_and_then count) stands.is ∙ counts)
           (λ j after le. ap (option_and_then count) (stands.last j after le))
 
+      search_on : (count : ℕ → Option ℕ) → upward_search (told count) whole segment ≡ upward_search (told count) parent segment
+      search_on count = search_shorter (told count) segment whole stands.at stands.within (λ j after le. ap (option_and_then count) (stands.last j after le))
+
+      -- what is found from the path above what is found
+      pub told_answer : (count : ℕ → Option ℕ) (answer : Option ℕ)
+          → ((above : Path) (last : List ℕ) → slice_get paths found ≡ Some (above ++ last ∷ []) → upward_search (told count) above last ≡ answer)
+          → upward_search (told count) whole segment ≡ answer
+      told_answer count answer right = search_on count ∙ right parent segment found_there
+
       module _ (step : Step) (leads : slice_get paths found ≡ Some (path_of paths step)) where
         parent_is : path_at paths step.parent ≡ parent
         parent_is = (same_from_push (path_at paths step.parent) parent step.segment.bytes segment (same_Some (path_of paths step) (parent ++ segment ∷ []) (sym leads ∙ found_there))).0
@@ -129,9 +138,7 @@ module _ (paths : List Path) (distinct : AreDistinct paths) (closed : AreClosed 
         told_here count = ap (λ (p : Path). told count (p ++ segment ∷ [])) parent_is ∙ ap (option_and_then count) stands.is
 
         pub told_above : (count : ℕ → Option ℕ) → upward_search (told count) whole segment ≡ upward_search (told count) (path_at paths step.parent) segment
-        told_above count =
-            search_shorter (told count) segment whole stands.at stands.within (λ j after le. ap (option_and_then count) (stands.last j after le))
-            ∙ ap (λ (p : Path). upward_search (told count) p segment) (sym parent_is)
+        told_above count = search_on count ∙ ap (λ (p : Path). upward_search (told count) p segment) (sym parent_is)
 
         pub parent_before : step.parent < length paths → step.parent ≤ at
         parent_before before =

@@ -20,6 +20,7 @@ pub mod LookUp
 pub mod Settled
 pub mod Told
 pub mod Counted
+pub mod Answered
 pub mod Load
 pub mod Loads
 pub mod OwnNames

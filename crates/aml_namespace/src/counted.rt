@@ -6,22 +6,22 @@ ghost use Rattle.std.specs.Ordering.{nat_cmp};
 ghost use Rattle.aml_lex.specs.Names.{name_of};
 ghost use Rattle.aml_namespace.specs.Told.{declared_path};
 ghost use Rattle.aml_namespace.specs.Paths.{path_at};
-ghost use Rattle.aml_namespace.specs.Resolve.{resolve, spelled, upward_search};
+ghost use Rattle.aml_namespace.specs.Resolve.{spelled};
 ghost use Rattle.aml_namespace.specs.Steps.{paths_seen};
 ghost use Rattle.aml_namespace.specs.Trie.{CountsWithin};
 
 use crate::external::External;
 use crate::made::number_of_scope;
-use crate::paths::{Paths, ROOT};
+use crate::paths::Paths;
 use aml_lex::{NameRef, NameSeg, name_there};
 use std::alloc::{AllocError, Global};
-use std::collections::BTreeMap;
+use std::collections::{BTreeMap, BTreeSet};
 
 /// What declarations tell of paths.
 #[derive(Drop)]
 pub(crate) struct Counted {
     /// The paths of the namespace under their numbers, and behind them those that declarations spell.
-    paths: Paths,
+    pub paths: Paths,
     /// The number of the namespace's paths, the root's among them.
     named: usize,
     /// How many arguments, by the path's number.
@@ -106,6 +106,13 @@ impl Counted {
         self.tell(number, external.args)
     }
 
+    /// Makes each search for a path short, once all declarations have told.
+    fn settle_chains(&mut self) -> Result<(), AllocError>
+        ensures { Stays self.old self.new }
+    {
+        self.paths.settle_chains()
+    }
+
     /// Of the paths of a namespace, what declarations tell.
     pub(crate) fn of(
         alloc: Global,
@@ -120,55 +127,50 @@ impl Counted {
         for external in externals {
             counted.declare(tables, *external)?;
         }
+        counted.settle_chains()?;
         Ok(counted)
     }
 
+    /// The segments in which those paths end that are none of the namespace.
+    fn ends_spelled(&self, alloc: Global) -> Result<BTreeSet<NameSeg>, AllocError> {
+        let mut ends = BTreeSet::new(alloc);
+        for number in 1..self.paths.len() {
+            if number >= self.named {
+                ends.insert(self.paths.last_step(number).segment)?;
+            }
+        }
+        Ok(ends)
+    }
+
+    /// The numbers of the paths that end as one that is none of the namespace, each behind its depth, in
+    /// the order of the depths. A search for what is told comes to no others: a name that ends as none of
+    /// these is found in the namespace, or nowhere.
+    pub(crate) fn searched(&self, alloc: Global) -> Result<Vec<(usize, usize)>, AllocError> {
+        let ends = self.ends_spelled(alloc)?;
+        let mut numbers = Vec::new(alloc);
+        for number in 1..self.paths.len() {
+            let step = self.paths.last_step(number);
+            if ends.contains(&step.segment) {
+                numbers.push((step.spot.depth, number))?;
+            }
+        }
+        numbers.sort_unstable();
+        Ok(numbers)
+    }
+
     /// What is told of the path with this number.
-    fn count_at(&self, number: usize) -> Option<u8>
+    pub(crate) fn count_at(&self, number: usize) -> Option<u8>
         ensures { result ≡ get nat_cmp self.now.counts number }
     {
         self.counts.get(&number).copied()
     }
 
-    /// What is told of the path of this segment below the longest prefix of the path with this number,
-    /// the path itself among them, of which something is told.
-    fn nearest_count(&self, at: usize, segment: NameSeg) -> Option<u8>
-        requires { at < length (all_paths self.now) }
-        ensures { let paths = all_paths self.now in
-            result ≡ upward_search (told self.now) (path_at paths at) segment.bytes }
-    {
-        let mut number = at;
-        'up: loop {
-            let found = self.paths.nearest(number, segment)?;
-            if let Some(count) = self.count_at(found) {
-                return Some(count);
-            }
-            let parent = self.paths.last_step(found).parent;
-            if parent == ROOT {
-                return None;
-            }
-            number = self.paths.last_step(parent).parent;
-        }
-    }
-
     /// What is told of the path that a name spells in the scope whose path has this number.
-    fn spelled_count(&self, scope: usize, name: &NameRef<'_>) -> Option<u8>
+    pub(crate) fn spelled_count(&self, scope: usize, name: &NameRef<'_>) -> Option<u8>
         requires { scope < length (all_paths self.now) }
         ensures { let paths = all_paths self.now in
             result ≡ option_and_then (told self.now) (spelled (path_at paths scope) (name_of name.now)) }
     {
         self.count_at(self.paths.spelled(scope, name)?)
-    }
-
-    /// What is told of what a name names in the scope whose path has this number.
-    pub(crate) fn count(&self, scope: usize, name: &NameRef<'_>) -> Option<u8>
-        requires { scope < length (all_paths self.now) }
-        ensures { let paths = all_paths self.now in
-            result ≡ resolve (told self.now) (path_at paths scope) (name_of name.now) }
-    {
-        match name.lone_segment() {
-            Some(segment) => self.nearest_count(scope, segment),
-            None => self.spelled_count(scope, name),
-        }
     }
 }

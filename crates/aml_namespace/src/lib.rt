@@ -1,6 +1,7 @@
 //! The namespace that tables' definitions make (ACPI 6.5, 5.3).
 #![tactic(auto)]
 
+mod answered;
 mod chains;
 mod counted;
 mod define;

@@ -10,6 +10,7 @@ ghost use Rattle.aml_namespace.specs.Kept.{entries_seen, owned_kept, path_kept};
 ghost use Rattle.aml_namespace.specs.LookUp.{methods_in, owned_paths};
 ghost use Rattle.aml_namespace.specs.Names.{args_of, link_of, method_in};
 
+use crate::answered::Answered;
 use crate::counted::Counted;
 use crate::external::External;
 use crate::fault::LoadFault;
@@ -45,12 +46,12 @@ pub struct Namespace<'a> {
     /// The methods that the tables declare as others', in the order of the bytes.
     externals: Vec<External>,
     /// How many arguments those take; None where there are none.
-    counted: Option<Counted>,
+    answered: Option<Answered>,
     methods: Vec<ObjectId>,
     ghost listed: { methods.items ≡ methods_in (entries_seen objects) },
-    ghost untold: { ForNone counted (externals.items ≡ []) },
-    ghost told: { ForSome counted (λ c.
-        TellsAll (map (λ t. t.now) tables.items) (paths_in (entries_seen objects)) externals.items c) },
+    ghost untold: { ForNone answered (externals.items ≡ []) },
+    ghost told: { ForSome answered (λ a. let paths = paths_in (entries_seen objects) in
+        TellsAll (map (λ t. t.now) tables.items) paths externals.items a.counted) },
     ghost bodies: { BodiesWithin (map (λ t. t.now) tables.items) (entries_seen objects) },
 }
 
@@ -90,14 +91,14 @@ impl<'a> Namespace<'a> {
         objects.settle_chains()?;
         objects.settle(alloc, tables)?;
         let methods = objects.methods(alloc)?;
-        let counted = declared_counts(alloc, &objects, tables, &loaded.externals)?;
+        let answered = declared_counts(alloc, &objects, tables, &loaded.externals)?;
         Ok(Namespace {
             tables: Vec::from_slice(alloc, tables)?,
             host,
             width: Width::by_revision(loaded.revision),
             objects,
             externals: loaded.externals,
-            counted,
+            answered,
             methods,
         })
     }
@@ -190,8 +191,8 @@ impl<'a> Namespace<'a> {
         if id >= self.objects.len() {
             return None;
         }
-        match &self.counted {
-            Some(counted) => counted.count(id + 1, name),
+        match &self.answered {
+            Some(answered) => answered.count(id + 1, name),
             None => None,
         }
     }
@@ -335,15 +336,17 @@ fn declared_counts(
     objects: &Objects,
     tables: &[&[u8]],
     externals: &[External],
-) -> Result<Option<Counted>, AllocError>
-    ensures untold { IfOk result (λ counted. ForNone counted (externals.now ≡ [])) }
-    ensures told { let paths = paths_in (entries_seen objects.now) in IfOk result (λ counted.
-        ForSome counted (TellsAll (map (λ t. t.now) tables.now) paths externals.now)) }
+) -> Result<Option<Answered>, AllocError>
+    ensures untold { IfOk result (λ answered. ForNone answered (externals.now ≡ [])) }
+    ensures told { let paths = paths_in (entries_seen objects.now) in
+        IfOk result (λ answered. ForSome answered
+        (λ a. TellsAll (map (λ t. t.now) tables.now) paths externals.now a.counted)) }
 {
     if externals.is_empty() {
         return Ok(None);
     }
-    Ok(Some(Counted::of(alloc, &objects.paths, tables, externals)?))
+    let counted = Counted::of(alloc, &objects.paths, tables, externals)?;
+    Ok(Some(Answered::of(alloc, counted)?))
 }
 
 /// How many arguments what is named takes.

@@ -1,7 +1,7 @@
-use Rattle.std.proofs.Common.{List, ℕ, Option, get_or, map, take, sym, ap, ◌∙◌}
+use Rattle.std.proofs.Common.{List, ℕ, Option, get_or, map, take, sym, ap, ◌∙◌, arith}
 use Rattle.std.specs.Borrow.{Bor}
 use Rattle.std.specs.Option.{option_or}
-use Rattle.std.proofs.lemmas.List.{take_more}
+use Rattle.std.proofs.lemmas.List.{take_all, take_more}
 use Rattle.aml_namespace.specs.declared.external.External.{External}
 use Rattle.aml_namespace.specs.declared.object.Scope.TheVariants.{Root}
 use Rattle.aml_namespace.specs.Counted.{told}
@@ -29,4 +29,18 @@ loop-external-preserved c =
           ∙ ap (λ (o : Option ℕ). option_or o (told_under (declared_path tables paths e) e.args path)) (before.told_is path)
           ∙ sym (first_told-push tables paths (take i all) e path)
           ∙ ap (λ (es : List External). first_told tables paths es path) (sym (take_more all i nothing c.loop-external-test.true));
+    }
+
+pub returns : goal.returns
+returns c =
+    let paths = paths_seen c.args.paths.now in
+    let tables = map (λ (t : Bor (List ℕ)). t.now) c.args.tables.now in
+    let all = c.args.externals.now in
+    let i = c.loop-external.external-index in
+    let stays = c.in_ok-settle_chains.ensures in
+    let before = c.loop-external.invariant in
+    let every = take_all i all (omega (arith, c.loop-external-test.false)) in
+    record {
+      named_are = stays.named_are ∙ before.named_are;
+      told_is = λ path. stays.told_is path ∙ before.told_is path ∙ ap (λ (es : List External). first_told tables paths es path) every;
     }

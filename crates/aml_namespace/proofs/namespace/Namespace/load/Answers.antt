@@ -23,7 +23,7 @@ invariant_of-result-clause-bodies c =
     subst (λ (ts : List (List ℕ)). BodiesWithin ts (entries_seen c.settle.new.self)) (ap bytes_in (sym c.in_ok-from_slice.ensures.items)) kept
 
 pub invariant_of-result-clause-told : goal.invariant_of-result-clause-told
-invariant_of-result-clause-told c = λ counted is.
+invariant_of-result-clause-told c = λ answered is.
     let paths = paths_in (entries_seen c.settle.new.self) in
-    let told = subst (λ (es : List External). TellsAll (bytes_in c.args.tables.now) paths es counted) c.deref.ensures.value (c.in_ok-counted.ensures.told counted is) in
-    subst (λ (ts : List (List ℕ)). TellsAll ts paths c.in-Ok.loaded.externals.items counted) (ap bytes_in (sym c.in_ok-from_slice.ensures.items)) told
+    let told = subst (λ (es : List External). TellsAll (bytes_in c.args.tables.now) paths es answered.counted) c.deref.ensures.value (c.in_ok-answered.ensures.told answered is) in
+    subst (λ (ts : List (List ℕ)). TellsAll ts paths c.in-Ok.loaded.externals.items answered.counted) (ap bytes_in (sym c.in_ok-from_slice.ensures.items)) told

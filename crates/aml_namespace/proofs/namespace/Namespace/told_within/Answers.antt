@@ -17,7 +17,7 @@ count-requires c =
     let paths = paths_in (entries_seen ns.objects) in
     let scope = c.args.id + 1 in
     let there = scope_there (entries_seen ns.objects) scope (omega (arith, c.len.ensures, c.if-id-len.false)) in
-    scope_within (bytes_in ns.tables.items) paths ns.externals.items c.in-Some.counted (ns.told c.in-Some.counted c.in-Some.is) scope (path_at paths scope) there
+    scope_within (bytes_in ns.tables.items) paths ns.externals.items c.in-Some.answered.counted (ns.told c.in-Some.answered c.in-Some.is) scope (path_at paths scope) there
 
 pub returns-in-Some : goal.returns-in-Some
 returns-in-Some c =
@@ -29,7 +29,7 @@ returns-in-Some c =
     let find = first_told (bytes_in ns.tables.items) paths ns.externals.items in
     let name = name_of c.args.name.now in
     c.count.ensures
-    ∙ told_as_declared (bytes_in ns.tables.items) paths ns.externals.items c.in-Some.counted (ns.told c.in-Some.counted c.in-Some.is) scope (path_at paths scope) there name
+    ∙ told_as_declared (bytes_in ns.tables.items) paths ns.externals.items c.in-Some.answered.counted (ns.told c.in-Some.answered c.in-Some.is) scope (path_at paths scope) there name
     ∙ sym (ap (option_and_then (λ (p : Path). resolve find p name)) there)
     ∙ ap (λ n. option_and_then (λ (p : Path). resolve find p name) (slice_get paths n)) next
 
