@@ -22,6 +22,7 @@
 | searched | COUNT aliases of MAIN, which is at the root, in a scope that is 1,000 segments deep |
 | searched_past | the same aliases, where beside each device of that scope stands one that has a MAIN of its own |
 | searched_behind | the same, where that one is made first |
+| searched_untold | a method MAIN of COUNT statements that are one name, in a scope that is 1,000 segments deep, where at each segment an External spells a path through that name and tells nothing of it |
 | externals | COUNT Externals of methods of one argument at the root, and a body that calls each |
 | deep_externals | COUNT such Externals in a scope that is 10,000 segments deep |
 
@@ -118,14 +119,14 @@ def in_scope(depth, inside):
     return inside
 
 
-def deep(depth, inside):
-    """A chain of so many devices, one in the other, and definitions in the last of them."""
+def deep(depth, inside, beside=b""):
+    """A chain of so many devices, one in the other, each behind some terms, and definitions in the last of them."""
     made, at = b"", 0
     while at < depth:
         step = min(depth - at, 60 - at // 255)
         devices = b""
         for _ in range(step):
-            devices = package(b"\x5b\x82", b"DEEP" + devices)
+            devices = package(b"\x5b\x82", b"DEEP" + beside + devices)
         made += in_scope(at, devices)
         at += step
     return made + in_scope(depth, inside)
@@ -217,6 +218,9 @@ def body_of(kind, count):
         return MAIN + deep_beside(1_000, b"".join(b"\x06MAIN" + name for name in other_names(count)))
     if kind == "searched_behind":
         return MAIN + deep_beside(1_000, b"".join(b"\x06MAIN" + name for name in other_names(count)), True)
+    if kind == "searched_untold":
+        body = method(b"BODY", b"\xa4\x01" + b"NONE" * count)
+        return deep(1_000, body + b"\x06BODY\\MAIN", b"\x15\x2eNONETOLD\x08\x01")
     if kind == "externals":
         names = other_names(count)
         return b"".join(b"\x15" + name + b"\x08\x01" for name in names) + method(b"MAIN", b"".join(name + b"\x01" for name in names))

@@ -11,7 +11,9 @@ use std::test::Fail;
 /// External (OWN1, MethodObj, 2), External (^UP01, MethodObj, 1), which is above the root,
 /// Device (DEV0) { External (FOO1, MethodObj, 1), Method (M001) { FOO1 One One } },
 /// Method (M000) { FOO1 One One }, Method (M002) { BAR1 One }, Method (M003) { \DEV0.FOO1 One One },
-/// Method (M004) { BAZ1 One One One }, Method (OWN1, 1) {} and Method (M005) { OWN1 One One }.
+/// Method (M004) { BAZ1 One One One }, Method (OWN1, 1) {}, Method (M005) { OWN1 One One },
+/// External (QUX1.SUB1, MethodObj, 1) and Device (DEV1) { External (QUX1.SUB1, MethodObj, 1),
+/// External (FOO1.SUB1, MethodObj, 1), Method (M006) { FOO1 One One }, Method (M007) { QUX1 One } }.
 const CALLERS: &[u8] = b"\x15FOO1\x08\x02\x15FOO1\x08\x01\x15BAR1\x06\x03\
     \x15OWN1\x08\x02\x15^UP01\x08\x01\
     \x5b\x82\x19DEV0\x15FOO1\x08\x01\x14\x0cM001\x00FOO1\x01\x01\
@@ -20,14 +22,27 @@ const CALLERS: &[u8] = b"\x15FOO1\x08\x02\x15FOO1\x08\x01\x15BAR1\x06\x03\
     \x14\x12M003\x00\\\x2eDEV0FOO1\x01\x01\
     \x14\x0dM004\x00BAZ1\x01\x01\x01\
     \x14\x06OWN1\x01\
-    \x14\x0cM005\x00OWN1\x01\x01";
+    \x14\x0cM005\x00OWN1\x01\x01\
+    \x15\x2eQUX1SUB1\x08\x01\
+    \x5b\x82\x36DEV1\x15\x2eQUX1SUB1\x08\x01\x15\x2eFOO1SUB1\x08\x01\
+    \x14\x0cM006\x00FOO1\x01\x01\x14\x0bM007\x00QUX1\x01";
 
 /// External (BAZ1, MethodObj, 3) and External (FOO1, MethodObj, 7).
 const DECLARED_LATER: &[u8] = b"\x15BAZ1\x08\x03\x15FOO1\x08\x07";
 
 /// The number of a method, and of the statements of its body: the first External of the path that is
-/// nearest to the method tells how many terms stand behind a name that no table defines.
-const STATEMENTS: &[(usize, usize)] = &[(10, 2), (11, 1), (12, 2), (13, 2), (14, 1), (16, 2)];
+/// nearest to the method tells how many terms stand behind a name that no table defines. A path that
+/// only begins others that are declared tells nothing.
+const STATEMENTS: &[(usize, usize)] = &[
+    (10, 2),
+    (11, 1),
+    (12, 2),
+    (13, 2),
+    (14, 1),
+    (16, 2),
+    (18, 1),
+    (19, 2),
+];
 
 /// The number of statements of a method's body; 0 where there is no such method.
 fn statements_of(alloc: Global, ns: &Namespace<'_>, method: ObjectId) -> Result<usize, TreeFault> {
@@ -65,7 +80,7 @@ fn want_of_memory_for_declarations(rt: HostRuntime) -> Result<(), Fail> {
         Ok(ns) => ns,
         Err(_) => Namespace::load(rt.alloc(), tables, HOST)?,
     };
-    assert_eq!(rt; (ns.len(), ns.methods().len()), (17, 7));
+    assert_eq!(rt; (ns.len(), ns.methods().len()), (20, 9));
     Ok(())
 }
 
