@@ -1,14 +1,16 @@
 // What a running evaluation changes.
 
-ghost use Rattle.std.specs.Prelude.{◌≡◌, ◌≤◌, suc, List, None, OnOk, Option, Some};
+ghost use Rattle.std.specs.Prelude.{◌≡◌, ◌≤◌, suc, map, List, None, OnOk, Option, Some};
 ghost use Rattle.aml_kinds.specs.Contents.{content_at};
 ghost use Rattle.aml_kinds.specs.Views.{view};
 ghost use Rattle.aml_regions.specs.declared.event.Event.{Event};
 ghost use Rattle.aml_namespace.specs.Widths.{bits_of};
+ghost use Rattle.aml_meaning.specs.Calls.{inside};
 ghost use Rattle.aml_meaning.specs.Owns.{define_field, define_own, field_at, make_own, set_own};
 ghost use Rattle.aml_meaning.specs.Parts.{set_name, tick, with_arg, with_local};
 ghost use Rattle.aml_meaning.specs.Runs.{Runs, content};
-ghost use Rattle.aml_plain.specs.Tells.{IsOrNoMemory, is_package, now, told, value_of, went};
+ghost use Rattle.aml_meaning.specs.State.{with_frame};
+ghost use Rattle.aml_plain.specs.Tells.{IsOrNoMemory, frame_of, is_package, now, told, value_of, went};
 
 use crate::frame::{Frame, hold};
 use crate::halt::{Halt, Setting, fails};
@@ -16,6 +18,7 @@ use aml_kinds::{Names, Value, copy};
 use aml_meaning::{AmlCause, BufferPart};
 use aml_namespace::ObjectId;
 use std::alloc::Global;
+use std::mem;
 
 /// The running method's frame, what data names hold, and the steps that are left.
 #[derive(Drop)]
@@ -26,6 +29,31 @@ pub struct Machine {
 }
 
 impl Machine {
+    /// The machine of a method that is called with these arguments: what names hold, and the steps that
+    /// are left, go over to it, so that the caller's frame stays where it is.
+    pub fn enter(&mut self, alloc: Global, arguments: Vec<Value>) -> Machine
+        ensures enters { (log : List Event) →
+            now result log ≡ inside (map view arguments.items) (now self.old log) }
+        ensures frame { frame_of self.new.frame ≡ frame_of self.old.frame }
+        ensures steps { result.steps ≡ self.old.steps }
+    {
+        Machine {
+            frame: Frame::new(alloc, arguments),
+            names: mem::replace(&mut self.names, Names::new(alloc)),
+            steps: self.steps,
+        }
+    }
+
+    /// Takes names and steps back from the machine of a method that has ended.
+    pub fn take_back(&mut self, ended: Machine)
+        ensures back { (log : List Event) →
+            now self.new log ≡ with_frame (now ended log) (frame_of self.old.frame) }
+        ensures steps { self.new.steps ≡ ended.steps }
+    {
+        self.names = ended.names;
+        self.steps = ended.steps;
+    }
+
     /// Takes a step, where one is left.
     pub fn take_step(&mut self) -> Result<(), Halt>
         ensures means { (log : List Event) →
