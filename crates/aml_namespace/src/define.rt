@@ -18,6 +18,7 @@ use crate::here::Here;
 use crate::made::{name_place, number_in, object_of, reference};
 use crate::object::{Entry, Field, Object, Through};
 use crate::objects::Objects;
+use aml_lex::name_there;
 use aml_operators::{Op, Term, first_and_rest, literal_of, three, two};
 
 /// The object type of methods.
