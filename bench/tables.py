@@ -26,9 +26,9 @@
 | externals | COUNT Externals of methods of one argument at the root, and a body that calls each |
 | deep_externals | COUNT such Externals in a scope that is 10,000 segments deep |
 
-The names of the last three are those that whoever writes a table would choose against a reader that keeps names in a
-hash map of the kit: its default hasher has a fixed seed, and these names all begin their search in the same part of
-the map. A reader that keeps them in order does not notice.
+The names of `chosen`, `methods_chosen` and `uses_chosen` are those that whoever writes a table would choose against a
+reader that keeps names in a hash map of the kit: its default hasher has a fixed seed, and these names all begin their
+search in the same part of the map. A reader that keeps them in order does not notice.
 """
 import sys
 
