@@ -120,6 +120,7 @@ pub enum Action {
 }
 
 /// The kind of meaning of an operator.
+#[inline(always)]
 pub fn action_of(op: Op) -> Action
     ensures { result ≡ action op }
 {
@@ -185,6 +186,7 @@ pub fn action_of(op: Op) -> Action
 }
 
 /// That of an operator over buffers, strings and packages.
+#[inline(always)]
 fn action_over_data(op: Op) -> Action
     ensures { result ≡ action_over_data op }
 {
@@ -202,6 +204,7 @@ fn action_over_data(op: Op) -> Action
 }
 
 /// That of an operator of which the world is told.
+#[inline(always)]
 fn told_action(op: Op) -> Action
     ensures { result ≡ told_action op }
 {

@@ -7,7 +7,7 @@ ghost use Rattle.aml_operators.specs.Shape.{AreShaped};
 ghost use Rattle.aml_tree.specs.Body.{first_at};
 ghost use Rattle.aml_meaning.specs.Meaning.{is_else};
 ghost use Rattle.aml_plain.specs.Shapes.{IsBranch, IsSplit};
-ghost use Rattle.aml_operators.specs.Tree.{view, views};
+ghost use Rattle.aml_operators.specs.Tree.{views};
 
 use aml_operators::{Op, Term, literal_in};
 

@@ -1,6 +1,6 @@
 // What a running evaluation changes.
 
-ghost use Rattle.std.specs.Prelude.{◌≡◌, ◌≤◌, suc, map, List, None, OnOk, Option, Some};
+ghost use Rattle.std.specs.Prelude.{◌≡◌, ◌≤◌, suc, map, IfOk, List, None, OnErr, OnOk, Option, Some};
 ghost use Rattle.aml_kinds.specs.Contents.{content_at};
 ghost use Rattle.aml_kinds.specs.Views.{view};
 ghost use Rattle.aml_regions.specs.declared.event.Event.{Event};
@@ -16,7 +16,7 @@ use crate::frame::{Frame, hold};
 use crate::halt::{Halt, Setting, fails};
 use aml_kinds::{Names, Value, copy};
 use aml_meaning::{AmlCause, BufferPart};
-use aml_namespace::ObjectId;
+use aml_namespace::{NoMemory, ObjectId};
 use std::alloc::Global;
 use std::mem;
 
@@ -30,27 +30,39 @@ pub struct Machine {
 
 impl Machine {
     /// The machine of a method that is called with these arguments: what names hold, and the steps that
-    /// are left, go over to it, so that the caller's frame stays where it is.
-    pub fn enter(&mut self, alloc: Global, arguments: Vec<Value>) -> Machine
-        ensures enters { (log : List Event) →
-            now result log ≡ inside (map view arguments.items) (now self.old log) }
+    /// are left, go over to it, so that the caller's frame stays where it is. In a box, and by a call of
+    /// its own, so that neither lies on the stack of the call. Nothing goes over without memory.
+    #[inline(never)]
+    pub fn enter(
+        &mut self,
+        alloc: Global,
+        arguments: Vec<Value>,
+    ) -> Result<Box<Machine>, NoMemory>
+        ensures enters { (log : List Event) → IfOk result (λ inner.
+            now inner.value log ≡ inside (map view arguments.items) (now self.old log)) }
         ensures frame { frame_of self.new.frame ≡ frame_of self.old.frame }
-        ensures steps { result.steps ≡ self.old.steps }
+        ensures steps { IfOk result (λ inner. inner.value.steps ≡ self.old.steps) }
+        ensures lost { OnErr result (self.new ≡ self.old) }
     {
-        Machine {
+        let begun = Machine {
             frame: Frame::new(alloc, arguments),
-            names: mem::replace(&mut self.names, Names::new(alloc)),
+            names: Names::new(alloc),
             steps: self.steps,
-        }
+        };
+        let Ok(mut inner) = Box::new(alloc, begun) else {
+            return Err(NoMemory);
+        };
+        mem::swap(&mut self.names, &mut inner.names);
+        Ok(inner)
     }
 
     /// Takes names and steps back from the machine of a method that has ended.
-    pub fn take_back(&mut self, ended: Machine)
+    pub fn take_back(&mut self, mut ended: Box<Machine>)
         ensures back { (log : List Event) →
-            now self.new log ≡ with_frame (now ended log) (frame_of self.old.frame) }
-        ensures steps { self.new.steps ≡ ended.steps }
+            now self.new log ≡ with_frame (now ended.value log) (frame_of self.old.frame) }
+        ensures steps { self.new.steps ≡ ended.value.steps }
     {
-        self.names = ended.names;
+        mem::swap(&mut self.names, &mut ended.names);
         self.steps = ended.steps;
     }
 
