@@ -1,19 +1,24 @@
-.PHONY: run test cases growths edits bench loops stack check fmt
+.PHONY: run test cases rows growths edits bench loops stack check fmt
 
 # Builds acpicheck, proofs included, and evaluates the method of the stored run.
 run:
 	@cd crates/acpicheck && rt run < stdin
 
 # The gate: every crate proved and must-fail edits refused, from nothing but for what a gate on this machine has passed
-# with the same files; tests and programs run, and then the built program over its stored cases. The last line counts all.
+# with the same files; tests and programs run, and then the built program over its stored cases and rows. The last line
+# counts all.
 test:
 	@rt ci | python3 bench/cases.py after
 
-# The built program over its stored cases.
+# The built program over its stored cases and rows.
 cases:
 	@python3 bench/cases.py
 
-# Each growth of memory refused in turn, in the test programs that `make test` leaves.
+# The built program over its rows of evaluations alone.
+rows:
+	@python3 bench/rows.py
+
+# Each growth of memory refused in turn, in the test programs and the built program that `make test` leaves.
 growths:
 	@python3 bench/growths.py
 

@@ -1,5 +1,5 @@
 #!/usr/bin/env python3
-"""Runs the built program over the stored cases.
+"""Runs the built program over the stored cases, and over the rows of evaluations (bench/rows.py).
 
     python3 bench/cases.py
     rt ci | python3 bench/cases.py after
@@ -27,6 +27,8 @@ import resource
 import subprocess
 import sys
 import tempfile
+
+import rows
 
 TOP = os.path.dirname(os.path.dirname(os.path.abspath(__file__)))
 CRATE = f"{TOP}/crates/acpicheck"
@@ -116,6 +118,8 @@ def main(words):
         for line in found:
             print(f"case {name}: {line}")
         passed, failed = passed + (not found), failed + bool(found)
+    right, wrong = rows.counts(program, rows.all_files())
+    passed, failed = passed + right, failed + wrong
     print(f"{passed} passed, {failed} failed")
     return 1 if failed else 0
 

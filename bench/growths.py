@@ -1,19 +1,26 @@
 #!/usr/bin/env python3
-"""Refuses each growth of memory in turn, in the tests that are named for it.
+"""Refuses each growth of memory in turn, in the tests and in the rows of evaluations that are marked for it.
 
     python3 bench/growths.py
 
 A test whose name begins with `rows_of_` or `want_of_memory` makes a call again where the first try wants memory, and
 compares the answer, so it passes whichever growth is refused. Every crate of crates.txt whose sources have such a test
-is taken. Its test program is the one that `make test` leaves in crates/NAME/out; one that is missing, or older than
-the sources that it is built from, is a failure. The N-th growth of a run is refused by a `malloc` of this script's
-own, for which a C compiler is needed.
+is taken. A row is taken that stands under `growths` in its file (bench/rows.py). The built program evaluates it, and
+whichever growth is refused, it must end as the row says or tell want of memory: with status 1, and on standard output
+`fault E524 NoMemory`, or a beginning of what the row says.
+
+The programs are those that `make test` leaves in crates/NAME/out; one that is missing, or older than the sources that
+it is built from, is a failure. The N-th growth of a run is refused by a `malloc` of this script's own, for which a C
+compiler is needed.
 """
 import os
 import re
 import subprocess
 import sys
 import tempfile
+from concurrent.futures import ThreadPoolExecutor
+
+import rows
 
 SHIM = r"""
 #define _GNU_SOURCE
@@ -51,7 +58,7 @@ void *realloc(void *old, size_t size)
 __attribute__((destructor)) static void tell(void)
 {
     const char *path = getenv("GROWTHS");
-    FILE *file = path ? fopen(path, "w") : NULL;
+    FILE *file = path && *path ? fopen(path, "w") : NULL;
     long count = grown;
     if (file) {
         fprintf(file, "%ld", count);
@@ -60,7 +67,8 @@ __attribute__((destructor)) static void tell(void)
 }
 """
 
-
+NO_MEMORY = b"fault E524 NoMemory\n"
+NOTE = re.compile(rb"(acpicheck: [^\n]*memory[^\n]*\n)?")
 NAMED = re.compile(r"\bfn ((?:rows_of_|want_of_memory)\w*)")
 
 
@@ -92,20 +100,25 @@ def changed(top, crates, name):
     return max(os.path.getmtime(file) for crate in below for file in sources(top, crate))
 
 
+def complaint(top, crates, name, program):
+    """What is wrong with a program of a crate, or nothing."""
+    if not os.path.isfile(program):
+        return f"{name}: there is no {os.path.basename(program)}: run make test first"
+    if os.path.getmtime(program) < changed(top, crates, name):
+        return f"{name}: {os.path.basename(program)} is older than its sources: run make test first"
+    return None
+
+
 def programs(top):
-    """The test programs to run, and what is wrong with those that cannot be."""
-    crates, found, bad = crates_of(top), [], []
+    """The test programs to run, and what is wrong with those that cannot be, or with the built program."""
+    crates, found = crates_of(top), []
+    bad = [complaint(top, crates, "acpicheck", rows.PROGRAM)]
     for name in crates:
         program = f"{top}/crates/{name}/out/{name}_tests"
-        if not has_named_tests(top, name):
-            continue
-        if not os.path.isfile(program):
-            bad.append(f"{name}: it has no test program: run make test first")
-        elif os.path.getmtime(program) < changed(top, crates, name):
-            bad.append(f"{name}: its test program is older than its sources: run make test first")
-        else:
-            found.append(program)
-    return found, bad
+        if has_named_tests(top, name):
+            bad.append(complaint(top, crates, name, program))
+            found += [] if bad[-1] else [program]
+    return found, [line for line in bad if line]
 
 
 def named_tests(program):
@@ -136,6 +149,56 @@ def tried_in_turn(shim, program, test, count_to):
     return growths, failed
 
 
+def run_row(shim, program, row, room, number):
+    """Evaluates a row with the number-th growth refused, and returns its status, standard output and error."""
+    given = {"LD_PRELOAD": shim, "GROWTHS": "" if number > 0 else f"{room}/count", "REFUSED_GROWTH": str(number)}
+    ran = subprocess.run([program, *rows.words_of(row, row.steps)], env=given, cwd=room, stdin=subprocess.DEVNULL,
+                         capture_output=True, timeout=60)
+    return ran.returncode, ran.stdout, ran.stderr
+
+
+def wants_memory(answer, output):
+    """Whether an answer of the program tells want of memory, where the row says that output."""
+    status, written, notes = answer
+    return status == 1 and (written == NO_MEMORY or output.startswith(written)) and bool(NOTE.fullmatch(notes))
+
+
+def row_in_turn(shim, program, row):
+    """Evaluates a row with no growth refused, and then with each; returns how many were refused, and what failed."""
+    output, status = rows.answer_of(row.output)
+    right, failed = (status, output, b""), []
+    with tempfile.TemporaryDirectory() as room:
+        with open(f"{room}/dsdt.bin", "wb") as it:
+            it.write(rows.table_of(row))
+        answer = run_row(shim, program, row, room, -1)
+        with open(f"{room}/count") as it:
+            growths = int(it.read())
+        if answer != right:
+            failed.append(f"row {row.place}: without a refusal: {answer}")
+        for number in range(1, growths + 1):
+            answer = run_row(shim, program, row, room, number)
+            if answer != right and not wants_memory(answer, output):
+                failed.append(f"row {row.place}: growth {number}: {answer}")
+    return growths, failed
+
+
+def rows_in_turn(shim, program):
+    """Does so with all rows that are marked; returns how many growths were refused, and how many runs failed."""
+    every, bad = rows.read_all(rows.all_files())
+    marked = [row for row in every if row.growths]
+    bad += [] if marked else ["there is no row under growths"]
+    tried, failed = 0, len(bad)
+    for line in bad:
+        print(f"rows: {line}")
+    with ThreadPoolExecutor(rows.WORKERS) as pool:
+        for growths, wrong in pool.map(lambda row: row_in_turn(shim, program, row), marked):
+            tried, failed = tried + growths, failed + len(wrong)
+            for line in wrong:
+                print(f"  {line}")
+    print(f"{len(marked)} rows: {tried} growths, {failed} failed")
+    return tried, failed
+
+
 def main():
     top = os.path.dirname(os.path.dirname(os.path.abspath(__file__)))
     found, bad = programs(top)
@@ -149,6 +212,9 @@ def main():
             for test in named_tests(program):
                 growths, wrong = tried_in_turn(shim, program, test, count_to)
                 tried, failed = tried + growths, failed + wrong
+        if os.path.isfile(rows.PROGRAM):
+            growths, wrong = rows_in_turn(shim, rows.PROGRAM)
+            tried, failed = tried + growths, failed + wrong
     print(f"{tried} refused, {failed} failed")
     return 1 if failed or not tried else 0
 

@@ -2,30 +2,12 @@
 #![tactic(auto)]
 
 #[cfg(test)]
-mod buffer_fields;
-#[cfg(test)]
-mod calls;
-#[cfg(test)]
-mod events;
-#[cfg(test)]
-mod flow;
-#[cfg(test)]
-mod index_stores;
-#[cfg(test)]
-mod literals;
+mod growths;
 #[cfg(test)]
 mod meaning;
 #[cfg(test)]
-mod operators;
-#[cfg(test)]
-mod own_fields;
-#[cfg(test)]
-mod own_names;
+mod outcomes;
 #[cfg(test)]
 mod plain;
 #[cfg(test)]
 mod region_fields;
-#[cfg(test)]
-mod standing;
-#[cfg(test)]
-mod values;

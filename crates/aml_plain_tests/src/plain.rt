@@ -20,7 +20,7 @@ use std::test::Fail;
 
 /// How an evaluation ends, by the integer that it gives.
 #[derive(Clone, Copy, Debug, PartialEq, Eq)]
-pub(crate) enum Ended {
+enum Ended {
     Done(Option<u64>),
     /// With a buffer, a string or a package.
     Other,
@@ -39,7 +39,7 @@ fn ended_by(outcome: &Outcome) -> Ended {
 }
 
 /// An error in the first table.
-pub(crate) fn error(cause: AmlCause, at: usize) -> Ended {
+fn error(cause: AmlCause, at: usize) -> Ended {
     Ended::AmlError(AmlError {
         table: 0,
         at,
@@ -100,7 +100,7 @@ fn names_of(alloc: Global, namespace: &Namespace<'_>) -> Result<Names, LoadFault
 }
 
 /// The first method's outcome, from its terms, over a world.
-pub(crate) fn outcome_of_terms(
+fn outcome_of_terms(
     alloc: Global,
     namespace: &Namespace<'_>,
     arguments: &[u64],
@@ -201,7 +201,7 @@ fn evaluated(
 }
 
 /// The first method's outcome, or the fault of its load or of an evaluation.
-pub(crate) fn outcome_of(
+fn outcome_of(
     rt: &impl Abort,
     alloc: Global,
     table: &[u8],

@@ -1,7 +1,7 @@
 // Fields of regions in evaluation: ACPI 6.5, 5.5.2.4 and 19.6, Field, IndexField and BankField. What is
 // accessed, in which order and with which values, was worked out by hand.
 
-use crate::values::{Wanted, ends, outcome_in};
+use crate::outcomes::{Wanted, ends, first_names, outcome_in};
 use acpi_samples::{HOST, method_of, table_of};
 use aml_meaning::AmlCause;
 use aml_namespace::{LoadFault, Namespace, ObjectId};
@@ -87,8 +87,9 @@ fn outcome_before(
     let table = table_of(alloc, *b"DSDT", revision, &module)?;
     let namespace = Namespace::load(alloc, &[&table], HOST)?;
     assert!(rt; namespace.method(ObjectId(9)).is_some());
+    let mut names = first_names(alloc, &namespace)?;
     let mut world = ports(alloc)?;
-    let outcome = outcome_in(alloc, &namespace, &mut world, fuel)?;
+    let outcome = outcome_in(alloc, &namespace, ObjectId(9), &mut names, &mut world, fuel)?;
     Ok((outcome, world))
 }
 

@@ -2,11 +2,12 @@
 // of its steps. The states that each evaluation goes through were worked out by hand (ACPI 6.5,
 // 19.6, Store).
 
-use crate::rows::{Wanted, ends, first_names, gives, outcome_in};
+use crate::outcomes::{Wanted, ends, first_names, gives, outcome_in};
 use acpi_samples::{HOST, table_of};
 use aml_kinds::Names;
 use aml_meaning::AmlCause;
 use aml_namespace::{LoadFault, Namespace, ObjectId};
+use aml_regions::RegisterFile;
 use std::alloc::Global;
 use std::process::Abort;
 use std::test::Fail;
@@ -57,7 +58,15 @@ fn is_evaluated(rt: &impl Abort, alloc: Global, row: Row) -> Result<(), LoadFaul
     let namespace = Namespace::load(alloc, &[&table], HOST)?;
     assert!(rt; namespace.method(ObjectId(number)).is_some());
     let mut names = first_names(alloc, &namespace)?;
-    match outcome_in(alloc, &namespace, ObjectId(number), &mut names, fuel) {
+    let mut world = RegisterFile::new(alloc);
+    match outcome_in(
+        alloc,
+        &namespace,
+        ObjectId(number),
+        &mut names,
+        &mut world,
+        fuel,
+    ) {
         Ok(found) => {
             assert!(rt; ends(&found, wanted), "{module:?} {fuel} {wanted:?}");
             assert!(rt; are_in_last(&names, states, last), "{module:?} {fuel}");
