@@ -33,11 +33,7 @@ impl Machine {
     /// are left, go over to it, so that the caller's frame stays where it is. In a box, and by a call of
     /// its own, so that neither lies on the stack of the call. Nothing goes over without memory.
     #[inline(never)]
-    pub fn enter(
-        &mut self,
-        alloc: Global,
-        arguments: Vec<Value>,
-    ) -> Result<Box<Machine>, NoMemory>
+    pub fn enter(&mut self, alloc: Global, arguments: Vec<Value>) -> Result<Box<Machine>, NoMemory>
         ensures enters { (log : List Event) → IfOk result (λ inner.
             now inner.value log ≡ inside (map view arguments.items) (now self.old log)) }
         ensures frame { frame_of self.new.frame ≡ frame_of self.old.frame }
