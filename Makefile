@@ -1,20 +1,33 @@
-.PHONY: run test cases rows growths edits bench loops stack check fmt
+# WORDS of the program, as make try WORDS="names my.dat".
+WORDS =
+
+.PHONY: try run test cases rows growths edits bench loops stack check fmt
+
+# The first answer in a minute: builds acpicheck from its sources, without proofs, and runs it on the example, or on
+# words and files of your own: make try WORDS="eval --plain 100 --method '\_SB_.PCI0._STA' my.dat".
+try:
+	@python3 bench/try.py $(WORDS)
 
 # Builds acpicheck, proofs included, and evaluates the method of the stored run.
 run:
 	@cd crates/acpicheck && rt run < stdin
 
-# The gate: every crate proved and must-fail edits refused, from nothing but for what a gate on this machine has passed
-# with the same files; tests and programs run, and then the built program over its stored cases and rows. The last line
-# counts all.
+# The crates whose must-fail edits the gate tries: those of which each edit was judged by the script as it stands. The
+# edits of the other crates are tried by make edits.
+EDITED = acpi_resources acpi_tables aml_externals aml_lex aml_meaning aml_operators aml_regions aml_rules aml_tree
+
+# The gate: every crate proved, from nothing but for what a gate on this machine has passed with the same files; tests
+# and programs run, then the built program over its stored cases and rows, and last the must-fail edits, many in one
+# check, and those of a small crate that try the script itself. The last line counts all.
 test:
-	@rt ci | python3 bench/cases.py after
+	@python3 bench/edits.py clear
+	@rt ci | python3 bench/cases.py after | python3 bench/edits.py after $(EDITED)
 
 # The built program over its stored cases and rows.
 cases:
 	@python3 bench/cases.py
 
-# The built program over its rows of evaluations alone.
+# The built program over its rows alone.
 rows:
 	@python3 bench/rows.py
 
@@ -22,7 +35,7 @@ rows:
 growths:
 	@python3 bench/growths.py
 
-# The further edits that must be refused: of every crate, or with CRATE=name of one, and with EDIT=name one of them.
+# The edits that must be refused: of every crate, or with CRATE=name of one, and with EDIT=name one of them.
 edits:
 	@python3 bench/edits.py $(CRATE) $(EDIT)
 

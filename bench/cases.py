@@ -1,5 +1,5 @@
 #!/usr/bin/env python3
-"""Runs the built program over the stored cases, and over the rows of evaluations (bench/rows.py).
+"""Runs the built program over the stored cases, and over its rows (bench/rows.py).
 
     python3 bench/cases.py
     rt ci | python3 bench/cases.py after

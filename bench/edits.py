@@ -1,15 +1,25 @@
 #!/usr/bin/env python3
-"""Tries the edits that stand outside the gate: edits.py [CRATE [EDIT]].
+"""Tries the must-fail edits of each crate, many in one check: edits.py [CRATE [EDIT]].
 
-The gate tries each `crates/NAME/must-fail/*.edit`. Further edits, in `crates/NAME/edits/`, are of the same form and
-must be refused too, but would make the gate longer. They are tried here, of every crate or of one; EDIT names one
-edit of that crate, without `.edit`, which may also be one of its `must-fail/`.
+    python3 bench/edits.py [CRATE [EDIT]]
+    rt ci | python3 bench/edits.py after [CRATE ..]
 
-Nothing in the work tree changes: `rt must-fail` runs in a copy of it, where the edits stand in the place of those of
-the gate. To save time the copy takes along what earlier checks kept (`out/`) of the libraries below. It needs some
-hundred megabytes for each, and is removed at the end.
+An edit, `crates/NAME/must-fail/*.edit` or `crates/NAME/edits/*.edit`, turns the meaning of a function, and the check
+must refuse it. Edits of different functions are laid in together, and one check says of each function which goals of
+its own were not proved, and which it lacks only since it calls one that is refused. An edit whose function has a goal of
+its own refused is refused. One that inherited its refusal, or whose function was not reached, goes into another check
+without those that it calls, and in the end alone.
+
+It fails where an edit is still proved, where an old text does not stand just once, where it does not compile (the front
+end alone reads all of them first), and where it fell only by a name that went, which a proof file cites.
+
+What was refused is kept, in the folder acpicheck-edits of $XDG_CACHE_HOME or else in /var/tmp, by a checksum of all that
+it stands on: the toolchain, the crate and those below, the edit and these scripts. With the word `after` the lines of
+what ran before are read from standard input and printed, the last line counts its checks too, and libraries that the
+gate has just built are used; crates that are named are tried, or else all. Nothing in the work tree changes. With the word `clear` the libraries that an earlier gate
+left are removed, so that those that are found later are of the gate that ran in between.
 """
-import glob
+import concurrent.futures
 import os
 import re
 import shutil
@@ -17,140 +27,261 @@ import subprocess
 import sys
 import tempfile
 
-LINE = re.compile(r"(?:rt: )?must-fail (\S+)/(\S+)\.edit: (.*)")
-# What `rt must-fail` says of an edit that takes away a name which a proof file uses: the contract was hardly tried.
-ONLY_A_NAME = "only because a proof file names what the edit took away"
+import edit_checks
+import edit_kept
+import edit_texts
+from edit_checks import PROVED, REFUSED, UNSURE
+
+TOP = os.path.dirname(os.path.dirname(os.path.abspath(__file__)))
+COUNTS = re.compile(r"(\d+) passed, (\d+) failed\n?")
+# How often an edit goes into a check with others before it is tried alone.
+MOST = 3
 
 
-def crates_of(top):
-    """The crates of crates.txt, each with the libraries that it uses."""
-    with open(f"{top}/crates.txt", encoding="utf-8") as it:
-        lines = [line.partition("#")[0].partition(":") for line in it]
-    return {front.split()[0]: back.split() for front, _, back in lines if front.split()}
+class Trial:
+    """The edits of one crate, as they are tried."""
+
+    def __init__(self, room, edits):
+        self.room, self.sources, self.left = room, room.sources, list(edits)
+        self.found, self.blocked, self.tries = {}, {}, dict.fromkeys((it.name for it in edits), 0)
+        self.batches = []
+
+    def settle(self, edit, kind, text):
+        self.found[edit.name] = (kind, text)
+        self.left.remove(edit)
+
+    def leave_out_what_does_not_compile(self):
+        """Reads all edits by the front end, those of different lines together, and settles those that it refuses alone too."""
+        left = list(self.left)
+        while left:
+            lines, batch = set(), []
+            for edit in left:
+                if not lines & set(edit.lines):
+                    lines |= set(edit.lines)
+                    batch.append(edit)
+            left = [it for it in left if it not in batch]
+            while batch:
+                said = self.room.check(batch, [""])
+                if said.status == 0:
+                    break
+                suspects = self.suspects(batch, said) or batch
+                for edit in suspects:
+                    alone = said if len(batch) == 1 else self.room.check([edit], [""])
+                    if alone.status != 0:
+                        told = [it[2] for it in alone.compile_errors()] or alone.lines[-1:]
+                        self.settle(edit, UNSURE, f"it does not compile: {told[0][:200]}")
+                batch = [it for it in batch if it not in suspects]
+
+    def suspects(self, batch, said):
+        """The edits in whose lines, or else in whose functions, the front end found fault."""
+        errors = [(path, line) for path, line, _ in said.compile_errors()]
+        found = [it for it in batch if any(place in it.lines for place in errors)]
+        at = {self.sources.function_at(*place) for place in errors}
+        return found or [it for it in batch if self.sources.touched(it) & at]
+
+    def next_batch(self):
+        """Edits of different functions, none of which is known to call another's; first those that were tried most."""
+        batch, taken = [], set()
+        for edit in sorted(self.left, key=lambda it: -self.tries[it.name]):
+            own = self.sources.touched(edit)
+            bars = self.blocked.get(edit.name, set())
+            if not own or self.tries[edit.name] >= MOST or own & taken or bars & taken:
+                continue
+            if any(self.blocked.get(it.name, set()) & own for it in batch):
+                continue
+            batch.append(edit)
+            taken |= own
+        return batch
+
+    def try_together(self, batch):
+        said = self.room.check(batch, self.modules(batch))
+        self.batches.append(len(batch))
+        if not said.ended:
+            # it says nothing sure: smaller ones
+            for edit in batch:
+                self.tries[edit.name] = MOST if len(batch) < 3 else self.tries[edit.name] + 1
+            return
+        others = {name: it for it in batch for f in self.sources.touched(it)
+                  for name in edit_texts.names_of(self.room.crate, f, said.states)}
+        for edit in batch:
+            kind, text = said.of_edit(self.sources, edit)
+            if kind == REFUSED:
+                self.settle(edit, REFUSED, text)
+                continue
+            self.tries[edit.name] = MOST if kind == PROVED else self.tries[edit.name] + 1
+            names = [name for name, it in others.items() if it is edit]
+            bars = {others[it] for name in names for it in said.callees(name) if it in others} - {edit}
+            self.blocked.setdefault(edit.name, set()).update(*(self.sources.touched(it) for it in bars))
+            if not bars:
+                self.tries[edit.name] = MOST
+
+    def modules(self, batch):
+        """The paths of the modules that the batch changes, or none where one of them is the root."""
+        found = sorted({function.module for it in batch for function in self.sources.touched(it)})
+        return None if "" in found or not found else found
+
+    def try_alone(self, edit):
+        """Judges an edit by what the check of the crate with it alone says, by its own functions and then by all."""
+        self.batches.append(1)
+        modules = self.modules([edit])
+        if modules:
+            kind, text = self.room.check([edit], modules).of_edit(self.sources, edit)
+            if kind == REFUSED:
+                self.settle(edit, REFUSED, text)
+                return
+        said = self.room.check([edit])
+        kind, text = said.of_edit(self.sources, edit)
+        if said.status == 0 and said.ended:
+            self.settle(edit, PROVED, "STILL PROVED: the contract is too weak, or it means the same")
+        elif said.status == 3 and any(map(edit_checks.LIMIT.search, said.lines)):
+            self.settle(edit, REFUSED, "only by a limit of the prover, which gave no verdict")
+        elif not said.ended or said.status != 1:
+            self.settle(edit, UNSURE, f"NOT TRIED: its check ended with status {said.status}: {said.lines[-2:]}"[:300])
+        elif kind == REFUSED:
+            self.settle(edit, REFUSED, text)
+        else:
+            self.settle(edit, *self.by_any(said))
+
+    def by_any(self, said):
+        """What the check of one edit alone says by any function's goals."""
+        for name in said.states:
+            kind, text = said.of_function(name)
+            if kind == REFUSED:
+                return REFUSED, text
+        told = [line for _, _, line in said.places if ": error" in line or line.startswith("note: ")]
+        real = [it for it in told if not edit_checks.A_NAME.search(it)]
+        if real:
+            return REFUSED, real[0][:200]
+        return UNSURE, f"it fell only by a name that went, which shows nothing of the contract: {(told or said.lines[-1:])[0][:200]}"
+
+    def run(self):
+        self.leave_out_what_does_not_compile()
+        while batch := self.next_batch():
+            if len(batch) == 1:
+                self.tries[batch[0].name] = MOST
+            else:
+                self.try_together(batch)
+        for edit in list(self.left):
+            self.try_alone(edit)
 
 
-def edits_of(top, crate, only):
-    """The files of a crate's edits outside the gate, or of the one edit that is asked for."""
-    if only:
-        places = [f"{top}/crates/{crate}/{folder}/{only}.edit" for folder in ("edits", "must-fail")]
-        return [file for file in places if os.path.isfile(file)][:1]
-    return sorted(glob.glob(f"{top}/crates/{crate}/edits/*.edit"))
+def free_memory():
+    with open("/proc/meminfo", encoding="ascii") as it:
+        return 1024 * int(re.search(r"MemAvailable:\s+(\d+)", it.read())[1])
 
 
-def stem(edit):
-    return os.path.basename(edit).removesuffix(".edit")
+def lanes(count):
+    """How many crates are tried at once, and the jobs of each: 4 GB for a crate."""
+    cores = len(os.sched_getaffinity(0))
+    fitting = max(1, min(cores, count, free_memory() // 4_000_000_000))
+    at_once = min(fitting, 2) if free_memory() < 24 << 30 else fitting
+    jobs = os.environ.get("EDITS_JOBS", "")
+    return at_once, int(jobs) if jobs.isdigit() else max(1, min(4, cores // at_once))
 
 
-def applies(top, crate, edit):
-    """Whether each old text of an edit stands once in its file; a file is read as the pairs before have left it."""
-    path, old, texts = "", "", {}
-    with open(edit, encoding="utf-8") as it:
-        lines = it.read().split("\n")
-    for line in lines:
-        word, _, rest = line.partition(" ")
-        if word == "file:":
-            path = f"{top}/crates/{crate}/{rest.strip()}"
-        elif word == "old:":
-            old = rest
-        elif word == "new:":
-            if path not in texts and os.path.isfile(path):
-                with open(path, encoding="utf-8") as it:
-                    texts[path] = it.read()
-            if not old or texts.get(path, "").count(old) != 1:
-                return False
-            texts[path] = texts[path].replace(old, rest)
-    return bool(texts)
+def tried(top, crates, crate, only, kept, after_gate, jobs):
+    """Tries a crate's edits, and returns what to print, and how many passed and failed."""
+    told, passed, failed, edits = [], 0, 0, []
+    for file in edit_texts.edit_files(top, crate):
+        name = os.path.basename(file).removesuffix(".edit")
+        if only and name != only:
+            continue
+        try:
+            edit = edit_texts.read_edit(top, crate, file)
+        except (edit_texts.BadEdit, OSError, ValueError) as why:
+            told.append(f"edit {crate}/{name}: BAD EDIT: {why}")
+            failed += 1
+            continue
+        if any(it.name == name for it in edits):
+            told.append(f"edit {crate}/{name}: BAD EDIT: two edits have that name")
+            failed += 1
+            continue
+        where = kept.where(edit) if kept else None
+        if where is None:
+            edits.append(edit)
+        else:
+            told.append(f"edit {crate}/{name}: refused: {where} (kept)")
+            passed += 1
+    if not edits:
+        return told, passed, failed
+    with tempfile.TemporaryDirectory(prefix="edits-") as place:
+        room = edit_checks.Room(top, place, crate, crates, after_gate, jobs)
+        why = room.build_below()
+        if why:
+            told.append(f"edits of {crate}: NOT TRIED: the crate as it stands is not read, or a library below it is not built: {why}")
+            return told, passed, failed + len(edits)
+        trial = Trial(room, edits)
+        trial.run()
+    for edit in edits:
+        kind, text = trial.found.get(edit.name, (UNSURE, "nothing was said of it"))
+        told.append(f"edit {crate}/{edit.name}: {'refused: ' if kind == REFUSED else 'NOT REFUSED: '}{text}")
+        if kind == REFUSED and kept:
+            kept.keep(edit, text)
+        passed, failed = passed + (kind == REFUSED), failed + (kind != REFUSED)
+    told.append(f"edits of {crate}: {len(edits)} in {len(trial.batches)} checks of {trial.batches} edits, "
+                f"{room.seconds:.0f} processor seconds, {room.most / 1048576:.1f} GiB")
+    return told, passed, failed
 
 
-def below(crates, chosen):
-    """The crates that these use."""
-    found, left = set(), [dep for crate in chosen for dep in crates[crate]]
-    while left:
-        crate = left.pop()
-        if crate in crates and crate not in found:
-            found.add(crate)
-            left += crates[crate]
-    return found
+def counts_of(lines):
+    """Prints the lines of what ran before, and returns how many passed and failed."""
+    last = ""
+    for last in lines:
+        print(last, end="", flush=True)
+    counts = COUNTS.fullmatch(last)
+    return (int(counts[1]), int(counts[2])) if counts else (0, 1)
 
 
-def copy_tree(top, room):
-    """Copies the files of the work tree that git has, or would add."""
-    words = ["git", "ls-files", "-z", "--cached", "--others", "--exclude-standard"]
-    listed = subprocess.run(words, cwd=top, capture_output=True, check=True).stdout.decode()
-    for file in filter(None, listed.split("\0")):
-        if os.path.isfile(f"{top}/{file}"):
-            os.makedirs(os.path.dirname(f"{room}/{file}"), exist_ok=True)
-            shutil.copy2(f"{top}/{file}", f"{room}/{file}")
+def clear(top):
+    """Removes the libraries that an earlier gate left, which have no stamp and serve no other command."""
+    for crate in edit_texts.crates_of(top):
+        out = f"{top}/crates/{crate}/out/rlib"
+        if os.path.isdir(out) and not os.path.exists(f"{out}/stamp"):
+            shutil.rmtree(out)
 
 
-def copy_kept(top, room, crates):
-    for crate in crates:
-        if os.path.isdir(f"{top}/crates/{crate}/out"):
-            shutil.copytree(f"{top}/crates/{crate}/out", f"{room}/crates/{crate}/out")
-
-
-def put_in_place(room, crate, edits):
-    """Has the copy of a crate these edits, in the place of those of the gate."""
-    folder = f"{room}/crates/{crate}/must-fail"
-    shutil.rmtree(folder, ignore_errors=True)
-    os.makedirs(folder)
-    for file in edits:
-        shutil.copy2(file, folder)
-
-
-def tried(room, crate):
-    """What `rt must-fail` says of a crate's edits, by their names; its lines are printed as they come."""
-    said = {}
-    how = {"stdout": subprocess.PIPE, "stderr": subprocess.STDOUT, "text": True, "errors": "replace"}
-    with subprocess.Popen(["rt", "must-fail", crate], cwd=room, **how) as ran:
-        for line in ran.stdout:
-            print(line, end="", flush=True)
-            found = LINE.match(line)
-            if found:
-                said[found[2]] = found[3]
-    return said, ran.returncode
-
-
-def main(words):
-    top = os.path.dirname(os.path.dirname(os.path.abspath(__file__)))
-    crates = crates_of(top)
-    only_crate, only_edit = [*words, "", ""][:2]
-    if len(words) > 2 or only_crate and only_crate not in crates:
+def main(words, top=TOP, kept=None):
+    crates = edit_texts.crates_of(top)
+    if words == ["clear"]:
+        clear(top)
+        return 0
+    after = words[:1] == ["after"]
+    wanted = words[1:] if after else words[:1]
+    only_edit = "" if after else "".join(words[1:2])
+    if not after and len(words) > 2 or not set(wanted) <= set(crates):
         print(__doc__, end="", file=sys.stderr)
         return 2
-    edits = {crate: edits_of(top, crate, only_edit) for crate in crates if only_crate in ("", crate)}
-    edits = {crate: files for crate, files in edits.items() if files}
-    if not edits:
-        print("no such edit")
+    passed, failed = counts_of(sys.stdin) if after else (0, 0)
+    if failed:
+        print("edits: not tried, since what ran before failed")
+        print(f"{passed} passed, {failed} failed")
         return 1
-    count, weak, bad = sum(len(files) for files in edits.values()), [], []
-    for crate, files in edits.items():
-        for file in [it for it in files if not applies(top, crate, it)]:
-            files.remove(file)
-            bad.append(f"{crate}/{stem(file)}")
-            print(f"{bad[-1]}: an old text does not stand in its file once")
-    with tempfile.TemporaryDirectory(prefix="edits-") as room:
-        copy_tree(top, room)
-        copy_kept(top, room, below(crates, [crate for crate, files in edits.items() if files]))
-        for crate, files in edits.items():
-            if not files:
-                continue
-            put_in_place(room, crate, files)
-            said, status = tried(room, crate)
-            for file in files:
-                answer = said.get(stem(file), "nothing was said of it")
-                if not answer.startswith("refused, as it must be"):
-                    bad.append(f"{crate}/{stem(file)}")
-                elif ONLY_A_NAME in answer:
-                    weak.append(f"{crate}/{stem(file)}")
-            if status and not any(it.startswith(f"{crate}/") for it in bad):
-                bad.append(f"{crate} (rt ended with {status})")
-    for name in weak:
-        print(f"weak, refused only because a proof names what it takes away: {name}")
-    for name in bad:
-        print(f"NOT REFUSED, or not tried: {name}")
-    print(f"{count} edits, {count - len(bad)} refused, {len(weak)} of them weak")
-    return 1 if bad else 0
+    chosen = [it for it in crates if (not wanted or it in wanted) and edit_texts.edit_files(top, it)]
+    kept = None if only_edit else kept or edit_kept.Kept(top, crates)
+    at_once, jobs = lanes(len(chosen) or 1)
+    begun = passed + failed
+    if after:
+        import edits_test
+
+        found = edits_test.differences_once(kept)
+        print("\n".join(f"edits_test: {it}" for it in found or ["passed"]), flush=True)
+        passed, failed = passed + (not found), failed + bool(found)
+    with concurrent.futures.ThreadPoolExecutor(at_once) as pool:
+        # those with the most edits first
+        order = sorted(chosen, key=lambda it: -len(edit_texts.edit_files(top, it)))
+        runs = [pool.submit(tried, top, crates, it, only_edit, kept, after, jobs) for it in order]
+        for ran in concurrent.futures.as_completed(runs):
+            try:
+                told, right, wrong = ran.result()
+            except (OSError, ValueError, KeyError, IndexError, subprocess.SubprocessError, shutil.Error) as why:
+                told, right, wrong = [f"edits: NOT TRIED: {why!r}"], 0, 1
+            print("\n".join(told), flush=True)
+            passed, failed = passed + right, failed + wrong
+    if begun == passed + failed:
+        print("edits: there is none")
+        failed += 1
+    print(f"{passed} passed, {failed} failed")
+    return 1 if failed else 0
 
 
 if __name__ == "__main__":

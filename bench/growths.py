@@ -1,13 +1,13 @@
 #!/usr/bin/env python3
-"""Refuses each growth of memory in turn, in the tests and in the rows of evaluations that are marked for it.
+"""Refuses each growth of memory in turn, in the tests and in the rows of the program that are marked for it.
 
     python3 bench/growths.py
 
 A test whose name begins with `rows_of_` or `want_of_memory` makes a call again where the first try wants memory, and
 compares the answer, so it passes whichever growth is refused. Every crate of crates.txt whose sources have such a test
-is taken. A row is taken that stands under `growths` in its file (bench/rows.py). The built program evaluates it, and
+is taken. A row is taken that stands under `growths` in its file (bench/rows.py). The built program is run on it, and
 whichever growth is refused, it must end as the row says or tell want of memory: with status 1, and on standard output
-`fault E524 NoMemory`, or a beginning of what the row says.
+a beginning of what the row says, behind which `fault E524 NoMemory` may stand.
 
 The programs are those that `make test` leaves in crates/NAME/out; one that is missing, or older than the sources that
 it is built from, is a failure. The N-th growth of a run is refused by a `malloc` of this script's own, for which a C
@@ -136,7 +136,7 @@ def run(shim, program, test, count_to, number):
 
 
 def tried_in_turn(shim, program, test, count_to):
-    """Runs a test with no growth refused, and then with each; returns how many were refused, and how many runs failed."""
+    """Runs a test with no growth refused, then with each; returns how many were refused, and how many runs failed."""
     status, growths, said = run(shim, program, test, count_to, -1)
     failed = 0
     for number in range(growths + 1):
@@ -150,34 +150,31 @@ def tried_in_turn(shim, program, test, count_to):
 
 
 def run_row(shim, program, row, room, number):
-    """Evaluates a row with the number-th growth refused, and returns its status, standard output and error."""
+    """Runs a row with the number-th growth refused, and returns the program's status, standard output and error."""
     given = {"LD_PRELOAD": shim, "GROWTHS": "" if number > 0 else f"{room}/count", "REFUSED_GROWTH": str(number)}
-    ran = subprocess.run([program, *rows.words_of(row, row.steps)], env=given, cwd=room, stdin=subprocess.DEVNULL,
-                         capture_output=True, timeout=60)
-    return ran.returncode, ran.stdout, ran.stderr
+    return rows.run(program, row, room, env=given)
 
 
 def wants_memory(answer, output):
-    """Whether an answer of the program tells want of memory, where the row says that output."""
+    """Whether an answer of the program tells want of memory, behind a beginning of what the row says."""
     status, written, notes = answer
-    return status == 1 and (written == NO_MEMORY or output.startswith(written)) and bool(NOTE.fullmatch(notes))
+    return status == 1 and output.startswith(written.removesuffix(NO_MEMORY)) and bool(NOTE.fullmatch(notes))
 
 
 def row_in_turn(shim, program, row):
-    """Evaluates a row with no growth refused, and then with each; returns how many were refused, and what failed."""
-    output, status = rows.answer_of(row.output)
-    right, failed = (status, output, b""), []
+    """Runs a row with no growth refused, and then with each; returns how many were refused, and what failed."""
+    output, _ = rows.answer_of(row.output)
+    failed = []
     with tempfile.TemporaryDirectory() as room:
-        with open(f"{room}/dsdt.bin", "wb") as it:
-            it.write(rows.table_of(row))
+        rows.lay_out(row, room)
         answer = run_row(shim, program, row, room, -1)
         with open(f"{room}/count") as it:
             growths = int(it.read())
-        if answer != right:
+        if not rows.is_answer(answer, row.output):
             failed.append(f"row {row.place}: without a refusal: {answer}")
         for number in range(1, growths + 1):
             answer = run_row(shim, program, row, room, number)
-            if answer != right and not wants_memory(answer, output):
+            if not rows.is_answer(answer, row.output) and not wants_memory(answer, output):
                 failed.append(f"row {row.place}: growth {number}: {answer}")
     return growths, failed
 

@@ -1,0 +1,210 @@
+"""Checks of a crate with edits laid in: the room they run in, and what the prover's lines say of each edit.
+
+A check here proves over a room of its own, a copy of the crate's files. Each check of one crate begins with what those
+before it proved there. The libraries below are those that the gate built just before, where it did, and else those that
+`rt check` builds over what the checkout keeps. The commands run behind the words of EDITS_PREFIX, where it is set.
+"""
+import os
+import re
+import shlex
+import shutil
+import signal
+import subprocess
+import threading
+
+import edit_texts
+
+PARTS = ("src", "specs", "proofs")
+TOLD = re.compile(r"(?:fn|cycle) (\S+): (.*)")
+AT = re.compile(r"(?:note: )?(?:\./)?((?:src|specs|proofs)/\S+?):(\d+):\d+: (.*)")
+# What is said where a name went that a proof file cites: it shows nothing of the contract.
+A_NAME = re.compile(r"has no field|is not in scope|has no `|was not admitted|cannot find")
+# The prover's own limits, which it meets wherever it checks the same.
+LIMIT = re.compile(r"antt ran out of (stack|the (steps|memory) that)|(outgrew the memory limit|stopped at the step limit) \(")
+
+REFUSED, PROVED, UNSURE = "refused", "proved", "unsure"
+
+
+def kit():
+    """The folder of the toolchain."""
+    ran = subprocess.run(["rt", "doc"], capture_output=True, text=True, check=True)
+    return os.path.dirname(ran.stdout.strip())
+
+
+def linked(folder, to):
+    """Copies what checks kept: what was proved by links, since a check replaces such a file and changes none."""
+
+    def copy(one, other):
+        try:
+            return os.link(one, other)
+        except OSError:
+            return shutil.copy2(one, other)
+
+    shutil.copytree(folder, to, symlinks=True, copy_function=lambda one, other: copy(one, other) if
+                    one.endswith((".oantt", ".a")) else shutil.copy2(one, other))
+
+
+class Said:
+    """What a check said, by its lines."""
+
+    def __init__(self, status, text):
+        self.status, self.lines = status, text.split("\n")
+        self.states = {it[1]: it[2] for it in map(TOLD.fullmatch, self.lines) if it}
+        self.places = [(it[1], int(it[2]) - 1, it[0]) for it in map(AT.match, self.lines) if it]
+        self.ended = status in (0, 1) and any(re.match(r"only=\d|logic=(not-)?proved", it) for it in self.lines[-5:])
+
+    def compile_errors(self):
+        """What the front end refuses: the path and the line, from 0, and what it says."""
+        return [it for it in self.places if it[0].startswith("src/") and re.search(r": error\[[\w-]+\]", it[2])]
+
+    def goals(self, name):
+        """The goals of its own that a function's line names; of a cycle of calls those that bear the function's name."""
+        state = self.states.get(name, "")
+        # (what follows these words is of another function of the cycle)
+        found = None if "of this cycle of calls" in state else re.search(r"did not prove (.*?)(?:; |$)", state)
+        goals = re.findall(r"`([^`]+)`", found[1]) if found else []
+        own = name.partition("::")[2]
+        return [it for it in goals if "::" not in it or it.startswith(f"{own}-")]
+
+    def answers(self, name):
+        """The errors in the proof files of a function alone, or of a cycle of calls at an answer that bears its name."""
+        own = name.partition("::")[2]
+        parts = own.split("::")
+        folder = f"proofs/{'/'.join(parts)}/"
+        heads = tuple("::".join(parts[at:]) + "-" for at in range(len(parts)))
+        found = []
+        for path, _, line in self.places:
+            answer = re.search(r": error: `([^`]+)`", line)
+            if path.startswith(folder) and ": error" in line:
+                found.append(line)
+            elif "/+" in path and answer and answer[1].startswith(heads):
+                found.append(line)
+        return found
+
+    def callees(self, name):
+        """The functions whose refusal a function inherits, down to those that have goals of their own."""
+        found, left = set(), [name]
+        while left:
+            here = left.pop()
+            told = re.findall(r"it (?:calls|passes the block) (.*?), which", self.states.get(here, ""))
+            for it in re.findall(r"`([^`]+)`", " ".join(told)):
+                if it not in found:
+                    found.add(it)
+                    left.append(it)
+        return found
+
+    def of_function(self, name):
+        """What this says of a function: that it is proved, that it is refused by a goal of its own, and at which, or that nothing is sure."""
+        state = self.states.get(name, "")
+        if re.match(r"proved\b", state):
+            return PROVED, name
+        goals, answers = self.goals(name), [it for it in self.answers(name) if not A_NAME.search(it)]
+        if goals:
+            return REFUSED, f"{name} at {', '.join(goals)}"
+        if answers:
+            return REFUSED, f"{name} at {AT.match(answers[0])[3].removeprefix('error: ')[:120]}"
+        return UNSURE, f"{name}: {state[:160] or 'nothing was said of it'}"
+
+    def of_edit(self, sources, edit):
+        """What this says of an edit by its own functions."""
+        told = []
+        for function in sources.touched(edit):
+            names = edit_texts.names_of(sources.crate, function, self.states)
+            told += [self.of_function(it) for it in names] or [(UNSURE, f"the check names no function {function.name}")]
+        for kind in (REFUSED, UNSURE, PROVED):
+            found = [text for it, text in told if it == kind]
+            if found:
+                return kind, found[0]
+        return UNSURE, "it stands in no function"
+
+
+class Room:
+    """A folder in which one crate is checked with edits laid in."""
+
+    def __init__(self, top, room, crate, crates, after_gate, jobs):
+        self.top, self.room, self.crate, self.jobs, self.kit = top, room, crate, jobs, kit()
+        self.crates, self.seconds, self.checks, self.most = crates, 0.0, 0, 0
+        self.folder = f"{room}/crates/{crate}"
+        self.sources = edit_texts.Sources(top, crate)
+        below = edit_texts.below(crates, crate)
+        # what the gate built has no stamp, which rt check and rt lib write
+        is_gates = lambda it: os.path.isdir(self.rlib(top, it)) and not os.path.exists(f"{top}/crates/{it}/out/rlib/stamp")
+        self.home = top if after_gate and all(map(is_gates, below)) else room
+        os.makedirs(f"{room}/.git")
+        if os.path.isfile(f"{top}/HANDLES"):
+            shutil.copy2(f"{top}/HANDLES", room)
+        # of crates.txt the lines of the crates that are here
+        with open(f"{top}/crates.txt", encoding="utf-8") as it:
+            lines = [line for line in it if line.partition(":")[0].split()[:1] in ([name] for name in [*below, crate])]
+        with open(f"{room}/crates.txt", "w", encoding="utf-8") as it:
+            it.writelines(lines)
+        for it in [crate] if self.home == top else [*below, crate]:
+            for part in PARTS:
+                if os.path.isdir(f"{top}/crates/{it}/{part}"):
+                    shutil.copytree(f"{top}/crates/{it}/{part}", f"{room}/crates/{it}/{part}")
+            for part in ("rlib", "incremental"):
+                kept = f"{top}/crates/{it}/out/{part}"
+                if os.path.isdir(kept) and (part == "incremental" or os.path.exists(f"{kept}/stamp")):
+                    linked(kept, f"{room}/crates/{it}/out/{part}")
+        os.makedirs(f"{self.folder}/out/incremental", exist_ok=True)
+
+    def rlib(self, home, crate):
+        return f"{home}/crates/{crate}/out/rlib/{crate}.rlib"
+
+    def build_below(self):
+        """Has rt build the libraries below, where the gate has not, and returns what it said if it could not."""
+        if self.home == self.top:
+            return ""
+        status, text = self.run(["rt", "check", "--only", ""])
+        return text[-600:] or "it failed" if status else ""
+
+    def words(self):
+        root = "src/main.rt" if os.path.isfile(f"{self.folder}/src/main.rt") else "src/lib.rt"
+        own = [it for it in self.crates[self.crate] if it in self.crates]
+        of_kit = ["std", *[it for it in self.crates[self.crate] if it not in self.crates and "=" not in it]]
+        words = [f"{self.kit}/bin/rattle", "check", "--crate-name", self.crate, root]
+        for it in of_kit:
+            words += ["--extern", f"{it}={self.kit}/rlibs/{it}.rlib"]
+        words += ["-L", f"dependency={self.kit}/rlibs"]
+        for it in own:
+            words += ["--extern", f"{it}={self.rlib(self.home, it)}"]
+        for it in edit_texts.below(self.crates, self.crate):
+            words += ["-L", f"dependency={os.path.dirname(self.rlib(self.home, it))}"]
+        words += ["--antt-project", f"{self.kit}/rattle/logic/antt-project.json", "--logic-built", f"{self.kit}/logic_built"]
+        return [*words, "--incremental", "out/incremental"]
+
+    def run(self, words, proves=True):
+        """Runs a command in the crate's folder, and counts its processor time."""
+        words = [*(shlex.split(os.environ.get("EDITS_PREFIX", "")) if proves else []), *words]
+        how = {"stdin": subprocess.DEVNULL, "stdout": subprocess.PIPE, "stderr": subprocess.STDOUT}
+        ran = subprocess.Popen(words, cwd=self.folder, text=True, errors="replace", **how)
+        text = []
+        reader = threading.Thread(target=lambda: text.append(ran.stdout.read()))
+        reader.start()
+        _, status, used = os.wait4(ran.pid, 0)
+        reader.join()
+        ran.returncode = os.waitstatus_to_exitcode(status)
+        self.seconds += used.ru_utime + used.ru_stime
+        self.most, self.checks = max(self.most, used.ru_maxrss), self.checks + 1
+        return ran.returncode, text[0]
+
+    def check(self, edits, only=None):
+        """What the check says of the crate with these edits, of all its functions or of those that the paths name."""
+        changed = self.sources.with_edits(edits)
+        for path, text in changed.items():
+            with open(f"{self.folder}/{path}", "w", encoding="utf-8", newline="") as it:
+                it.write(text)
+        only = [word for path in only or [] for word in ("--only", path)]
+        for jobs in (self.jobs, 1):
+            status, text = self.run([*self.words(), "--jobs", str(jobs), *only], proves=only != ["--only", ""])
+            if status != -signal.SIGKILL and status != 128 + signal.SIGKILL:
+                # (else most likely for memory)
+                break
+        for path in changed:
+            shutil.copyfile(f"{self.top}/crates/{self.crate}/{path}", f"{self.folder}/{path}")
+        keep = os.environ.get("EDITS_LOGS")
+        if keep:
+            os.makedirs(keep, exist_ok=True)
+            with open(f"{keep}/{self.crate}-{self.checks}.log", "w", encoding="utf-8") as it:
+                it.write(" ".join(edit.name for edit in edits) + f"\nstatus {status}\n{text}")
+        return Said(status, text)

@@ -1,0 +1,180 @@
+"""The must-fail edits of a crate as texts: how they are read, which lines and functions they touch, and many laid in at once.
+
+An edit's texts are one line each, so it changes lines and leaves their number: many edits stand in one file together
+where they touch different lines, and what is said of a line is said of its edit.
+"""
+import collections
+import dataclasses
+import glob
+import os
+import re
+
+FUNCTION = re.compile(r'(\s*)(?:pub(?:\([^)]*\))? )?(?:(?:const|unsafe|final|extern "C") )*fn (\w+)')
+# As rt fmt lays them out, on a line or two: `impl<T> Type<T>` and `impl<T> Trait<U> for Type<T>`.
+IMPL = re.compile(r"(?:unsafe )?(impl|trait)\b")
+
+# A function as the source has it: its module's path, the type and the trait of its impl, its name, its first and last line.
+Function = collections.namedtuple("Function", "module type trait name first last")
+
+
+@dataclasses.dataclass(eq=False)
+class Edit:
+    """An edit, and for each line that it changes, by path and number from 0, the new line."""
+
+    crate: str
+    name: str
+    text: str
+    lines: dict
+
+
+class BadEdit(Exception):
+    """Why an edit can't be laid in."""
+
+
+def crates_of(top):
+    """The crates of crates.txt, each with the libraries that it uses."""
+    with open(f"{top}/crates.txt", encoding="utf-8") as it:
+        lines = [line.partition("#")[0].partition(":") for line in it]
+    return {front.split()[0]: back.split() for front, _, back in lines if front.split()}
+
+
+def below(crates, crate):
+    """The crates of the repository that a crate stands on, each after those that it uses."""
+    found = []
+    for dep in crates[crate]:
+        if dep in crates:
+            found += [it for it in [*below(crates, dep), dep] if it not in found]
+    return found
+
+
+def edit_files(top, crate):
+    """The files of a crate's edits, those of the gate first."""
+    folders = [f"{top}/crates/{crate}/{it}" for it in ("must-fail", "edits")]
+    return [file for folder in folders for file in sorted(glob.glob(f"{folder}/*.edit"))]
+
+
+def read_text(path):
+    with open(path, encoding="utf-8", newline="") as it:
+        return it.read()
+
+
+def pairs_of(text):
+    """The pairs of an edit, each with its file."""
+    path, old, found = "", "", []
+    for line in text.split("\n"):
+        word, _, rest = line.partition(" ")
+        if word == "file:":
+            path = rest.strip()
+        elif word == "old:":
+            old = rest
+        elif word == "new:":
+            if not path or not old:
+                raise BadEdit("a 'new:' line stands before any 'file:' or 'old:' line")
+            found.append((path, old, rest))
+            old = ""
+    if not found:
+        raise BadEdit("it has no 'old:' and 'new:' pair")
+    return found
+
+
+def read_edit(top, crate, file):
+    """An edit, once each of its old texts was found to stand just once; a file is read as the pairs before have left it."""
+    folder, text, texts, was = f"{top}/crates/{crate}", read_text(file), {}, {}
+    for path, old, new in pairs_of(text):
+        if not path.startswith("src/") or os.path.normpath(path) != path:
+            raise BadEdit(f"{path} is no file below src/, and an edit of anything else shows nothing of the code")
+        if path not in texts:
+            if not os.path.isfile(f"{folder}/{path}"):
+                raise BadEdit(f"there is no file {path}")
+            texts[path] = was[path] = read_text(f"{folder}/{path}")
+        if texts[path].count(old) != 1:
+            raise BadEdit(f"an old text stands in {path} {texts[path].count(old)} times, and not once")
+        texts[path] = texts[path].replace(old, new)
+    lines = {}
+    for path, now in texts.items():
+        for at, (one, other) in enumerate(zip(was[path].split("\n"), now.split("\n"))):
+            if one != other:
+                lines[path, at] = other
+    if not lines:
+        raise BadEdit("it changes nothing")
+    return Edit(crate, os.path.basename(file).removesuffix(".edit"), text, lines)
+
+
+def head_of(lines, at):
+    """The type and the trait of the impl, or the trait, that begins at a line."""
+    text = ""
+    for line in lines[at : at + 8]:
+        text += " " + line.strip()
+        if "{" in line:
+            break
+    text = text.partition("{")[0].partition(" where ")[0]
+    text = re.sub(r"^(\s*)(?:unsafe )?impl<[^>]*>", r"\1impl", text)
+    text = re.sub(r"'\w+,? ?|\w+::|\bpub(\([^)]*\))? ", "", text)
+    while re.search(r"<[^<>]*<", text):
+        # of what stands within brackets the name alone
+        text = re.sub(r"(<[^<>]*?\w+)<[^<>]*>", r"\1", text)
+    front, _, back = text.strip().rpartition(" for ")
+    words = re.findall(r"\w+", front)
+    return re.sub(r"<.*", "", back).split()[-1] if back else "", "".join(it for it in words if it != "impl")
+
+
+def functions_of(path, text):
+    """The functions of a source file in the layout of rt fmt, where what begins at an indent ends by a brace at the same."""
+    module = "::".join(it for it in path.removeprefix("src/").removesuffix(".rt").split("/") if it != "mod")
+    module = "" if module in ("lib", "main") else module
+    lines, found, kind, trait = text.split("\n"), [], "", ""
+    for at, line in enumerate(lines):
+        if IMPL.match(line):
+            kind, trait = head_of(lines, at)
+        elif line.startswith("}"):
+            kind, trait = "", ""
+        head = FUNCTION.match(line)
+        if not head:
+            continue
+        ends = (it for it in range(at + 1, len(lines)) if lines[it].startswith(head[1] + "}"))
+        last = at if line.endswith(("}", ";")) and line.count("{") == line.count("}") else next(ends, at)
+        found.append(Function(module, kind, trait, head[2], at, last))
+    return found
+
+
+def names_of(crate, function, names):
+    """The names by which a check tells of a function and of the closures in it, among those that it told."""
+    module = "::".join([crate] + [function.module] * bool(function.module))
+    kind = function.type + function.trait
+    exact = [f"{module}::{kind}::{function.name}" if kind else f"{module}::{function.name}"]
+    # an impl without a trait may stand beside its type, or in another module
+    elsewhere = re.compile(rf"{crate}::(?:\w+::)*{kind}::{function.name}")
+    found = [it for it in exact if it in names] or [it for it in names if kind and elsewhere.fullmatch(it)]
+    if len(found) != 1:
+        return []
+    front = found[0].removesuffix(f"{kind}::{function.name}" if kind else function.name)
+    closures = f"{front}fn::{kind}::{function.name}::" if kind else f"{front}fn::{function.name}::"
+    return found + [it for it in names if it.startswith(closures)]
+
+
+class Sources:
+    """A crate's source files, and their functions."""
+
+    def __init__(self, top, crate):
+        folder = f"{top}/crates/{crate}"
+        paths = sorted(glob.glob("src/**/*.rt", root_dir=folder, recursive=True))
+        self.crate, self.texts = crate, {it: read_text(f"{folder}/{it}") for it in paths}
+        self.functions = {path: functions_of(path, text) for path, text in self.texts.items()}
+
+    def function_at(self, path, line):
+        """The outermost function that a line stands in, if it stands in one."""
+        return next((it for it in self.functions.get(path, []) if it.first <= line <= it.last), None)
+
+    def touched(self, edit):
+        """The functions that an edit changes, or none where it changes what stands outside of functions."""
+        found = {self.function_at(path, line) for path, line in edit.lines}
+        return frozenset() if None in found else frozenset(found)
+
+    def with_edits(self, edits):
+        """The files that these edits change, with all of them laid in. No two of them touch one line."""
+        changed = {}
+        for edit in edits:
+            for (path, line), new in edit.lines.items():
+                lines = changed.setdefault(path, self.texts[path].split("\n"))
+                lines[line] = new
+        return {path: "\n".join(lines) for path, lines in changed.items()}
