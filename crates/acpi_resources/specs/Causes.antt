@@ -1,0 +1,9 @@
+-- What is wrong, as it is printed: a number and a name.
+use Rattle.std.specs.Prelude.{ℕ, List, codes}
+use Rattle.acpi_resources.specs.declared.fault.ResourceCause.{ResourceCause}
+use Rattle.acpi_resources.specs.declared.fault.ResourceCause.TheVariants.{Truncated, BadItem, NoEnd}
+
+abbrev pub resource_cause_text : ResourceCause → List ℕ
+resource_cause_text Truncated = codes "E401 Truncated"
+resource_cause_text BadItem = codes "E402 BadItem"
+resource_cause_text NoEnd = codes "E403 NoEnd"

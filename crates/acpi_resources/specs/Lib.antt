@@ -1,0 +1,5 @@
+pub mod Causes
+pub mod Fault
+pub mod Signals
+pub mod Forms
+pub mod Items
