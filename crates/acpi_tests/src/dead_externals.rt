@@ -1,9 +1,7 @@
 // Tables whose Externals stand within an `If (Zero)`, as compilers write them.
 
-use acpi_samples::{HOST, changed, table_of};
-use aml_lex::NameSeg;
-use aml_namespace::{LoadFault, Namespace, ObjectId, is_dead_if, open_dead_externals};
-use aml_tree::TreeFault;
+use acpi_samples::{changed, table_of};
+use aml_namespace::{is_dead_if, open_dead_externals};
 use std::alloc::{AllocError, Global};
 use std::test::Fail;
 
@@ -169,85 +167,6 @@ fn dead_ifs(rt: HostRuntime) -> Result<(), Fail> {
     Ok(())
 }
 
-/// What `iasl` makes of a DSDT and of three SSDTs whose methods call one another (`bench/calls.asl`).
-/// Each begins with an If of three bytes and its Externals.
-const CALLS: &[&[u8]] = &[
-    b"\xa0\x14\x00\x15\x5c\x2f\x03_SB_PCI0SUM2\x08\x02\x104_SB_\x5b\x82\x2dPCI0\x08_HID\x0cA\
-        \xd0\x0a\x08\x14\x0bINC1\x01\xa4rh\x01\x00\x14\x11USE2\x01\xa4SUM2hINC1h",
-    b"\xa07\x00\x15\x5c\x2e_SB_PCI0\x06\x00\x15\x5c\x2f\x03_SB_PCI0INC1\x08\x01\x15\x5c\x2f\
-        \x04_SB_PCI0DEV1ALL7\x08\x07\x10O\x04\x5c\x2e_SB_PCI0\x14\x13SUM2\x02\xa4rINC1hINC1i\
-        \x00\x5b\x82\x2dDEV0\x14\x27TOP0\x00\xa4\x5c\x2f\x04_SB_PCI0DEV1ALL7\x01\x0a\x02\x0a\
-        \x03\x0a\x04\x0a\x05\x0a\x06\x0a\x07",
-    b"\xa07\x00\x15\x5c\x2e_SB_PCI0\x06\x00\x15\x5c\x2f\x03_SB_PCI0SUM2\x08\x02\x15\x5c\x2f\
-        \x04_SB_PCI0DEV0TOP0\x08\x00\x10M\x04\x5c\x2e_SB_PCI0\x5b\x82\x3fDEV1\x14\x12ALL7\x07\
-        \xa4SUM2hSUM2in\x14\x0b_STA\x00\xa4TOP0\x14\x1aTOP0\x00\xa4\x5c\x2f\x04_SB_PCI0DEV0TOP\
-        0",
-    b"\xa0\x3c\x00\x15\x5c\x2f\x03_SB_PCI0DEV1\x06\x00\x15\x5c\x2f\x04_SB_PCI0DEV1ALL7\x08\
-        \x07\x15\x5c\x2f\x03_SB_PCI0USE2\x08\x01\x10\x3b\x5c\x2f\x03_SB_PCI0DEV1\x08INT3\x0a\
-        \x03\x14\x23LAST\x00\xa4ALL7USE2INT3\x0a\x02\x0a\x03\x0a\x04\x0a\x05\x0a\x06USE2\x0a\
-        \x07",
-];
-
-/// The table with this number, opened; or with the Externals of its If alone in the If's place.
-fn caller(alloc: Global, number: usize, is_plain: bool) -> Result<Vec<u8>, AllocError> {
-    let signature = if number == 0 { *b"DSDT" } else { *b"SSDT" };
-    let module = CALLS.get(number).copied().unwrap_or(b"");
-    if is_plain {
-        return table_of(alloc, signature, 2, module.get(3..).unwrap_or(b""));
-    }
-    let mut table = table_of(alloc, signature, 2, module)?;
-    if open_dead_externals(&mut table) != 1 {
-        table.clear();
-    }
-    Ok(table)
-}
-
-/// How many arguments each method takes, and how many statements its body has.
-fn bodies(alloc: Global, ns: &Namespace<'_>) -> Result<Vec<(u8, usize)>, TreeFault> {
-    let mut bodies = Vec::new(alloc);
-    for id in ns.methods() {
-        if let Some(method) = ns.method(*id) {
-            bodies.push((method.args, ns.tree(alloc, *id)?.len()))?;
-        }
-    }
-    Ok(bodies)
-}
-
-/// The paths of all tables with their objects' numbers, and the methods' bodies.
-fn loaded(
-    alloc: Global,
-    is_plain: bool,
-) -> Result<(Vec<(Vec<NameSeg>, ObjectId)>, Vec<(u8, usize)>), Fail> {
-    let dsdt = caller(alloc, 0, is_plain)?;
-    let first = caller(alloc, 1, is_plain)?;
-    let second = caller(alloc, 2, is_plain)?;
-    let third = caller(alloc, 3, is_plain)?;
-    let ns = Namespace::load(alloc, &[&dsdt, &first, &second, &third], HOST)?;
-    Ok((ns.paths(alloc)?, bodies(alloc, &ns)?))
-}
-
-/// Tables that are opened make the same as those whose Externals stand in no If, and each call in them
-/// takes as many arguments: a body has one statement.
-#[test]
-fn opened_tables(rt: HostRuntime) -> Result<(), Fail> {
-    let (paths, of_opened) = loaded(rt.alloc(), false)?;
-    let (wanted, of_plain) = loaded(rt.alloc(), true)?;
-    assert_eq!(rt; (paths.len(), paths), (22, wanted));
-    assert_eq!(rt; of_opened.as_slice(), of_plain.as_slice());
-    let taken: &[(u8, usize)] = &[
-        (1, 1),
-        (1, 1),
-        (2, 1),
-        (0, 1),
-        (7, 1),
-        (0, 1),
-        (0, 1),
-        (0, 1),
-    ];
-    assert_eq!(rt; of_opened.as_slice(), taken);
-    Ok(())
-}
-
 /// A table of which a byte of the header is another stays as it is, and no If of it is told.
 #[test]
 fn faulty_headers(rt: HostRuntime) -> Result<(), Fail> {
@@ -265,26 +184,4 @@ fn faulty_headers(rt: HostRuntime) -> Result<(), Fail> {
         );
     }
     Ok(())
-}
-
-/// An opened If is no fault any more, and the first that is left is told at its own place.
-#[test]
-fn first_fault_left(rt: HostRuntime) -> Result<(), Fail> {
-    let module = b"\xa0\x09\x00\x15FOO1\x08\x01\xa0\x09\x01\x15FOO1\x08\x01";
-    let mut table = table_of(rt.alloc(), *b"DSDT", 2, module)?;
-    let before = fault_place(rt.alloc(), &table);
-    let count = open_dead_externals(&mut table);
-    assert_eq!(rt;
-        (before, count, fault_place(rt.alloc(), &table)),
-        (36, 1, 46)
-    );
-    Ok(())
-}
-
-/// The place of a load's fault, or 0.
-fn fault_place(alloc: Global, table: &[u8]) -> usize {
-    match Namespace::load(alloc, &[table], HOST) {
-        Err(LoadFault::Refused(fault)) => fault.at,
-        _ => 0,
-    }
 }

@@ -2,7 +2,6 @@
 
 mod definitions;
 mod externals;
-mod faults;
 mod names;
 mod owns;
 mod tables;
@@ -68,31 +67,6 @@ fn the_first_table(rt: HostRuntime) -> Result<(), Fail> {
     Ok(())
 }
 
-/// The width of the integers, and the number of objects, of a table without definitions.
-fn width_of(alloc: Global, revision: u8) -> Result<(Width, usize), LoadFault> {
-    let table = match table_of(alloc, *b"DSDT", revision, &[]) {
-        Ok(table) => table,
-        Err(AllocError) => return Err(LoadFault::NoMemory),
-    };
-    let ns = Namespace::load(alloc, &[&table], HOST)?;
-    Ok((ns.width(), ns.len()))
-}
-
-/// Below revision 2 integers have 32 bits.
-#[test]
-fn revisions(rt: HostRuntime) -> Result<(), Fail> {
-    let rows: &[(u8, Width)] = &[
-        (0, Width::Bits32),
-        (1, Width::Bits32),
-        (2, Width::Bits64),
-        (255, Width::Bits64),
-    ];
-    for (revision, width) in rows {
-        assert_eq!(rt; width_of(rt.alloc(), *revision)?, (*width, 9));
-    }
-    Ok(())
-}
-
 /// The integer 2.
 const REVISION: Object = Object::Data(DataName {
     content: Content::Integer,
@@ -115,7 +89,7 @@ const PREDEFINED: &[([u8; 4], Object)] = &[
     (*b"_REV", REVISION),
     (*b"_OSI", Object::OsInterfaces),
     (*b"_OS_", OS_NAME),
-    (*b"_GL_", Object::Mutex),
+    (*b"_GL_", Object::GlobalLock),
 ];
 
 #[test]

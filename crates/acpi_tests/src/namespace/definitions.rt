@@ -225,7 +225,7 @@ const OBJECTS: &[(usize, &[u8], Object)] = &[
     (22, b"\\BNK0", Object::Field(BNK0)),
     (23, b"\\BYT0", Object::BufferField(BYT0)),
     (24, b"\\BIT0", Object::BufferField(BIT0)),
-    (25, b"\\MTX0", Object::Mutex),
+    (25, b"\\MTX0", Object::Mutex { sync_level: 2 }),
     (26, b"\\EVT0", Object::Event),
 ];
 

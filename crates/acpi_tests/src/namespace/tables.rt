@@ -1,10 +1,9 @@
 // Scopes that are opened again, aliases, and a second table.
 
-use super::{dsdt_of, found, has_path, ssdt_of};
+use super::{dsdt_of, found, ssdt_of};
 use acpi_samples::HOST;
 use aml_lex::NameSeg;
-use aml_namespace::{Entry, Method, Namespace, ObjectId, Scope};
-use aml_tree::Span;
+use aml_namespace::{Namespace, ObjectId, Scope};
 use std::test::Fail;
 
 /// Scope (\_SB) { Device (DEV0) { Scope (^) { Name (ABCD, One) } } }, Alias (\_SB.DEV0, ALS0),
@@ -47,36 +46,7 @@ const LOOK_UPS: &[(Scope, &[u8], Option<usize>)] = &[
     (Scope::At(ObjectId(16)), b"MNOP", Some(15)),
 ];
 
-/// The number of the object of which a path is an alias.
-fn target_of(ns: &Namespace<'_>, id: ObjectId) -> Option<usize> {
-    match ns.entry(id) {
-        Some(Entry::Alias(object)) => Some(object.0),
-        _ => None,
-    }
-}
-
-#[test]
-fn paths(rt: HostRuntime) -> Result<(), Fail> {
-    let (first, second) = (dsdt_of(rt.alloc(), FIRST)?, ssdt_of(rt.alloc(), SECOND)?);
-    let ns = Namespace::load(rt.alloc(), &[&first, &second], HOST)?;
-    for (number, path, target) in PATHS {
-        let id = ObjectId(*number);
-        let is_there = has_path(rt.alloc(), &ns, id, path)?;
-        assert_eq!(rt; (is_there, target_of(&ns, id)), (true, *target));
-    }
-    let method = Method {
-        args: 1,
-        serialized: false,
-        sync_level: 0,
-        table: 1,
-        at: 65,
-        body: Span { at: 72, end: 72 },
-    };
-    assert_eq!(rt; (ns.len(), ns.method(ObjectId(16))), (17, Some(method)));
-    Ok(())
-}
-
-/// The same paths, each with the number of its object.
+/// Each path with the number of its object.
 #[test]
 fn all_paths(rt: HostRuntime) -> Result<(), Fail> {
     let (first, second) = (dsdt_of(rt.alloc(), FIRST)?, ssdt_of(rt.alloc(), SECOND)?);

@@ -1,9 +1,9 @@
 // Each opcode of the specification once, with operands as short as can be (ACPI 6.5, 20.2.3 to
-// 20.2.6), and every byte that is none.
+// 20.2.6).
 
 use super::body_of;
-use aml_tree::{Op, Refusal, TreeCause, TreeFault};
-use std::alloc::{AllocError, Global};
+use aml_tree::{Op, TreeFault};
+use std::alloc::Global;
 use std::process::Abort;
 use std::test::Fail;
 
@@ -202,51 +202,5 @@ fn definitions(rt: HostRuntime) -> Result<(), Fail> {
             (b"\x5B\x88ABC0\x60\x61\x62", Op::DataTableRegion, 4),
         ],
     )?;
-    Ok(())
-}
-
-/// Whether the bytes and a byte behind them are refused as an unknown opcode, at the first.
-fn is_unknown(alloc: Global, front: &[u8], byte: u8) -> Result<bool, AllocError> {
-    let mut body = front.to_vec(alloc)?;
-    body.push(byte)?;
-    Ok(matches!(
-        body_of(alloc, &body),
-        Err(TreeFault::Refused(Refusal {
-            cause: TreeCause::UnknownOpcode,
-            at: 0,
-        }))
-    ))
-}
-
-/// Every byte that is no opcode and begins no name, and every byte that makes none behind 5B.
-/// Debug, 5B31, is no statement.
-#[test]
-fn unknown_opcodes(rt: HostRuntime) -> Result<(), Fail> {
-    let rows: &[(&[u8], u8, u8)] = &[
-        (&[], 0x02, 0x05),
-        (&[], 0x07, 0x07),
-        (&[], 0x09, 0x09),
-        (&[], 0x0F, 0x0F),
-        (&[], 0x16, 0x2D),
-        (&[], 0x30, 0x40),
-        (&[], 0x5D, 0x5D),
-        (&[], 0x6F, 0x6F),
-        (&[], 0x9A, 0x9B),
-        (&[], 0xA1, 0xA1),
-        (&[], 0xA6, 0xCB),
-        (&[], 0xCD, 0xFE),
-        (&[0x5B], 0x00, 0x00),
-        (&[0x5B], 0x03, 0x11),
-        (&[0x5B], 0x14, 0x1E),
-        (&[0x5B], 0x2A, 0x2F),
-        (&[0x5B], 0x31, 0x31),
-        (&[0x5B], 0x34, 0x7F),
-        (&[0x5B], 0x89, 0xFF),
-    ];
-    for (front, low, high) in rows {
-        for byte in *low..=*high {
-            assert!(rt; is_unknown(rt.alloc(), front, byte)?, "{byte}");
-        }
-    }
     Ok(())
 }
