@@ -27,7 +27,7 @@ use Rattle.aml_namespace.specs.Enter.{Here, aliased, alias_of, entered, named_ob
 use Rattle.aml_namespace.specs.Define.{alias, all_defined, bank_fields, defined, field_entered, fields_from, flat, holding, index_fields, object_entered, region_fields, reopening, where_named}
 use Rattle.aml_namespace.specs.Fault.{◌>>=◌}
 use Rattle.aml_namespace.specs.FieldLists.{behind, field_of}
-use Rattle.aml_namespace.specs.Made.{Named, at_of, named, named_bits, named_buffer_field, named_data, named_method, named_region, object_of}
+use Rattle.aml_namespace.specs.Made.{Named, at_of, named, named_bits, named_buffer_field, named_data, named_method, named_mutex, named_region, object_of}
 
 -- a method's body lies in its table
 abbrev pub IsSoundObject : ℕ → ℕ → Object → Type 0
@@ -184,6 +184,12 @@ module _ (here : Here) where
   sound_bits (more buffer none) = tt
   sound_bits none = tt
 
+  sound_mutex : (parts : Trees) → SoundNamed (named_mutex parts)
+  sound_mutex (more name (more flags none)) = tt
+  sound_mutex (more name (more flags (more other parts))) = tt
+  sound_mutex (more name none) = tt
+  sound_mutex none = tt
+
   sound_named : (made : Object) (parts : Trees) → IsSoundObject table end made → SoundNamed (named made parts)
   sound_named made (more name rest) h = h
   sound_named made none h = tt
@@ -191,7 +197,7 @@ module _ (here : Here) where
   sound_made : (o : Op) (at : ℕ) (parts : Trees) → AreShapedParts o parts → AreSpelled here.bytes parts → SoundNamed (object_of here o at parts)
   sound_made op.Name at parts shaped spelled = sound_data parts
   sound_made op.Method at parts shaped spelled = sound_method at parts shaped spelled
-  sound_made op.Mutex at parts shaped spelled = sound_named object.Mutex parts tt
+  sound_made op.Mutex at parts shaped spelled = sound_mutex parts
   sound_made op.Event at parts shaped spelled = sound_named object.Event parts tt
   sound_made op.DataTableRegion at parts shaped spelled = sound_named object.DataTableRegion parts tt
   sound_made op.OperationRegion at parts shaped spelled = sound_region parts

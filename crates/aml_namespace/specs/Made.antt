@@ -112,6 +112,11 @@ named_region (more name (more space (more place (more length none)))) =
     Some (at_of name, object.Region (record { space = number_in space; place = literal_of place; length = literal_of length }))
 named_region parts = None
 
+-- bits 3:0 of a mutex's flags are its sync level, and bits 7:4 mean nothing
+abbrev pub named_mutex : Trees → Named
+named_mutex (more name (more flags none)) = Some (at_of name, object.Mutex (number_in flags % 16))
+named_mutex parts = None
+
 abbrev pub named_buffer_field : Here → BufferFieldSize → Trees → Named
 named_buffer_field here size (more buffer (more index (more name none))) = Some (at_of name, buffer_field here size buffer index)
 named_buffer_field here size parts = None
@@ -124,7 +129,7 @@ named_bits here parts = None
 abbrev pub object_of : Here → Op → ℕ → Trees → Named
 object_of here op.Name at parts = named_data here parts
 object_of here op.Method at parts = named_method here at parts
-object_of here op.Mutex at parts = named object.Mutex parts
+object_of here op.Mutex at parts = named_mutex parts
 object_of here op.Event at parts = named object.Event parts
 object_of here op.DataTableRegion at parts = named object.DataTableRegion parts
 object_of here op.OperationRegion at parts = named_region parts

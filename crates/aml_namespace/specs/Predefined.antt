@@ -25,7 +25,7 @@ predefined_objects os_length =
     ∷ predefined (codes "_REV") (object.Data (record { content = content.Integer; source = source.Revision }))
     ∷ predefined (codes "_OSI") object.OsInterfaces
     ∷ predefined (codes "_OS_") (object.Data (record { content = content.String os_length; source = source.OsName }))
-    ∷ predefined (codes "_GL_") object.Mutex
+    ∷ predefined (codes "_GL_") object.GlobalLock
     ∷ []
 
 abbrev pub entry_of : NameSeg × Object → Path × Entry

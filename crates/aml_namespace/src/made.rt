@@ -7,7 +7,7 @@ ghost use Rattle.aml_operators.specs.Tree.{view, views};
 ghost use Rattle.aml_namespace.specs.Parts.{HasParts};
 ghost use Rattle.aml_namespace.specs.Kept.{here_of};
 ghost use Rattle.aml_namespace.specs.LookUp.{scope_number};
-ghost use Rattle.aml_namespace.specs.Made.{buffer_content, buffer_field, content_of, data_of, literal, method_of, name_place, named, named_bits, named_buffer_field, named_data, named_method, named_region, number_in, object_of, package_content, reference, scope_numbered, size_in, sized_package_content, string_content};
+ghost use Rattle.aml_namespace.specs.Made.{buffer_content, buffer_field, content_of, data_of, literal, method_of, name_place, named, named_bits, named_buffer_field, named_data, named_method, named_mutex, named_region, number_in, object_of, package_content, reference, scope_numbered, size_in, sized_package_content, string_content};
 
 use crate::here::Here;
 use crate::object::{
@@ -235,6 +235,17 @@ fn named_region(parts: &[Term]) -> Named
     Some((name.at, Object::Region(region)))
 }
 
+/// A mutex, by its flags.
+#[tactic(auto, using(aml_operators::proofs::Views::view_out, aml_operators::proofs::PartsOf::part_count))]
+fn named_mutex(parts: &[Term]) -> Named
+    requires { length parts.now ≡ 2 }
+    ensures { result ≡ named_mutex (views parts.now) }
+{
+    let (name, flags) = two(parts);
+    let sync_level = (number_in(flags) % 16) as u8;
+    Some((name.at, Object::Mutex { sync_level }))
+}
+
 /// A field of a buffer, of a size that its operator tells.
 #[tactic(auto, using(aml_operators::proofs::Views::view_out, aml_operators::proofs::PartsOf::part_count))]
 fn named_buffer_field(here: Here<'_>, size: BufferFieldSize, parts: &[Term]) -> Named
@@ -266,7 +277,7 @@ pub(crate) fn object_of(here: Here<'_>, op: Op, at: usize, parts: &[Term]) -> Na
     match op {
         Op::Name => named_data(here, parts),
         Op::Method => named_method(here, at, parts),
-        Op::Mutex => named(Object::Mutex, parts),
+        Op::Mutex => named_mutex(parts),
         Op::Event => named(Object::Event, parts),
         Op::DataTableRegion => named(Object::DataTableRegion, parts),
         Op::OperationRegion => named_region(parts),

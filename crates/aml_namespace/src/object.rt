@@ -60,7 +60,13 @@ pub enum Object {
     DataTableRegion,
     Field(Field),
     BufferField(BufferField),
-    Mutex,
+    /// A mutex that a table defines (ACPI 6.5, 19.6, Mutex).
+    Mutex {
+        /// Its sync level, 0 to 15.
+        sync_level: u8,
+    },
+    /// `_GL_`, the mutex that every system has and shares with its firmware.
+    GlobalLock,
     Event,
 }
 
@@ -208,5 +214,6 @@ pub enum BufferFieldSize {
     Word,
     DWord,
     QWord,
+    /// So many bits, the integer not yet taken modulo 2 to the width.
     Bits(u64),
 }

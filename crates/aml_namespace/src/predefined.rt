@@ -38,7 +38,7 @@ fn predefined_objects(os_length: u64) -> [(NameSeg, Object); 9]
         named(*b"_REV", Object::Data(revision)),
         named(*b"_OSI", Object::OsInterfaces),
         named(*b"_OS_", Object::Data(os_name)),
-        named(*b"_GL_", Object::Mutex),
+        named(*b"_GL_", Object::GlobalLock),
     ]
 }
 
