@@ -1,3 +1,4 @@
+pub mod EventViews
 mod Lines
 mod Parts
 mod Places

@@ -3,6 +3,7 @@ pub mod BufferFields
 pub mod Bytes
 pub mod Causes
 pub mod Events
+pub mod EventViews
 pub mod Fields
 pub mod Laws
 pub mod Registers

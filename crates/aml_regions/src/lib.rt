@@ -3,21 +3,26 @@
 #![tactic(auto)]
 
 mod access;
+mod all_ones;
 mod bytes;
 mod event;
 mod fault;
 mod field;
 mod law;
+mod log;
+mod refusing;
 mod registers;
 mod text;
 mod world;
 
 pub use access::Access;
+pub use all_ones::AllOnes;
 pub use event::Event;
 pub use fault::RegistersFault;
 pub use field::{
     AnyField, BankedField, FieldLayout, IndexedField, OtherBits, RegionField, UnitWidth,
 };
 pub use law::reads_what_was_written;
+pub use refusing::Refusing;
 pub use registers::RegisterFile;
 pub use world::World;

@@ -1,19 +1,24 @@
 // A world of bytes, which keeps its log.
 
-ghost use Rattle.std.specs.Prelude.{◌≡◌, ◌<◌, ◌^◌, [], OnOk, OnErr, IfOk, IfErr, IsErr};
+ghost use Rattle.std.specs.Prelude.{◌≡◌, ◌<◌, ◌^◌, [], None, OnOk, OnErr, IfOk, IfErr};
+ghost use Rattle.std.specs.Option.{option_map};
 ghost use Rattle.aml_regions.specs.Bytes.{unit_of, with_unit, SameBytes};
-ghost use Rattle.aml_regions.specs.declared.event.Event.{Event};
-ghost use Rattle.aml_regions.specs.declared.event.Event.TheVariants.{Read, Written, Notified, Slept, Stalled};
+ghost use Rattle.aml_kinds.specs.Held.{content_kinds};
+ghost use Rattle.aml_kinds.specs.Held as held;
+ghost use Rattle.aml_regions.specs.Events.{Event, Read, Written, Notified, Slept, Stalled};
+ghost use Rattle.aml_regions.specs.EventViews.{event_of, events_of};
 ghost use Rattle.aml_regions.specs.Registers.{contents};
 ghost use Rattle.aml_regions.specs.Text.{FailsToSet, LineFails, LineSets, TextSets, WordsFail, WordsSet, words_of};
-ghost use Rattle.aml_regions.specs.Worlds.{IsUnit, MakesEvent, CountsRefusal};
+ghost use Rattle.aml_regions.specs.Worlds.{IsUnit, MakesEvent, MakesSleep, CountsRefusal};
 
 use crate::access::Access;
 use crate::bytes::{byte, make_room, put_run, put_unit, unit};
 use crate::event::Event;
 use crate::fault::RegistersFault;
+use crate::log::{make, refuse};
 use crate::text::{read_address, space_named, split_once, three_words};
 use crate::world::World;
+use aml_kinds::Names;
 use aml_namespace::{NoMemory, ObjectId};
 use hex::FromHexError;
 use std::alloc::Global;
@@ -132,32 +137,29 @@ impl RegisterFile {
         }
     }
 
-    // Makes an event, or counts a refusal.
-    fn make(&mut self, event: Event) -> Result<(), NoMemory>
-        ensures event { MakesEvent result (λ _. event) self.old.events.items self.new.events.items }
+    /// Tells of a Sleep behind which data names hold what these names hold; or as they did before.
+    pub fn note_sleep(&mut self, milliseconds: u64, left: Option<Names>) -> Result<(), NoMemory>
+        ensures event { MakesEvent result (λ _. Slept milliseconds (option_map held.contents left))
+            (events_of self.old.events.items) (events_of self.new.events.items) }
         ensures refusal { CountsRefusal result self.old.refusals self.new.refusals }
         ensures kept { self.new.bytes ≡ self.old.bytes }
     {
-        match self.events.push(event) {
-            Ok(()) => Ok(()),
-            Err(_) => self.refuse(),
-        }
+        self.make(Event::Slept(milliseconds, left))
     }
 
-    // Counts a refusal.
-    fn refuse(&mut self) -> Result<(), NoMemory>
-        ensures refused { IsErr result }
-        ensures log { self.new.events ≡ self.old.events }
+    // Makes an event, or counts a refusal.
+    fn make(&mut self, event: Event) -> Result<(), NoMemory>
+        ensures event { MakesEvent result (λ _. event_of event)
+            (events_of self.old.events.items) (events_of self.new.events.items) }
         ensures refusal { CountsRefusal result self.old.refusals self.new.refusals }
         ensures kept { self.new.bytes ≡ self.old.bytes }
     {
-        self.refusals = self.refusals.saturating_add(1);
-        Err(NoMemory)
+        make(&mut self.events, &mut self.refusals, event)
     }
 }
 
 impl World for RegisterFile {
-    ghost log = { λ file. file.events.items };
+    ghost log = { λ file. events_of file.events.items };
 
     ghost refusals = { λ file. file.refusals };
 
@@ -165,7 +167,7 @@ impl World for RegisterFile {
         requires { IsUnit access }
         ensures fits { IfOk result (λ value. value < 2 ^ access.width) }
         ensures event { MakesEvent result (Read access)
-            self.old.events.items self.new.events.items }
+            (events_of self.old.events.items) (events_of self.new.events.items) }
         ensures refusal { CountsRefusal result self.old.refusals self.new.refusals }
         ensures value { IfOk result (λ value. value ≡ unit_of (contents self.old) access) }
         ensures kept { SameBytes (contents self.old) (contents self.new) }
@@ -179,14 +181,14 @@ impl World for RegisterFile {
         requires unit { IsUnit access }
         requires fits { value < 2 ^ access.width }
         ensures event { MakesEvent result (λ _. Written access value)
-            self.old.events.items self.new.events.items }
+            (events_of self.old.events.items) (events_of self.new.events.items) }
         ensures refusal { CountsRefusal result self.old.refusals self.new.refusals }
         ensures put { OnOk result
             (SameBytes (with_unit (contents self.old) access value) (contents self.new)) }
         ensures kept { OnErr result (SameBytes (contents self.old) (contents self.new)) }
     {
         let Ok(()) = make_room(&mut self.bytes, access) else {
-            return self.refuse();
+            return Err(refuse(&mut self.refusals));
         };
         self.make(Event::Written(access, value))?;
         put_unit(&mut self.bytes, access, value)
@@ -194,25 +196,30 @@ impl World for RegisterFile {
 
     fn notify(&mut self, object: ObjectId, value: u64) -> Result<(), NoMemory>
         ensures event { MakesEvent result (λ _. Notified object value)
-            self.old.events.items self.new.events.items }
+            (events_of self.old.events.items) (events_of self.new.events.items) }
         ensures refusal { CountsRefusal result self.old.refusals self.new.refusals }
         ensures kept { SameBytes (contents self.old) (contents self.new) }
     {
         self.make(Event::Notified(object, value))
     }
 
-    fn sleep(&mut self, milliseconds: u64) -> Result<(), NoMemory>
-        ensures event { MakesEvent result (λ _. Slept milliseconds)
-            self.old.events.items self.new.events.items }
+    fn sleep(&mut self, milliseconds: u64, names: &mut Names) -> Result<(), NoMemory>
+        ensures event { MakesSleep result milliseconds (held.contents names.old)
+            (held.contents names.new)
+            (events_of self.old.events.items) (events_of self.new.events.items) }
+        ensures kinds { content_kinds names.new ≡ content_kinds names.old }
         ensures refusal { CountsRefusal result self.old.refusals self.new.refusals }
+        ensures untouched { MakesEvent result (λ _. Slept milliseconds None)
+            (events_of self.old.events.items) (events_of self.new.events.items) }
         ensures kept { SameBytes (contents self.old) (contents self.new) }
     {
-        self.make(Event::Slept(milliseconds))
+        let _ = names;
+        self.note_sleep(milliseconds, None)
     }
 
     fn stall(&mut self, microseconds: u64) -> Result<(), NoMemory>
         ensures event { MakesEvent result (λ _. Stalled microseconds)
-            self.old.events.items self.new.events.items }
+            (events_of self.old.events.items) (events_of self.new.events.items) }
         ensures refusal { CountsRefusal result self.old.refusals self.new.refusals }
         ensures kept { SameBytes (contents self.old) (contents self.new) }
     {

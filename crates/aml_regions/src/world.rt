@@ -1,11 +1,12 @@
 // Who answers an evaluation's accesses.
 
-ghost use Rattle.std.specs.Prelude.{◌<◌, ◌^◌, ℕ, List, IfOk};
-ghost use Rattle.aml_regions.specs.declared.event.Event.{Event};
-ghost use Rattle.aml_regions.specs.declared.event.Event.TheVariants.{Read, Written, Notified, Slept, Stalled};
-ghost use Rattle.aml_regions.specs.Worlds.{IsUnit, MakesEvent, CountsRefusal};
+ghost use Rattle.std.specs.Prelude.{◌≡◌, ◌<◌, ◌^◌, ℕ, List, IfOk};
+ghost use Rattle.aml_kinds.specs.Held.{contents, content_kinds};
+ghost use Rattle.aml_regions.specs.Events.{Event, Read, Written, Notified, Stalled};
+ghost use Rattle.aml_regions.specs.Worlds.{IsUnit, MakesEvent, MakesSleep, CountsRefusal};
 
 use crate::access::Access;
+use aml_kinds::Names;
 use aml_namespace::{NoMemory, ObjectId};
 
 /// Who answers the accesses of operation regions, and keeps what happens. Each call adds its one
@@ -37,9 +38,12 @@ pub trait World {
             (log self.old) (log self.new) }
         ensures refusal { CountsRefusal result (refusals self.old) (refusals self.new) };
 
-    /// Tells of a Sleep.
-    fn sleep(&mut self, milliseconds: u64) -> Result<(), NoMemory>
-        ensures event { MakesEvent result (λ _. Slept milliseconds) (log self.old) (log self.new) }
+    /// Tells of a Sleep. Others run meanwhile, and may put other contents into the data names, each of
+    /// its name's kind.
+    fn sleep(&mut self, milliseconds: u64, names: &mut Names) -> Result<(), NoMemory>
+        ensures event { MakesSleep result milliseconds (contents names.old) (contents names.new)
+            (log self.old) (log self.new) }
+        ensures kinds { content_kinds names.new ≡ content_kinds names.old }
         ensures refusal { CountsRefusal result (refusals self.old) (refusals self.new) };
 
     /// Tells of a Stall.
