@@ -1,41 +1,13 @@
 -- Runs of single events.
-use Rattle.std.proofs.Common.{◌≡◌, ℕ, zero, suc, ◌<◌, ◌≤◌, ◌^◌, List, [], ◌∷◌, ◌++◌, Some, Ok, Err, refl, ap, ◌∙◌, arith, length, true}
-use Rattle.std.specs.Prelude.{slice_get}
+use Rattle.std.proofs.Common.{◌≡◌, ℕ, suc, ◌<◌, ◌≤◌, ◌^◌, List, [], ◌∷◌, ◌++◌, Some, Ok, Err, refl, ap, ◌∙◌, arith, true}
 use Rattle.std.proofs.lemmas.Bool.Decides.{nat_tests}
 use Rattle.aml_regions.specs.declared.access.Access.{Access}
-use Rattle.aml_regions.specs.declared.event.Event.{Event}
-use Rattle.aml_regions.specs.declared.event.Event.TheVariants.{Read, Written}
-use Rattle.aml_regions.specs.Events.{AreWords, same_access}
+use Rattle.aml_regions.specs.Events.{Event, Read, Written, same_access}
 use Rattle.aml_meaning.specs.State.{State, Frame, Names, with_steps, Goes}
 use Rattle.aml_meaning.specs.Parts.{M, answer, make_event, read_unit, with_event}
 use Rattle.aml_meaning.specs.Runs.{NoMemory, OutOfSteps, IsPrefix, state, Runs}
 use Rattle.aml_meaning.proofs.Runs.{runs_paid, runs_unpaid, runs_no_memory_at}
-
-at_the_end : (log : List Event) (e : Event) (rest : List Event) → slice_get ((log ++ e ∷ []) ++ rest) (length log) ≡ Some e
-at_the_end [] e rest = refl
-at_the_end (x ∷ log) e rest = at_the_end log e rest
-
--- the answer stands in the script just behind what was before
-script_at : (log : List Event) (e : Event) (script : List Event) → IsPrefix (log ++ e ∷ []) script → slice_get script (length log) ≡ Some e
-script_at log e script pre = ap (λ events. slice_get events (length log)) pre.is ∙ at_the_end log e pre.growth
-
--- what is found in a log with one more event was there, or is that event
-one_more : (P : Type 0) (log : List Event) (e f : Event) (i : ℕ) → (slice_get log i ≡ Some f → P) → (e ≡ f → P) → slice_get (log ++ e ∷ []) i ≡ Some f → P
-one_more P [] e f zero old new is = new (cc)
-one_more P [] e f (suc i) old new is = absurd (cc)
-one_more P (x ∷ log) e f zero old new is = old is
-one_more P (x ∷ log) e f (suc i) old new is = one_more P log e f i old new is
-
-words_more : (log : List Event) (access : Access) (value : ℕ) → value < 2 ^ access.width → AreWords log → AreWords (log ++ Read access value ∷ [])
-words_more log access value lt words = record {
-  each = λ i other v is. one_more (v < 2 ^ other.width) log (Read access value) (Read other v) i (words.each i other v)
-      (λ e. let a : access ≡ other = cc in let n : value ≡ v = cc in rw (← n, ← a) lt) is;
-}
-
-words_written : (log : List Event) (access : Access) (value : ℕ) → AreWords log → AreWords (log ++ Written access value ∷ [])
-words_written log access value words = record {
-  each = λ i other v is. one_more (v < 2 ^ other.width) log (Written access value) (Read other v) i (words.each i other v) (λ e. absurd (cc)) is;
-}
+use Rattle.aml_meaning.proofs.Told.{runs_event, runs_no_event, script_at, words_more}
 
 same : (access : Access) → same_access access access ≡ true
 same access = grind (arith, nat_tests)
@@ -46,21 +18,18 @@ answered access value s = rw (same access) refl
 module _ (frame : Frame) (names : Names) (access : Access) (value : ℕ) where
   pub runs_read : (steps left : ℕ) (log log1 : List Event) → steps ≡ suc left → value < 2 ^ access.width → log1 ≡ log ++ Read access value ∷ [] → Runs (Ok value) (read_unit access) (state frame names steps log) (state frame names left log1)
   unfolding read_unit
-  runs_read steps left log log1 e lt is = rw is (runs_paid _ frame frame names names value steps left log _ e (record { growth = _; is = refl }) (words_more log access value lt)
+  runs_read steps left log log1 e lt is = rw is (runs_paid _ frame frame names names value steps left log _ e (record { growth = _; is = refl }) (words_more names.kinds log (Read access value) lt)
       (λ script k pre. ap (λ event. answer access event (state frame names k log)) (script_at log (Read access value) script pre) ∙ answered access value (state frame names k log)))
 
   pub runs_write : (steps left : ℕ) (log log1 : List Event) → steps ≡ suc left → log1 ≡ log ++ Written access value ∷ [] → Runs (Ok tt) (make_event (Written access value)) (state frame names steps log) (state frame names left log1)
-  unfolding make_event
-  runs_write steps left log log1 e is = rw is (runs_paid _ frame frame names names tt steps left log _ e (record { growth = _; is = refl }) (words_written log access value)
-      (λ script k pre. refl))
+  runs_write steps left log log1 e is = runs_event frame names (Written access value) steps left log log1 (λ kinds. tt) e is
 
   pub runs_no_read : (steps left : ℕ) (log : List Event) → steps ≡ 0 → left ≡ 0 → Runs (Err OutOfSteps) (read_unit access) (state frame names steps log) (state frame names left log)
   unfolding read_unit
   runs_no_read steps left log e f = runs_unpaid _ frame names steps left log e f
 
   pub runs_no_write : (steps left : ℕ) (log : List Event) → steps ≡ 0 → left ≡ 0 → Runs (Err OutOfSteps) (make_event (Written access value)) (state frame names steps log) (state frame names left log)
-  unfolding make_event
-  runs_no_write steps left log e f = runs_unpaid _ frame names steps left log e f
+  runs_no_write steps left log e f = runs_no_event frame names (Written access value) steps left log e f
 
 -- want of memory, with fewer steps counted as left
 pub runs_refused : {V : Type 0} (m : M V) (frame : Frame) (names : Names) (steps left : ℕ) (log log1 : List Event) → log1 ≡ log → left ≤ steps → Runs {V = V} (Err NoMemory) m (state frame names steps log) (state frame names left log1)

@@ -1,6 +1,6 @@
 -- Laws of single events.
 use Rattle.std.specs.Prelude.{◌≡◌, ℕ, suc, List}
-use Rattle.aml_regions.specs.declared.event.Event.{Event}
+use Rattle.aml_regions.specs.Events.{Event}
 use Rattle.aml_meaning.specs.State.{State, with_steps, Goes, Spent}
 use Rattle.aml_meaning.specs.Parts.{make_event, with_event}
 

@@ -1,12 +1,12 @@
 // The fields of buffers of a namespace (ACPI 6.5, 19.6, CreateField and its kin).
 
-ghost use Rattle.std.specs.Prelude.{◌≡◌, ◌<◌, ◌≤◌, ◌+◌, ◌*◌, ◌^◌, length, IfOk, IfSome, IsTrue};
+ghost use Rattle.std.specs.Prelude.{◌≡◌, ◌<◌, ◌≤◌, ◌+◌, ◌*◌, ◌^◌, length, IfOk, IfSome, IsOk, IsTrue};
 ghost use Rattle.aml_kinds.specs.Views.{view};
 ghost use Rattle.aml_namespace.specs.Shows.{shown};
 ghost use Rattle.aml_namespace.specs.Widths.{bits_of};
 ghost use Rattle.aml_regions.specs.BufferFields.{in_bytes};
 ghost use Rattle.aml_regions.specs.Fields.{mixed};
-ghost use Rattle.aml_meaning.specs.BufferFields.{IsLaidOut, bit_in_byte, buffer_field_numbered, byte_at, first_bit, is_laid_out, made_part, part_of, part_value, size_bits, source_link, usable_part};
+ghost use Rattle.aml_meaning.specs.BufferFields.{IsLaidOut, bit_in_byte, buffer_field_numbered, byte_at, first_bit, is_laid_out, made_part, part_of, part_value, source_link, usable_part};
 
 use crate::buffer::{read_buffer_field, read_wide_buffer_field};
 use crate::kernel::byte_replaced;
@@ -18,20 +18,6 @@ use aml_namespace::{
     BufferField, BufferFieldSize, Link, Namespace, NoMemory, Object, ObjectId, Width,
 };
 use std::alloc::Global;
-
-// How many bits a field has.
-fn size_bits(width: Width, size: BufferFieldSize) -> u64
-    ensures { result ≡ size_bits (bits_of width) size }
-{
-    match size {
-        BufferFieldSize::Bit => 1,
-        BufferFieldSize::Byte => 8,
-        BufferFieldSize::Word => 16,
-        BufferFieldSize::DWord => 32,
-        BufferFieldSize::QWord => 64,
-        BufferFieldSize::Bits(count) => wrapped(width, count),
-    }
-}
 
 // The byte at an index, which counts bits of a bit field and of one of so many bits, and else bytes.
 fn byte_at(size: BufferFieldSize, index: u64) -> u64
@@ -64,7 +50,7 @@ pub fn made_part(width: Width, source: Link, size: BufferFieldSize, index: u64) 
         source,
         byte: byte_at(size, index),
         bit: bit_in_byte(size, index),
-        bits: size_bits(width, size),
+        bits: size.bits(width),
     }
 }
 
@@ -128,7 +114,8 @@ pub fn part_value(
 ) -> Result<Value, NoMemory>
     requires most { part.bits ≤ 2048 }
     requires inside { first_bit part + part.bits ≤ 8 * length bytes.now }
-    ensures { IfOk result (λ v. view v ≡ part_value (bits_of width) part bytes.now) }
+    ensures value { IfOk result (λ v. view v ≡ part_value (bits_of width) part bytes.now) }
+    ensures narrow { part.bits ≤ bits_of width → IsOk result }
 {
     let behind = &bytes[part.byte as usize..];
     let at = u64::from(part.bit);

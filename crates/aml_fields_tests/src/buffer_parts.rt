@@ -1,11 +1,10 @@
 // The fields of buffers of a table, by tables written by hand from the grammar (ACPI 6.5, 19.6 and 20.2.5.2),
-// and values of fields, worked out bit by bit.
+// and stored bytes, worked out bit by bit. Values are told by the rows of crates/acpicheck/rows.
 
 use acpi_samples::{HOST, table_of};
-use aml_fields::{made_part, part_numbered, part_value, stored_byte, usable_part};
-use aml_kinds::Value;
+use aml_fields::{made_part, part_numbered, stored_byte, usable_part};
 use aml_meaning::BufferPart;
-use aml_namespace::{BufferFieldSize, Link, LoadFault, Namespace, NoMemory, Width};
+use aml_namespace::{BufferFieldSize, Link, LoadFault, Namespace, Width};
 use std::alloc::{AllocError, Global};
 use std::test::Fail;
 
@@ -185,67 +184,6 @@ fn parts_of_1_to_2048_bits_can_be_used(rt: HostRuntime) -> Result<(), Fail> {
 
 /// The bytes in which the fields lie.
 const BYTES: [u8; 10] = [0xa5, 0x5a, 0xff, 0x00, 0x12, 0x34, 0x56, 0x78, 0x9a, 0xbc];
-
-/// A field's first bit, its number of bits, how wide integers are, and its value: an integer, or bytes
-/// behind a `b`.
-const VALUES: [(u64, u64, Width, &str); 11] = [
-    (0, 1, Width::Bits32, "1"),
-    (1, 1, Width::Bits32, "0"),
-    (4, 8, Width::Bits32, "aa"),
-    (7, 18, Width::Bits32, "1feb5"),
-    (0, 32, Width::Bits32, "ff5aa5"),
-    (0, 33, Width::Bits32, "b a5 5a ff 0 0"),
-    (0, 33, Width::Bits64, "ff5aa5"),
-    (4, 36, Width::Bits32, "b aa f5 f 20 1"),
-    (8, 64, Width::Bits64, "9a7856341200ff5a"),
-    (4, 65, Width::Bits64, "b aa f5 f 20 41 63 85 a7 1"),
-    (0, 80, Width::Bits64, "b a5 5a ff 0 12 34 56 78 9a bc"),
-];
-
-/// A value as a row has it.
-fn value_text(alloc: Global, value: Value) -> Result<String, AllocError> {
-    match value {
-        Value::Int(number) => format!(in alloc; "{number:x}"),
-        Value::Buf(bytes) => {
-            let mut text = String::from_str(alloc, "b")?;
-            for byte in bytes.as_slice() {
-                text.push_str(format!(in alloc; " {byte:x}")?.as_str())?;
-            }
-            Ok(text)
-        }
-        _ => String::from_str(alloc, "neither"),
-    }
-}
-
-/// The value of a field of the bytes, as a row has it.
-fn value_of(alloc: Global, at: u64, bits: u64, width: Width) -> Result<String, NoMemory> {
-    let part = BufferPart {
-        source: Link::Missing,
-        byte: at / 8,
-        bit: (at % 8) as u8,
-        bits,
-    };
-    if bits > 80 || at > 80 - bits {
-        return Err(NoMemory);
-    }
-    let value = part_value(alloc, width, part, &BYTES)?;
-    match value_text(alloc, value) {
-        Ok(text) => Ok(text),
-        Err(AllocError) => Err(NoMemory),
-    }
-}
-
-#[test]
-fn rows_of_part_values(rt: HostRuntime) -> Result<(), Fail> {
-    for (at, bits, width, wanted) in VALUES {
-        let text = match value_of(rt.alloc(), at, bits, width) {
-            Err(NoMemory) => value_of(rt.alloc(), at, bits, width)?,
-            text => text?,
-        };
-        assert_eq!(rt; text.as_str(), wanted);
-    }
-    Ok(())
-}
 
 /// The byte and the bit at which a field of the bytes begins, its number of bits, what is stored, and the
 /// bytes behind that.

@@ -2,13 +2,15 @@
 // `bench/fields.py sums` works out bit by bit.
 
 ghost use Rattle.std.specs.Prelude.{◌<◌, ◌^◌};
-ghost use Rattle.aml_regions.specs.Worlds.{IsUnit};
+ghost use Rattle.aml_regions.specs.EventViews.{event_of, events_of};
+ghost use Rattle.aml_regions.specs.Worlds.{CountsRefusal, IsUnit, MakesEvent};
 
 use OtherBits::{Ones, Preserve, Zeros};
 use UnitWidth::{Byte, DWord, QWord, Word};
 use aml_fields::{
     BitBytes, read_count, read_integer_field, read_wide_field, sound, write_count, write_field,
 };
+use aml_kinds::Names;
 use aml_namespace::{NoMemory, ObjectId};
 use aml_regions::{Access, AnyField, Event, FieldLayout, OtherBits, RegionField, UnitWidth, World};
 use std::alloc::Global;
@@ -41,26 +43,35 @@ fn answer(access: Access) -> u64
     }
 }
 
+impl Spread {
+    /// Makes an event, or counts a refusal.
+    #[tactic(auto, using(aml_regions::proofs::EventViews::one_more))]
+    fn make(&mut self, event: Event) -> Result<(), NoMemory>
+        ensures event { MakesEvent result (λ _. event_of event)
+            (events_of self.old.events.items) (events_of self.new.events.items) }
+        ensures refusal { CountsRefusal result self.old.refused self.new.refused }
+    {
+        if let Ok(()) = self.events.push(event) {
+            return Ok(());
+        }
+        self.refused = self.refused.saturating_add(1);
+        Err(NoMemory)
+    }
+}
+
 impl World for Spread {
-    ghost log = { λ it. it.events.items };
+    ghost log = { λ it. events_of it.events.items };
 
     ghost refusals = { λ it. it.refused };
 
     fn read(&mut self, access: Access) -> Result<u64, NoMemory> {
         let value = answer(access);
-        if let Ok(()) = self.events.push(Event::Read(access, value)) {
-            return Ok(value);
-        }
-        self.refused = self.refused.saturating_add(1);
-        Err(NoMemory)
+        self.make(Event::Read(access, value))?;
+        Ok(value)
     }
 
     fn write(&mut self, access: Access, value: u64) -> Result<(), NoMemory> {
-        if let Ok(()) = self.events.push(Event::Written(access, value)) {
-            return Ok(());
-        }
-        self.refused = self.refused.saturating_add(1);
-        Err(NoMemory)
+        self.make(Event::Written(access, value))
     }
 
     fn notify(&mut self, _object: ObjectId, _value: u64) -> Result<(), NoMemory> {
@@ -68,7 +79,7 @@ impl World for Spread {
         Err(NoMemory)
     }
 
-    fn sleep(&mut self, _milliseconds: u64) -> Result<(), NoMemory> {
+    fn sleep(&mut self, _milliseconds: u64, _names: &mut Names) -> Result<(), NoMemory> {
         self.refused = self.refused.saturating_add(1);
         Err(NoMemory)
     }
@@ -85,10 +96,10 @@ fn mixed(sum: u64, part: u64) -> u64 {
 }
 
 /// An event's kind, address, width and value, put into a sum.
-fn event_sum(sum: u64, event: Event) -> u64 {
+fn event_sum(sum: u64, event: &Event) -> u64 {
     let (kind, access, value) = match event {
-        Event::Read(access, value) => (1, access, value),
-        Event::Written(access, value) => (2, access, value),
+        Event::Read(access, value) => (1, *access, *value),
+        Event::Written(access, value) => (2, *access, *value),
         _ => return mixed(sum, 3),
     };
     let sum = mixed(mixed(sum, kind), access.address);
@@ -98,7 +109,7 @@ fn event_sum(sum: u64, event: Event) -> u64 {
 fn events_sum(events: &[Event]) -> u64 {
     let mut sum = 0;
     for event in events.iter() {
-        sum = event_sum(sum, *event);
+        sum = event_sum(sum, event);
     }
     sum
 }

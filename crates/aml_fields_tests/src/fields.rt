@@ -3,11 +3,10 @@
 use OtherBits::{Ones, Preserve, Zeros};
 use UnitWidth::{Byte, DWord, QWord, Word};
 use aml_fields::{
-    BitBytes, read_buffer_field, read_count, read_field, read_integer_field, read_wide_field,
-    sound, write_buffer_field, write_count, write_field,
+    BitBytes, read_buffer_field, read_count, read_integer_field, read_wide_field, sound,
+    write_buffer_field, write_count, write_field,
 };
-use aml_kinds::Value;
-use aml_namespace::{NoMemory, Width};
+use aml_namespace::NoMemory;
 use aml_regions::{
     AnyField, Event, FieldLayout, OtherBits, RegionField, RegisterFile, RegistersFault, UnitWidth,
 };
@@ -99,10 +98,10 @@ fn read(alloc: Global, file: &mut RegisterFile, layout: FieldLayout) -> Result<u
 }
 
 /// An event's letter, address and value.
-fn parts_of(event: Event) -> (char, u64, u64) {
+fn parts_of(event: &Event) -> (char, u64, u64) {
     match event {
-        Event::Read(access, value) => ('r', access.address, value),
-        Event::Written(access, value) => ('w', access.address, value),
+        Event::Read(access, value) => ('r', access.address, *value),
+        Event::Written(access, value) => ('w', access.address, *value),
         _ => ('?', 0, 0),
     }
 }
@@ -113,7 +112,7 @@ fn events_text(alloc: Global, events: &[Event]) -> Result<String, Fail> {
     let mut sum = 0u64;
     let mut place = 1u64;
     for event in events.iter() {
-        let (letter, address, value) = parts_of(*event);
+        let (letter, address, value) = parts_of(event);
         text.push_str(format!(in alloc; "{letter}{address:x}={value:x} ")?.as_str())?;
         sum = sum.wrapping_add(place.wrapping_mul(value));
         place = place.wrapping_add(1);
@@ -309,69 +308,5 @@ fn buffers_have_fields(rt: HostRuntime) -> Result<(), Fail> {
     assert_eq!(rt; read_buffer_field(&buffer, 7, 18), 0x1feb5);
     write_buffer_field(&mut buffer, 6, 12, &0x10f3u64);
     assert_eq!(rt; buffer, [0xe5u8, 0x3c, 0xfc, 0x00]);
-    Ok(())
-}
-
-/// A field's number of bits, how wide integers are, and its value at the first bit: an integer, or bytes
-/// behind a `b`. Worked out by hand from the first registers.
-const VALUES: [(u64, Width, &str); 8] = [
-    (1, Width::Bits32, "1"),
-    (32, Width::Bits32, "f8af661d"),
-    (33, Width::Bits32, "b 1d 66 af f8 1"),
-    (33, Width::Bits64, "1f8af661d"),
-    (64, Width::Bits32, "b 1d 66 af f8 41 8a d3 1c"),
-    (64, Width::Bits64, "1cd38a41f8af661d"),
-    (65, Width::Bits64, "b 1d 66 af f8 41 8a d3 1c 1"),
-    (72, Width::Bits64, "b 1d 66 af f8 41 8a d3 1c 65"),
-];
-
-/// A value as a row has it.
-fn value_text(alloc: Global, value: Option<Value>) -> Result<String, AllocError> {
-    match value {
-        Some(Value::Int(number)) => format!(in alloc; "{number:x}"),
-        Some(Value::Buf(bytes)) => {
-            let mut text = String::from_str(alloc, "b")?;
-            for byte in bytes.as_slice() {
-                text.push_str(format!(in alloc; " {byte:x}")?.as_str())?;
-            }
-            Ok(text)
-        }
-        _ => String::from_str(alloc, "none"),
-    }
-}
-
-/// The value of a field of so many bits.
-fn value_of(alloc: Global, bits: u64, width: Width) -> Result<Option<Value>, NoMemory> {
-    let mut file = registers(alloc)?;
-    let asked = field(FieldLayout {
-        at: 0,
-        bits,
-        width: UnitWidth::Byte,
-        others: OtherBits::Preserve,
-    });
-    if !sound(&asked) {
-        return Ok(None);
-    }
-    read_field(alloc, &mut file, &asked, width, 1000)
-}
-
-/// What is told of it.
-fn value_told(alloc: Global, bits: u64, width: Width) -> Result<String, NoMemory> {
-    let value = value_of(alloc, bits, width)?;
-    match value_text(alloc, value) {
-        Ok(text) => Ok(text),
-        Err(_) => Err(NoMemory),
-    }
-}
-
-#[test]
-fn rows_of_field_values(rt: HostRuntime) -> Result<(), Fail> {
-    for (bits, width, wanted) in VALUES {
-        let text = match value_told(rt.alloc(), bits, width) {
-            Ok(text) => text,
-            Err(NoMemory) => value_told(rt.alloc(), bits, width)?,
-        };
-        assert_eq!(rt; text.as_str(), wanted);
-    }
     Ok(())
 }

@@ -8,8 +8,6 @@ mod field_sums;
 #[cfg(test)]
 mod fields;
 #[cfg(test)]
-mod reached_fields;
-#[cfg(test)]
 mod refusals;
 #[cfg(test)]
 mod regions;

@@ -4,64 +4,13 @@
 
 use UnitWidth::{Byte, Word};
 use aml_fields::{read_count, read_integer_field, sound, write_count, write_field};
-use aml_namespace::{NoMemory, ObjectId};
+use aml_namespace::NoMemory;
 use aml_regions::{
-    Access, AnyField, BankedField, Event, FieldLayout, IndexedField, OtherBits, RegionField,
+    AnyField, BankedField, Event, FieldLayout, IndexedField, OtherBits, Refusing, RegionField,
     RegisterFile, RegistersFault, UnitWidth, World,
 };
 use std::alloc::Global;
 use std::test::Fail;
-
-/// A world that answers so many calls and refuses all others.
-#[derive(Drop)]
-struct Refusing<W: World + Drop> {
-    world: W,
-    answered: u64,
-    refused: u64,
-}
-
-impl<W: World + Drop> World for Refusing<W> {
-    ghost log = { λ it. W.log it.world };
-
-    ghost refusals = { λ it. it.refused };
-
-    fn read(&mut self, access: Access) -> Result<u64, NoMemory> {
-        if self.answered > 0 {
-            self.answered -= 1;
-            if let Ok(value) = self.world.read(access) {
-                return Ok(value);
-            }
-        }
-        self.refused = self.refused.saturating_add(1);
-        Err(NoMemory)
-    }
-
-    fn write(&mut self, access: Access, value: u64) -> Result<(), NoMemory> {
-        if self.answered > 0 {
-            self.answered -= 1;
-            if let Ok(()) = self.world.write(access, value) {
-                return Ok(());
-            }
-        }
-        self.refused = self.refused.saturating_add(1);
-        Err(NoMemory)
-    }
-
-    fn notify(&mut self, _object: ObjectId, _value: u64) -> Result<(), NoMemory> {
-        self.refused = self.refused.saturating_add(1);
-        Err(NoMemory)
-    }
-
-    fn sleep(&mut self, _milliseconds: u64) -> Result<(), NoMemory> {
-        self.refused = self.refused.saturating_add(1);
-        Err(NoMemory)
-    }
-
-    fn stall(&mut self, _microseconds: u64) -> Result<(), NoMemory> {
-        self.refused = self.refused.saturating_add(1);
-        Err(NoMemory)
-    }
-}
 
 /// What the registers hold before each row.
 const REGISTERS: &str = "io 70 005a\nio 80 11223344";
@@ -284,10 +233,10 @@ fn registers(alloc: Global) -> Result<RegisterFile, NoMemory> {
 }
 
 /// An event's letter, address and value.
-fn parts_of(event: Event) -> (char, u64, u64) {
+fn parts_of(event: &Event) -> (char, u64, u64) {
     match event {
-        Event::Read(access, value) => ('r', access.address, value),
-        Event::Written(access, value) => ('w', access.address, value),
+        Event::Read(access, value) => ('r', access.address, *value),
+        Event::Written(access, value) => ('w', access.address, *value),
         _ => ('?', 0, 0),
     }
 }
@@ -296,7 +245,7 @@ fn parts_of(event: Event) -> (char, u64, u64) {
 fn events_text(alloc: Global, events: &[Event]) -> Result<String, Fail> {
     let mut text = String::new(alloc);
     for event in events.iter() {
-        let (letter, address, value) = parts_of(*event);
+        let (letter, address, value) = parts_of(event);
         text.push_str(format!(in alloc; "{letter}{address:x}={value:x} ")?.as_str())?;
     }
     Ok(text)
@@ -368,23 +317,23 @@ fn is_refused_behind(
     answered: u64,
     all: &[Event],
 ) -> Result<bool, Fail> {
-    let mut world = Refusing {
-        world: registers(alloc)?,
-        answered,
-        refused: 0,
-    };
+    let mut world = Refusing::new(registers(alloc)?, answered);
     let found = asked(&mut world, field, value, 1000);
-    let made = world.world.events();
+    let made = world.inner().events();
+    let told = events_text(alloc, made)?;
     let first = match all.get(..made.len()) {
-        Some(first) => first == made,
+        Some(first) => events_text(alloc, first)? == told,
         None => false,
     };
     if answered < all.len() as u64 {
         return Ok(
-            first && found == Err(NoMemory) && world.refused == 1 && made.len() as u64 == answered,
+            first
+                && found == Err(NoMemory)
+                && world.refusals() == 1
+                && made.len() as u64 == answered,
         );
     }
-    Ok(first && found.is_ok() && world.refused == 0 && made.len() == all.len())
+    Ok(first && found.is_ok() && world.refusals() == 0 && made.len() == all.len())
 }
 
 #[test]

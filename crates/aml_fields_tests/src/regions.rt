@@ -4,8 +4,9 @@
 ghost use Rattle.std.specs.Prelude.{◌<◌, ◌^◌, []};
 ghost use Rattle.aml_regions.specs.Worlds.{IsUnit};
 
+use aml_kinds::Names;
 use aml_namespace::{NoMemory, ObjectId};
-use aml_regions::{Access, Event, RegisterFile, RegistersFault, World};
+use aml_regions::{Access, AllOnes, Event, RegisterFile, RegistersFault, World};
 use std::alloc::Global;
 use std::test::Fail;
 
@@ -35,7 +36,7 @@ impl World for Refusing {
         Err(NoMemory)
     }
 
-    fn sleep(&mut self, _milliseconds: u64) -> Result<(), NoMemory> {
+    fn sleep(&mut self, _milliseconds: u64, _names: &mut Names) -> Result<(), NoMemory> {
         self.refused = self.refused.saturating_add(1);
         Err(NoMemory)
     }
@@ -44,6 +45,34 @@ impl World for Refusing {
         self.refused = self.refused.saturating_add(1);
         Err(NoMemory)
     }
+}
+
+/// An event, but of a Sleep only whether it left other contents.
+#[derive(Clone, Copy, Debug, PartialEq, Eq)]
+enum Call {
+    Read(Access, u64),
+    Written(Access, u64),
+    Notified(ObjectId, u64),
+    Slept(u64, bool),
+    Stalled(u64),
+}
+
+fn call_of(event: &Event) -> Call {
+    match event {
+        Event::Read(access, value) => Call::Read(*access, *value),
+        Event::Written(access, value) => Call::Written(*access, *value),
+        Event::Notified(object, value) => Call::Notified(*object, *value),
+        Event::Slept(milliseconds, left) => Call::Slept(*milliseconds, left.is_some()),
+        Event::Stalled(microseconds) => Call::Stalled(*microseconds),
+    }
+}
+
+fn calls_of(alloc: Global, events: &[Event]) -> Result<Vec<Call>, Fail> {
+    let mut calls = Vec::new(alloc);
+    for event in events.iter() {
+        calls.push(call_of(event))?;
+    }
+    Ok(calls)
 }
 
 /// A value written to a unit and read back, in any world.
@@ -88,7 +117,10 @@ fn bytes_that_were_never_set_are_zero(rt: HostRuntime) -> Result<(), Fail> {
     let mut file = RegisterFile::new(rt.alloc());
     let found = (file.byte(0, 0), file.read(LAST_WIDE)?, file.refusals());
     assert_eq!(rt; found, (0, 0, 0));
-    assert_eq!(rt; file.events(), &[Event::Read(LAST_WIDE, 0)][..]);
+    assert_eq!(rt;
+        calls_of(rt.alloc(), file.events())?.as_slice(),
+        [Call::Read(LAST_WIDE, 0)].as_slice()
+    );
     Ok(())
 }
 
@@ -109,16 +141,20 @@ fn widths_overlap_lowest_byte_first(rt: HostRuntime) -> Result<(), Fail> {
 fn each_call_makes_its_event(rt: HostRuntime) -> Result<(), Fail> {
     let mut file = RegisterFile::new(rt.alloc());
     file.notify(ObjectId(3), 0x80)?;
-    file.sleep(20)?;
+    let mut names = Names::new(rt.alloc());
+    file.sleep(20, &mut names)?;
     file.stall(50)?;
     file.write(LAST_BYTE, 7)?;
     let log = [
-        Event::Notified(ObjectId(3), 0x80),
-        Event::Slept(20),
-        Event::Stalled(50),
-        Event::Written(LAST_BYTE, 7),
+        Call::Notified(ObjectId(3), 0x80),
+        Call::Slept(20, false),
+        Call::Stalled(50),
+        Call::Written(LAST_BYTE, 7),
     ];
-    assert_eq!(rt; file.events(), &log[..]);
+    assert_eq!(rt;
+        calls_of(rt.alloc(), file.events())?.as_slice(),
+        log.as_slice()
+    );
     Ok(())
 }
 
@@ -126,84 +162,46 @@ fn each_call_makes_its_event(rt: HostRuntime) -> Result<(), Fail> {
 fn refusals_are_counted(rt: HostRuntime) -> Result<(), Fail> {
     let mut world = Refusing { refused: 0 };
     assert_eq!(rt; written_and_read(&mut world, LAST_BYTE, 1), Err(NoMemory));
-    assert_eq!(rt; world.sleep(1), Err(NoMemory));
+    let mut names = Names::new(rt.alloc());
+    assert_eq!(rt; world.sleep(1, &mut names), Err(NoMemory));
     assert_eq!(rt; world.refused, 2);
     Ok(())
 }
 
-/// What a text makes: a byte of a space and address, or the line that is bad.
-#[derive(Clone, Copy, Debug, PartialEq, Eq)]
-enum Read {
-    Byte(u8, u64, u8),
-    Bad(usize),
-}
-
-/// Written by hand from the form of a line.
-const TEXTS: [(&str, Read); 33] = [
-    ("", Read::Byte(0, 0, 0)),
-    ("mem 0 01", Read::Byte(0, 0, 1)),
-    ("io 60 1527", Read::Byte(1, 0x60, 0x15)),
-    ("io 60 1527\n", Read::Byte(1, 0x61, 0x27)),
-    ("io 60 1527", Read::Byte(0, 0x60, 0)),
-    ("pci aB Cd", Read::Byte(2, 0xab, 0xcd)),
-    ("ec 1 02", Read::Byte(3, 1, 2)),
-    ("cmos 1 02", Read::Byte(5, 1, 2)),
-    (
-        "mem ffffffffffffffff 7f",
-        Read::Byte(0, 0xffff_ffff_ffff_ffff, 0x7f),
-    ),
-    (
-        "mem fffffffffffffffe 7f80",
-        Read::Byte(0, 0xffff_ffff_ffff_ffff, 0x80),
-    ),
-    ("mem ffffffffffffffff 7f80", Read::Bad(1)),
-    ("mem 10000000000000000 7f", Read::Bad(1)),
-    ("mem 00000000000000000001 7f", Read::Byte(0, 1, 0x7f)),
-    ("mem 1 0102\nmem 2 03", Read::Byte(0, 2, 3)),
-    ("mem 1 0102\nmem 2 03", Read::Byte(0, 1, 1)),
-    ("mem 2 03\nmem 1 0102", Read::Byte(0, 2, 2)),
-    ("\n# io 0 00 g\n\nmem 1 09", Read::Byte(0, 1, 9)),
-    ("#\nmem 1 09\n\n", Read::Byte(0, 1, 9)),
-    ("mem 1 09\n\nmem 1", Read::Bad(3)),
-    ("mem 1 09\nx\ny", Read::Bad(2)),
-    (" # no comment", Read::Bad(1)),
-    (" ", Read::Bad(1)),
-    ("mem 1 ", Read::Bad(1)),
-    ("mem  1 09", Read::Bad(1)),
-    ("mem 1 09 ", Read::Bad(1)),
-    ("mem 1 09\r\n", Read::Bad(1)),
-    ("mem 1 9", Read::Bad(1)),
-    ("mem 1 0g", Read::Bad(1)),
-    ("mem 0x1 09", Read::Bad(1)),
-    ("mem +1 09", Read::Bad(1)),
-    ("MEM 1 09", Read::Bad(1)),
-    ("smbus 1 09", Read::Bad(1)),
-    ("mem 1 09\tmem 2 09", Read::Bad(1)),
-];
-
-/// What a text makes, as its row asks.
-fn read_of(alloc: Global, text: &str, wanted: Read) -> Result<Read, NoMemory> {
-    match RegisterFile::read_text(alloc, text.as_bytes()) {
-        Ok(file) => match wanted {
-            Read::Byte(space, address, _) => {
-                Ok(Read::Byte(space, address, file.byte(space, address)))
-            }
-            Read::Bad(_) => Ok(Read::Byte(0, 0, 0)),
-        },
-        Err(RegistersFault::BadRegs { line }) => Ok(Read::Bad(line)),
-        Err(RegistersFault::NoMemory) => Err(NoMemory),
-    }
+#[test]
+fn a_noted_sleep_keeps_what_it_left(rt: HostRuntime) -> Result<(), Fail> {
+    let mut file = RegisterFile::new(rt.alloc());
+    file.note_sleep(3, Some(Names::new(rt.alloc())))?;
+    file.note_sleep(4, None)?;
+    let log = [Call::Slept(3, true), Call::Slept(4, false)];
+    assert_eq!(rt;
+        calls_of(rt.alloc(), file.events())?.as_slice(),
+        log.as_slice()
+    );
+    Ok(())
 }
 
 #[test]
-fn rows_of_register_texts(rt: HostRuntime) -> Result<(), Fail> {
-    for (text, wanted) in TEXTS {
-        let read = match read_of(rt.alloc(), text, wanted) {
-            Ok(read) => read,
-            Err(NoMemory) => read_of(rt.alloc(), text, wanted)?,
-        };
-        assert_eq!(rt; read, wanted, "{text}");
-    }
+fn each_bit_is_one(rt: HostRuntime) -> Result<(), Fail> {
+    let mut world = AllOnes::new(rt.alloc());
+    let read = [
+        written_and_read(&mut world, LAST_BYTE, 0)?,
+        written_and_read(&mut world, WITHIN, 7)?,
+        world.read(LAST_WIDE)?,
+    ];
+    assert_eq!(rt; read, [0xff, 0xffff, u64::MAX]);
+    let log = [
+        Call::Written(LAST_BYTE, 0),
+        Call::Read(LAST_BYTE, 0xff),
+        Call::Written(WITHIN, 7),
+        Call::Read(WITHIN, 0xffff),
+        Call::Read(LAST_WIDE, u64::MAX),
+    ];
+    assert_eq!(rt;
+        calls_of(rt.alloc(), world.events())?.as_slice(),
+        log.as_slice()
+    );
+    assert_eq!(rt; world.refusals(), 0);
     Ok(())
 }
 

@@ -2,14 +2,14 @@
 use Rattle.std.proofs.Common.{◌≡◌, ◌<◌, ℕ, zero, suc, List, refl, Option, Some, None, arith}
 use Rattle.aml_operators.specs.Tree.{Node, none, more, joined}
 use Rattle.aml_kinds.specs.Values.{Value}
-use Rattle.aml_regions.specs.declared.event.Event.{Event}
+use Rattle.aml_regions.specs.Events.{Event}
 use Rattle.aml_meaning.specs.State.{State, Frame, Out, Goes, Halts, NoAnswer, Spent, Error, Returned, Broke, Continued, state_of, with_steps}
 use Rattle.aml_meaning.specs.Parts.{M, ◌>>=◌, then_do, give, stop_with, tick, paid, take_step}
 use Rattle.aml_meaning.specs.Calls.{framed, inside, left}
 use Rattle.aml_meaning.specs.Rules.{Place}
 use Rattle.aml_meaning.specs.Actions.{action}
 use Rattle.aml_meaning.specs.Meaning.{act, mean, mean_all}
-use Rattle.aml_meaning.specs.Definitions.{mean_body, statement}
+use Rattle.aml_meaning.specs.Definitions.{mean_body, mean_method, statement}
 use Rattle.aml_meaning.specs.Within.{Callee, call_within, callee_or, setting_for}
 use Rattle.aml_meaning.specs.Laws.{ListsAreInOrder, BodiesAreInOrder, TermsTakeAStep, TermsWantAStep, CallsKeepTheFrame}
 
@@ -70,4 +70,4 @@ pub calls_keep_the_frame : CallsKeepTheFrame
 unfolding call_within stop_with framed
 calls_keep_the_frame methods zero from k values script s = stopped_frame from (methods.callee k) _ script s (λ c. refl)
 calls_keep_the_frame methods (suc d) from k values script s = stopped_frame from (methods.callee k) _ script s
-    (λ c. left_frame c.table s.frame ((mean_body (setting_for methods (call_within methods d) c) c.body).run script (inside values s)))
+    (λ c. left_frame c.table s.frame ((mean_method (setting_for methods (call_within methods d) c) c.body).run script (inside values s)))

@@ -1,5 +1,6 @@
 pub mod Runs
 pub mod Loops
+pub mod Mutexes
 pub mod Called
 pub mod Stable
 pub mod InOrder

@@ -1,33 +1,44 @@
--- Events that need no answer, run.
-use Rattle.std.proofs.Common.{◌≡◌, ℕ, zero, suc, ◌≤◌, List, [], ◌∷◌, ◌++◌, Some, Ok, Err, refl}
-use Rattle.std.specs.Prelude.{slice_get}
-use Rattle.aml_regions.specs.declared.access.Access.{Access}
-use Rattle.aml_regions.specs.declared.event.Event.{Event}
-use Rattle.aml_regions.specs.declared.event.Event.TheVariants.{Read}
-use Rattle.aml_regions.specs.Events.{AreWords}
-use Rattle.aml_meaning.specs.State.{Frame, Names}
-use Rattle.aml_meaning.specs.Parts.{make_event}
-use Rattle.aml_meaning.specs.Runs.{NoMemory, OutOfSteps, Runs, state}
+-- Events, run: those that need no answer, and Sleeps.
+use Rattle.std.proofs.Common.{◌≡◌, ℕ, zero, suc, ◌≤◌, List, [], ◌∷◌, ◌++◌, Option, Some, None, Ok, Err, refl, sym, ap, ◌∙◌, subst, length, ◌⊎◌, inl, inr, Bool, true}
+use Rattle.std.specs.Prelude.{slice_get, cond, ◌==◌}
+use Rattle.std.specs.Cmp.{unsigned_Decides}
+use Rattle.aml_kinds.specs.Contents.{Contents, ContentKinds, are_fitting}
+use Rattle.aml_regions.specs.Events.{Event, Read, Slept, AreWords, IsWord}
+use Rattle.aml_regions.specs.Worlds.{behind_sleep}
+use Rattle.aml_meaning.specs.State.{State, Frame, Names, Goes, NoAnswer}
+use Rattle.aml_meaning.specs.Parts.{make_event, sleep, with_sleep, woken}
+use Rattle.aml_meaning.specs.Runs.{NoMemory, OutOfSteps, IsPrefix, Runs, state}
 use Rattle.aml_meaning.proofs.Runs.{runs_no_memory_at, runs_paid, runs_unpaid}
 
--- an event that is no read
+at_the_end : (log : List Event) (e : Event) (rest : List Event) → slice_get ((log ++ e ∷ []) ++ rest) (length log) ≡ Some e
+at_the_end [] e rest = refl
+at_the_end (x ∷ log) e rest = at_the_end log e rest
+
+-- the answer stands in the script just behind what was before
+pub script_at : (log : List Event) (e : Event) (script : List Event) → IsPrefix (log ++ e ∷ []) script → slice_get script (length log) ≡ Some e
+script_at log e script pre = ap (λ events. slice_get events (length log)) pre.is ∙ at_the_end log e pre.growth
+
+-- what is found in a log with one more event was there, or is that event
+found_more : (log : List Event) (e f : Event) (i : ℕ) → slice_get (log ++ e ∷ []) i ≡ Some f → (slice_get log i ≡ Some f) ⊎ (e ≡ f)
+found_more [] e f zero is = inr cc
+found_more [] e f (suc i) is = absurd cc
+found_more (x ∷ log) e f zero is = inl is
+found_more (x ∷ log) e f (suc i) is = found_more log e f i is
+
+-- with one more answer that fits, each fits
+pub words_more : (kinds : ContentKinds) (log : List Event) (event : Event) → IsWord kinds event → AreWords kinds log → AreWords kinds (log ++ event ∷ [])
+words_more kinds log event word words = record {
+  each = λ i found is. elim (found_more log event found i is) [ inl p ↦ words.each i found p | inr p ↦ subst (IsWord kinds) p word ];
+}
+
+-- whatever the kinds are, an event that needs no answer fits
 abbrev pub IsTold : Event → Type 0
-IsTold event = (access : Access) (value : ℕ) → event ≡ Read access value → ⊥
-
--- a read that is found behind it was there before
-found_before : (log : List Event) (event : Event) (i : ℕ) (access : Access) (value : ℕ) → IsTold event → slice_get (log ++ event ∷ []) i ≡ Some (Read access value) → slice_get log i ≡ Some (Read access value)
-found_before [] event zero access value told is = absurd (told access value cc)
-found_before [] event (suc i) access value told is = absurd cc
-found_before (x ∷ log) event zero access value told is = is
-found_before (x ∷ log) event (suc i) access value told is = found_before log event i access value told is
-
-words_told : (log : List Event) (event : Event) → IsTold event → AreWords log → AreWords (log ++ event ∷ [])
-words_told log event told words = record { each = λ i access value is. words.each i access value (found_before log event i access value told is) }
+IsTold event = (kinds : ContentKinds) → IsWord kinds event
 
 module _ (frame : Frame) (names : Names) (event : Event) where
   pub runs_event : (steps left : ℕ) (log log1 : List Event) → IsTold event → steps ≡ suc left → log1 ≡ log ++ event ∷ [] → Runs (Ok tt) (make_event event) (state frame names steps log) (state frame names left log1)
   unfolding make_event
-  runs_event steps left log log1 told e is = rw is (runs_paid _ frame frame names names tt steps left log _ e (record { growth = _; is = refl }) (words_told log event told) (λ script k pre. refl))
+  runs_event steps left log log1 told e is = rw is (runs_paid _ frame frame names names tt steps left log _ e (record { growth = _; is = refl }) (words_more names.kinds log event (told names.kinds)) (λ script k pre. refl))
 
   pub runs_no_event : (steps left : ℕ) (log : List Event) → steps ≡ 0 → left ≡ 0 → Runs (Err OutOfSteps) (make_event event) (state frame names steps log) (state frame names left log)
   unfolding make_event
@@ -35,3 +46,32 @@ module _ (frame : Frame) (names : Names) (event : Event) where
 
   pub runs_refused_event : (steps left : ℕ) (log log1 : List Event) → log1 ≡ log → left ≤ steps → Runs (Err NoMemory) (make_event event) (state frame names steps log) (state frame names left log1)
   runs_refused_event steps left log log1 e n = runs_no_memory_at (make_event event) _ _ refl e n
+
+-- what data names hold behind a Sleep fits their kinds
+abbrev pub Fitting : Names → Option Contents → Type 0
+Fitting names None = Unit {0}
+Fitting names (Some left) = are_fitting left names.kinds ≡ true
+
+-- and names hold that
+abbrev pub left_in : Names → Option Contents → Names
+left_in names left = record names { contents = behind_sleep left names.contents }
+
+fitting_word : (n : ℕ) (names : Names) (left : Option Contents) → Fitting names left → IsWord names.kinds (Slept n left)
+fitting_word n names None fits = tt
+fitting_word n names (Some left) fits = fits
+
+same : (n : ℕ) → (n == n) ≡ true
+same n = (unsigned_Decides n n).1 refl
+
+pub woken_there : (n : ℕ) (left : Option Contents) (s : State) → woken n (Some (Slept n left)) s ≡ Goes tt (with_sleep s n left)
+woken_there n left s = rw (same n) refl
+
+module _ (frame : Frame) (names : Names) (n : ℕ) where
+  pub runs_sleep : (left : Option Contents) (names1 : Names) (steps rest : ℕ) (log log1 : List Event) → Fitting names left → names1 ≡ left_in names left → steps ≡ suc rest → log1 ≡ log ++ Slept n left ∷ [] → Runs (Ok tt) (sleep n) (state frame names steps log) (state frame names1 rest log1)
+  unfolding sleep
+  runs_sleep left names1 steps rest log log1 fits held e is = rw (is, held) (runs_paid _ frame frame names (left_in names left) tt steps rest log _ e (record { growth = _; is = refl }) (words_more names.kinds log (Slept n left) (fitting_word n names left fits))
+      (λ script k pre. ap (λ event. woken n event (state frame names k log)) (script_at log (Slept n left) script pre) ∙ woken_there n left (state frame names k log)))
+
+  pub runs_no_sleep : (steps left : ℕ) (log : List Event) → steps ≡ 0 → left ≡ 0 → Runs (Err OutOfSteps) (sleep n) (state frame names steps log) (state frame names left log)
+  unfolding sleep
+  runs_no_sleep steps left log e f = runs_unpaid _ frame names steps left log e f

@@ -2,7 +2,7 @@
 use Rattle.std.specs.Prelude.{◌≡◌, ◌<◌, ℕ, List}
 use Rattle.aml_operators.specs.Tree.{Tree, Trees, joined}
 use Rattle.aml_kinds.specs.Values.{Value}
-use Rattle.aml_regions.specs.declared.event.Event.{Event}
+use Rattle.aml_regions.specs.Events.{Event}
 use Rattle.aml_meaning.specs.State.{State, Spent, state_of}
 use Rattle.aml_meaning.specs.Parts.{then_do}
 use Rattle.aml_meaning.specs.Rules.{Place}
@@ -28,7 +28,7 @@ TermsWantAStep = (here : Setting) (t : Tree) (script : List Event) (s : State) �
 abbrev pub TermsTakeAStep : Type 0
 TermsTakeAStep = (here : Setting) (t : Tree) (script : List Event) (s : State) → 0 < s.steps → (state_of ((mean here t).run script s)).steps < s.steps
 
--- behind a call the caller's locals, arguments and own names are as before, however the call ends
+-- behind a call the caller's locals, arguments, own names and mutexes are as before, however the call ends
 abbrev pub CallsKeepTheFrame : Type 0
 CallsKeepTheFrame = (methods : Methods) (more : ℕ) (from : Place) (k : ℕ) (values : List Value) (script : List Event) (s : State) →
     (state_of ((call_within methods more from k values).run script s)).frame ≡ s.frame

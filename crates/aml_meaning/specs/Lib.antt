@@ -8,6 +8,7 @@ pub mod Rules
 pub mod Conversions
 pub mod Buffers
 pub mod Elements
+pub mod Mutexes
 pub mod Notices
 pub mod Actions
 pub mod Interfaces

@@ -2,26 +2,26 @@
 use Rattle.std.specs.Int.{bit_at}
 use Rattle.std.specs.Prelude.{◌≡◌, ◌<◌, ◌≤◌, ◌^◌, ℕ, suc, ◌+◌, List, [], length, slice_get, Option, Some}
 use Rattle.aml_operators.specs.Tree.{Trees}
+use Rattle.aml_kinds.specs.Contents.{Contents}
 use Rattle.aml_kinds.specs.Values.{Value}
 use Rattle.aml_regions.specs.declared.access.Access.{Access}
-use Rattle.aml_regions.specs.declared.event.Event.{Event}
-use Rattle.aml_regions.specs.declared.event.Event.TheVariants.{Read}
+use Rattle.aml_regions.specs.Events.{Event, Read, Slept}
 use Rattle.aml_meaning.specs.declared.error.AmlError.{AmlError}
 use Rattle.aml_meaning.specs.declared.action.Bitwise.TheVariants as bitwise
 use Rattle.aml_meaning.specs.Rules.{transform}
 use Rattle.aml_meaning.specs.State.{State, Names, with_steps, entered, Error, Out, Goes, Halts, NoAnswer}
-use Rattle.aml_meaning.specs.Parts.{read_unit, with_event}
+use Rattle.aml_meaning.specs.Parts.{read_unit, sleep, with_event, with_sleep}
 use Rattle.aml_meaning.specs.Calls.{framed}
 use Rattle.aml_meaning.specs.Meaning.{Setting}
-use Rattle.aml_meaning.specs.Definitions.{mean_body}
+use Rattle.aml_meaning.specs.Definitions.{mean_method}
 
 -- before a method begins: what names hold, so many steps, and the events so far
 abbrev pub before : Names → ℕ → List Event → State
-before names n log = record { frame = entered []; names = names; steps = n; log = log }
+before names n log = record { frame = entered 0 []; names = names; steps = n; log = log }
 
 -- a method's evaluation where its body stands, with its arguments, fed with a script of answers, from a state
 abbrev pub evaluated : Setting → Trees → List Value → List Event → State → Out (Option Value)
-evaluated here body values script s = (framed here.table values (mean_body here body)).run script s
+evaluated here body values script s = (framed here.table values (mean_method here body)).run script s
 
 -- what is done with n steps is done with more, and they are left over
 abbrev pub DoneIsStable : Type 0
@@ -48,6 +48,18 @@ abbrev pub OtherAnswerIsNone : Type 0
 OtherAnswerIsNone = (access other : Access) (value n : ℕ) (script : List Event) (s : State) →
     slice_get script (length s.log) ≡ Some (Read other value) → (access ≡ other → ⊥) → s.steps ≡ suc n →
     (read_unit access).run script s ≡ NoAnswer (with_steps s n)
+
+-- a Sleep goes on with what the script says that it left, which is then among the events
+abbrev pub SleepIsAnswered : Type 0
+SleepIsAnswered = (n k : ℕ) (left : Option Contents) (script : List Event) (s : State) →
+    slice_get script (length s.log) ≡ Some (Slept n left) → s.steps ≡ suc k →
+    (sleep n).run script s ≡ Goes tt (with_sleep (with_steps s k) n left)
+
+-- another event is no answer
+abbrev pub OtherIsNoSleep : Type 0
+OtherIsNoSleep = (n k : ℕ) (event : Event) (script : List Event) (s : State) →
+    slice_get script (length s.log) ≡ Some event → ((left : Option Contents) → event ≡ Slept n left → ⊥) → s.steps ≡ suc k →
+    (sleep n).run script s ≡ NoAnswer (with_steps s k)
 
 -- the highest bit of a number that is not 0: the number has it, and is below the next
 abbrev pub LeftBitIsHighest : Type 0

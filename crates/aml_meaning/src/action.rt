@@ -1,7 +1,7 @@
 // What kind of meaning an operator has.
 
 ghost use Rattle.std.specs.Prelude.{◌≡◌};
-ghost use Rattle.aml_meaning.specs.Actions.{action, action_over_data, told_action};
+ghost use Rattle.aml_meaning.specs.Actions.{action, action_over_data, mutex_action, told_action};
 
 use aml_operators::Op;
 
@@ -113,6 +113,10 @@ pub enum Action {
     Notify,
     /// A pause of so many units of time (19.6, Sleep, Stall).
     Pause(Pause),
+    /// A mutex is taken (19.6, Acquire).
+    Acquire,
+    /// The mutex that was taken last is released (19.6, Release).
+    Release,
     /// No target: nothing is stored.
     NoTarget,
     /// No meaning: an error after one step.
@@ -212,6 +216,18 @@ fn told_action(op: Op) -> Action
         Op::Notify => Action::Notify,
         Op::Sleep => Action::Pause(Pause::Sleep),
         Op::Stall => Action::Pause(Pause::Stall),
+        _ => mutex_action(op),
+    }
+}
+
+/// That of an operator of mutexes.
+#[inline(always)]
+fn mutex_action(op: Op) -> Action
+    ensures { result ≡ mutex_action op }
+{
+    match op {
+        Op::Acquire => Action::Acquire,
+        Op::Release => Action::Release,
         _ => Action::Unwritten,
     }
 }

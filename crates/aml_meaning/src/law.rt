@@ -2,7 +2,7 @@
 
 ghost use Rattle.aml_meaning.specs.Laws.{BodiesAreInOrder, CallsKeepTheFrame, ListsAreInOrder, TermsTakeAStep, TermsWantAStep};
 ghost use Rattle.aml_meaning.specs.Quiet.{QuietTermsKeep};
-ghost use Rattle.aml_meaning.specs.Whole.{DoneIsStable, ErrorIsStable, LeftBitIsHighest, OtherAnswerIsNone, ReadIsAnswered, RightBitIsLowest, ZeroHasNoBit};
+ghost use Rattle.aml_meaning.specs.Whole.{DoneIsStable, ErrorIsStable, LeftBitIsHighest, OtherAnswerIsNone, OtherIsNoSleep, ReadIsAnswered, RightBitIsLowest, SleepIsAnswered, ZeroHasNoBit};
 
 /// A body that is done with so many steps is done with more, just so, and they are left; and one that
 /// meets an error meets the same.
@@ -16,6 +16,13 @@ pub fn done_is_stable()
 pub fn reads_are_answered()
     ensures answered { ReadIsAnswered }
     ensures other { OtherAnswerIsNone }
+{}
+
+/// A Sleep goes on with the contents that the script has for it, and with those that names hold where
+/// it has none; no other event answers it.
+pub fn sleeps_are_answered()
+    ensures answered { SleepIsAnswered }
+    ensures other { OtherIsNoSleep }
 {}
 
 /// FindSetLeftBit and FindSetRightBit give the number, counted from 1, of the highest and of the
@@ -39,13 +46,13 @@ pub fn terms_take_a_step()
     ensures taken { TermsTakeAStep }
 {}
 
-/// However a call ends, the caller's locals, arguments and own names stand as before.
+/// However a call ends, the caller's locals, arguments, own names and mutexes stand as before.
 pub fn calls_keep_the_frame()
     ensures { CallsKeepTheFrame }
 {}
 
-/// A term without calls, stores and loops changes no name, no local and no argument, whatever comes
-/// of it.
+/// A term without calls, stores, loops and Sleeps, in which no mutex is taken or released, changes no
+/// name, no local, no argument and no list of mutexes, whatever comes of it.
 pub fn quiet_terms_keep()
     ensures { QuietTermsKeep }
 {}

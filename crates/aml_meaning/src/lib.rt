@@ -10,6 +10,7 @@ mod action;
 mod definition;
 mod error;
 mod law;
+mod mutex;
 mod part;
 
 pub use action::{Action, Arithmetic, Bitwise, Comparison, Conversion, Pause, action_of};
@@ -17,6 +18,7 @@ pub use definition::{Definition, definition_of};
 pub use error::{AmlCause, AmlError};
 pub use law::{
     calls_keep_the_frame, done_is_stable, lists_are_in_order, quiet_terms_keep, reads_are_answered,
-    set_bits_are_found, terms_take_a_step,
+    set_bits_are_found, sleeps_are_answered, terms_take_a_step,
 };
+pub use mutex::TakenMutex;
 pub use part::BufferPart;
