@@ -1,6 +1,6 @@
 -- Events that come again in the same order.
 use Rattle.std.specs.Prelude.{ℕ, zero, suc, List, [], ◌++◌, Bool, true, false, ◌∷◌}
-use Rattle.aml_regions.specs.declared.event.Event.{Event}
+use Rattle.aml_regions.specs.Events.{Event}
 
 -- so many turns of the same events
 abbrev pub turns_of : ℕ → List Event → List Event

@@ -3,9 +3,10 @@
 // someone else wrote would not be.
 
 ghost use Rattle.std.specs.Prelude.{◌<◌, [], ◌∷◌};
-ghost use Rattle.aml_regions.specs.declared.event.Event.TheVariants.{Read, Written};
+ghost use Rattle.aml_regions.specs.Events.{Read, Written};
 ghost use Rattle.acpi_loops.specs.Turns.{turns_of, with_first};
 
+use aml_kinds::Names;
 use aml_namespace::{NoMemory, ObjectId};
 use aml_regions::{Access, World};
 
@@ -51,7 +52,7 @@ impl World for ReadUnit {
         Err(NoMemory)
     }
 
-    fn sleep(&mut self, _milliseconds: u64) -> Result<(), NoMemory> {
+    fn sleep(&mut self, _milliseconds: u64, _names: &mut Names) -> Result<(), NoMemory> {
         self.refused = self.refused.saturating_add(1);
         Err(NoMemory)
     }
@@ -104,7 +105,7 @@ impl World for KeptUnit {
         Err(NoMemory)
     }
 
-    fn sleep(&mut self, _milliseconds: u64) -> Result<(), NoMemory> {
+    fn sleep(&mut self, _milliseconds: u64, _names: &mut Names) -> Result<(), NoMemory> {
         self.refused = self.refused.saturating_add(1);
         Err(NoMemory)
     }

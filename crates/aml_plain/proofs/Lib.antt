@@ -2,7 +2,9 @@ pub mod Forms
 pub mod Statements
 pub mod Outcomes
 pub mod Methods
+pub mod Rising
 pub mod Shifts
+pub mod Slept
 pub mod Ruled
 pub mod Turns
 pub mod Branches

@@ -46,7 +46,7 @@ pub fn evaluate_body<W: World>(
         result (names_of names.new) (W.log world.new) }
 {
     let mut machine = Machine {
-        frame: Frame::new(alloc, arguments),
+        frame: Frame::new(alloc, 0, arguments),
         names: mem::replace(names, Names::new(alloc)),
         steps: fuel,
     };

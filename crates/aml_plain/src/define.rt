@@ -5,7 +5,7 @@ ghost use Rattle.std.specs.Option.{option_map};
 ghost use Rattle.aml_namespace.specs.declared.object.BufferFieldSize.TheVariants as size;
 ghost use Rattle.aml_operators.specs.Literal.{literal_of};
 ghost use Rattle.aml_operators.specs.Tree.{view, views};
-ghost use Rattle.aml_regions.specs.declared.event.Event.{Event};
+ghost use Rattle.aml_regions.specs.Events.{Event};
 ghost use Rattle.aml_meaning.specs.declared.definition.Definition.TheVariants as makes;
 ghost use Rattle.aml_meaning.specs.Definitions.{defined, field_source, make_field, source_of};
 ghost use Rattle.aml_meaning.specs.Runs.{Runs};
@@ -43,20 +43,13 @@ fn literal_of(term: &Term) -> Option<u64>
 }
 
 /// What a field is made of, by what its source's name means: a data name, also an own one that is no
-/// field. A5 at that name where it means nothing, and A6 at the opcode where it means anything else.
-fn field_source(
-    here: Setting<'_>,
-    at: usize,
-    from: usize,
-    link: Link,
-    machine: &Machine,
-) -> Result<Link, Halt>
+/// field. A6 at the opcode where it means nothing or anything else.
+fn field_source(here: Setting<'_>, at: usize, link: Link, machine: &Machine) -> Result<Link, Halt>
     ensures { (around : _) (log : List Event) → Runs (told itself result)
-        (field_source (setting_of here.entry around) at from link)
+        (field_source (setting_of here.entry around) at link)
         (now machine.now log) (now machine.now log) }
 {
     match link {
-        Link::Missing => Err(fails(AmlCause::Missing, here, from)),
         Link::Data(_) => Ok(link),
         Link::Own(number) => match machine.own_field(number) {
             None => Ok(link),
@@ -91,7 +84,7 @@ fn make_field(
     let Some(size) = size else {
         return Err(fails(AmlCause::Outside, here, at));
     };
-    let source = field_source(here, at, from, link_of(here, from), machine)?;
+    let source = field_source(here, at, link_of(here, from), machine)?;
     let part = made_part(here.scene.width, source, size, index);
     machine.define_field(alloc, here, part)
 }

@@ -7,24 +7,28 @@ ghost use Rattle.aml_meaning.specs.Runs.{content};
 ghost use Rattle.aml_plain.specs.Tells.{IsOrNoMemory, frame_of, told, value_of};
 
 use crate::halt::{Halt, Setting, fails};
+use crate::mutexes::Mutexes;
 use aml_kinds::{Names, Value, copy};
 use aml_meaning::{AmlCause, BufferPart};
 use std::alloc::Global;
 
 /// Locals and arguments, unset or with a value, and the names that the method has made so far, by their
-/// numbers in order of definition: what each holds, or the field of a buffer that it is.
+/// numbers in order of definition: what each holds, or the field of a buffer that it is; and the
+/// mutexes that it holds.
 #[derive(Drop)]
 pub struct Frame {
     pub locals: [Option<Value>; 8],
     pub args: [Option<Value>; 7],
     pub owns: Names,
     pub fields: Vec<Option<BufferPart>>,
+    pub mutexes: Mutexes,
 }
 
 impl Frame {
-    /// A method's frame as it begins, with its arguments; those behind the seventh are not looked at.
-    pub fn new(alloc: Global, arguments: Vec<Value>) -> Self
-        ensures { frame_of result ≡ entered (map view arguments.items) }
+    /// A method's frame as it begins, where its callers hold mutexes up to a level, with its arguments;
+    /// those behind the seventh are not looked at.
+    pub fn new(alloc: Global, outside: u8, arguments: Vec<Value>) -> Self
+        ensures { frame_of result ≡ entered outside (map view arguments.items) }
     {
         let mut given = arguments.into_iter();
         Frame {
@@ -40,6 +44,7 @@ impl Frame {
             ],
             owns: Names::new(alloc),
             fields: Vec::new(alloc),
+            mutexes: Mutexes::new(alloc, outside),
         }
     }
 }

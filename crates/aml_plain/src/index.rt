@@ -7,7 +7,7 @@ ghost use Rattle.aml_kinds.specs.Views as values;
 ghost use Rattle.aml_operators.specs.declared.row.Code.TheVariants as code;
 ghost use Rattle.aml_operators.specs.Shape.{IsShaped};
 ghost use Rattle.aml_operators.specs.Tree.{view};
-ghost use Rattle.aml_regions.specs.declared.event.Event.{Event};
+ghost use Rattle.aml_regions.specs.Events.{Event};
 ghost use Rattle.aml_meaning.specs.Changes.{change};
 ghost use Rattle.aml_meaning.specs.Elements.{byte_written};
 ghost use Rattle.aml_meaning.specs.Meaning.{bound, indexed, name_indexed, refused};

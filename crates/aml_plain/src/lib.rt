@@ -19,6 +19,8 @@ mod law;
 mod links;
 mod machine;
 mod method;
+mod mutex;
+mod mutexes;
 mod notice;
 mod operand;
 mod own;

@@ -3,7 +3,7 @@
 ghost use Rattle.std.specs.Prelude.{◌≡◌, ◌≤◌, suc, map, IfOk, List, None, OnErr, OnOk, Option, Some};
 ghost use Rattle.aml_kinds.specs.Contents.{content_at};
 ghost use Rattle.aml_kinds.specs.Views.{view};
-ghost use Rattle.aml_regions.specs.declared.event.Event.{Event};
+ghost use Rattle.aml_regions.specs.Events.{Event};
 ghost use Rattle.aml_namespace.specs.Widths.{bits_of};
 ghost use Rattle.aml_meaning.specs.Calls.{inside};
 ghost use Rattle.aml_meaning.specs.Owns.{define_field, define_own, field_at, make_own, set_own};
@@ -41,7 +41,7 @@ impl Machine {
         ensures lost { OnErr result (self.new ≡ self.old) }
     {
         let begun = Machine {
-            frame: Frame::new(alloc, arguments),
+            frame: Frame::new(alloc, self.frame.mutexes.level(), arguments),
             names: Names::new(alloc),
             steps: self.steps,
         };

@@ -48,6 +48,7 @@ pub fn evaluate_tree<W: World>(
     let first = &bodies.first;
     let scene = Scene {
         table: first.table,
+        opcode: first.opcode,
         width: namespace.width(),
         namespace,
         method,

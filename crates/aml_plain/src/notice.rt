@@ -2,11 +2,10 @@
 
 ghost use Rattle.std.specs.Prelude.{◌≡◌, ◌≤◌, List};
 ghost use Rattle.aml_namespace.specs.declared.object.ObjectId.{ObjectId};
-ghost use Rattle.aml_regions.specs.declared.event.Event.{Event};
-ghost use Rattle.aml_regions.specs.declared.event.Event.TheVariants.{Notified};
+ghost use Rattle.aml_regions.specs.Events.{Event, Notified, Stalled};
 ghost use Rattle.aml_meaning.specs.Meaning.{notified, notified_name};
-ghost use Rattle.aml_meaning.specs.Notices.{is_notifiable, notice, pause_event};
-ghost use Rattle.aml_meaning.specs.Parts.{make_event};
+ghost use Rattle.aml_meaning.specs.Notices.{is_notifiable, notice, paused};
+ghost use Rattle.aml_meaning.specs.Parts.{make_event, sleep};
 ghost use Rattle.aml_meaning.specs.Runs.{Runs, ruled};
 ghost use Rattle.aml_plain.specs.Tells.{itself, now, place_in, setting_of, told, went};
 
@@ -97,14 +96,9 @@ pub fn notify<W: World>(
     Ok(())
 }
 
-/// Tells a world of a pause, with a step.
-pub fn pause<W: World>(
-    pause: Pause,
-    value: u64,
-    machine: &mut Machine,
-    world: &mut W,
-) -> Result<(), Halt>
-    ensures means { Runs (went result) (make_event (pause_event pause value))
+/// Tells a world of a Sleep, with a step. What names hold behind it is what the world leaves.
+fn sleep<W: World>(milliseconds: u64, machine: &mut Machine, world: &mut W) -> Result<(), Halt>
+    ensures means { Runs (went result) (sleep milliseconds)
         (now machine.old (W.log world.old)) (now machine.new (W.log world.new)) }
     ensures falls { machine.new.steps ≤ machine.old.steps }
 {
@@ -112,9 +106,37 @@ pub fn pause<W: World>(
         return Err(Halt::OutOfSteps);
     }
     machine.steps -= 1;
-    match pause {
-        Pause::Sleep => world.sleep(value)?,
-        Pause::Stall => world.stall(value)?,
-    }
+    world.sleep(milliseconds, &mut machine.names)?;
     Ok(())
+}
+
+/// Tells a world of a Stall, with a step.
+fn stall<W: World>(microseconds: u64, machine: &mut Machine, world: &mut W) -> Result<(), Halt>
+    ensures means { Runs (went result) (make_event (Stalled microseconds))
+        (now machine.old (W.log world.old)) (now machine.new (W.log world.new)) }
+    ensures falls { machine.new.steps ≤ machine.old.steps }
+{
+    if machine.steps == 0 {
+        return Err(Halt::OutOfSteps);
+    }
+    machine.steps -= 1;
+    world.stall(microseconds)?;
+    Ok(())
+}
+
+/// Tells a world of a pause, with a step.
+pub fn pause<W: World>(
+    pause: Pause,
+    value: u64,
+    machine: &mut Machine,
+    world: &mut W,
+) -> Result<(), Halt>
+    ensures means { Runs (went result) (paused pause value)
+        (now machine.old (W.log world.old)) (now machine.new (W.log world.new)) }
+    ensures falls { machine.new.steps ≤ machine.old.steps }
+{
+    match pause {
+        Pause::Sleep => sleep(value, machine, world),
+        Pause::Stall => stall(value, machine, world),
+    }
 }

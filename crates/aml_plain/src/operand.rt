@@ -4,7 +4,7 @@ ghost use Rattle.std.specs.Prelude.{◌≡◌, ◌≤◌, IsSome, List};
 ghost use Rattle.aml_kinds.specs.Views.{view};
 ghost use Rattle.aml_operators.specs.Literal.{literal_in};
 ghost use Rattle.aml_operators.specs.Tree.{views};
-ghost use Rattle.aml_regions.specs.declared.event.Event.{Event};
+ghost use Rattle.aml_regions.specs.Events.{Event};
 ghost use Rattle.aml_meaning.specs.declared.action.Action.TheVariants as does;
 ghost use Rattle.aml_meaning.specs.Meaning.{act, asked, changed_in_place, is_there, measured, named_seen, size, sizeless, takes_operand, untargeted};
 ghost use Rattle.aml_meaning.specs.Runs.{Runs};

@@ -9,7 +9,7 @@ ghost use Rattle.aml_kinds.specs.Views.{view};
 ghost use Rattle.aml_namespace.specs.Shows.{shown};
 ghost use Rattle.aml_namespace.specs.Widths.{bits_of};
 ghost use Rattle.aml_regions.specs.BufferFields.{stored};
-ghost use Rattle.aml_regions.specs.declared.event.Event.{Event};
+ghost use Rattle.aml_regions.specs.Events.{Event};
 ghost use Rattle.aml_meaning.specs.BufferFields.{IsLaidOut, buffer_field_numbered, bytes_around, first_bit, read_part, wanted_part, written_part};
 ghost use Rattle.aml_meaning.specs.Changes.{change, held_by};
 ghost use Rattle.aml_meaning.specs.Meaning.{part_changed, part_read};

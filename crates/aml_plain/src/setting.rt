@@ -15,6 +15,8 @@ use aml_namespace::{Namespace, ObjectId, OwnNames, Width};
 pub struct Scene<'a> {
     /// The number of its table.
     pub table: usize,
+    /// The place there of its Method opcode.
+    pub opcode: usize,
     /// How wide integers are.
     pub width: Width,
     /// Whose objects its names name.

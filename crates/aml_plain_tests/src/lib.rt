@@ -11,3 +11,7 @@ mod outcomes;
 mod plain;
 #[cfg(test)]
 mod region_fields;
+#[cfg(test)]
+mod sleeps;
+#[cfg(test)]
+mod worlds;

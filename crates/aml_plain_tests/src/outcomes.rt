@@ -10,7 +10,7 @@ use aml_kinds::{Names, Value};
 use aml_meaning::AmlCause;
 use aml_namespace::{LoadFault, Namespace, NoMemory, ObjectId};
 use aml_plain::{Outcome, evaluate_plain};
-use aml_regions::RegisterFile;
+use aml_regions::World;
 use std::alloc::Global;
 
 /// What is wanted of an evaluation.
@@ -57,12 +57,12 @@ pub(crate) fn first_names(alloc: Global, namespace: &Namespace<'_>) -> Result<Na
 }
 
 /// The outcome of a method without arguments, whose body parses, over a world.
-fn outcome_of_method(
+fn outcome_of_method<W: World>(
     alloc: Global,
     namespace: &Namespace<'_>,
     method: ObjectId,
     names: &mut Names,
-    world: &mut RegisterFile,
+    world: &mut W,
     fuel: u64,
 ) -> Result<Outcome, LoadFault>
     requires known { IsSome (method_at (shown namespace.now) method.0) }
@@ -76,12 +76,12 @@ fn outcome_of_method(
 }
 
 /// The outcome of a method without arguments, over a world.
-pub(crate) fn outcome_in(
+pub(crate) fn outcome_in<W: World>(
     alloc: Global,
     namespace: &Namespace<'_>,
     method: ObjectId,
     names: &mut Names,
-    world: &mut RegisterFile,
+    world: &mut W,
     fuel: u64,
 ) -> Result<Outcome, LoadFault>
     requires { IsSome (method_at (shown namespace.now) method.0) }

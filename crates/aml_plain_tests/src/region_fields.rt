@@ -30,7 +30,7 @@ const PORTS: &[u8] = b"io 70 112233445566778899aabbccdd\n";
 
 /// An access of a port of one byte.
 #[derive(Clone, Copy, Debug, PartialEq, Eq)]
-enum Port {
+pub(crate) enum Port {
     /// By its address, with what was answered.
     Read(u64, u64),
     /// By its address, with what it was given.
@@ -53,7 +53,7 @@ fn is_port(access: &Access) -> bool {
 }
 
 /// Whether events are just these accesses.
-fn are_ports(events: &[Event], ports: &[Port]) -> bool {
+pub(crate) fn are_ports(events: &[Event], ports: &[Port]) -> bool {
     if events.len() != ports.len() {
         return false;
     }

@@ -4,9 +4,6 @@ use Rattle.aml_plain.specs.Tells.{now, setting_of}
 use Rattle.aml_plain.proofs.OwnFields.{runs_found, source_elsewhere}
 use Rattle.aml_plain.proofs.define.field_source.Goals as goal
 
-pub returns-in-Missing : goal.returns-in-Missing
-returns-in-Missing c = λ around log. rw (c.in-Missing.is, c.fails.ensures) (runs_stop_with _ _)
-
 pub returns-in-Data : goal.returns-in-Data
 returns-in-Data c = λ around log. rw c.in-Data.is (runs_give _ _)
 
@@ -16,8 +13,8 @@ returns-in-None c = λ around log.
 
 pub returns-in-Some : goal.returns-in-Some
 returns-in-Some c = λ around log.
-    rw (c.in-Own.is, c.fails-in-Some.ensures) (runs_then _ (runs_found _ (now c.args.machine.now log) _ (c.in-Some.ensures log)) (runs_stop_with _ _))
+    rw (c.in-Own.is, c.fails.ensures) (runs_then _ (runs_found _ (now c.args.machine.now log) _ (c.in-Some.ensures log)) (runs_stop_with _ _))
 
 pub returns-in_default : goal.returns-in_default
 returns-in_default c = λ around log.
-    rw (source_elsewhere (setting_of c.args.here around) c.args.at c.args.from c.args.link c.in_default.not-Missing c.in_default.not-Data c.in_default.not-Own, c.fails-in_default.ensures) (runs_stop_with _ _)
+    rw (source_elsewhere (setting_of c.args.here around) c.args.at c.args.link c.in_default.not-Data c.in_default.not-Own, c.fails-in_default.ensures) (runs_stop_with _ _)

@@ -15,7 +15,7 @@ returns g c = λ m is around.
     let first = rw c.in_ok-bodies.ensures.first at c.in_ok-bodies.ensures.sound.first in
     let same = prepared_is ns around c.args.method.0 m p _ is first (c.requires.read.are m is) in
     let bytes = c.body_bytes.ensures m is in
-    let place = stands ns around.bodies 63 c.args.method.0 m p.table c.width.result c.body_bytes.result.now (owns_seen p.owns) (map view p.body.items) (first.table m is) c.width.ensures bytes (rw bytes (first.owns m is)) in
+    let place = stands ns around.bodies 63 c.args.method.0 m p.table p.opcode c.width.result c.body_bytes.result.now (owns_seen p.owns) (map view p.body.items) (first.table m is) (first.opcode m is) c.width.ensures bytes (rw bytes (first.owns m is)) in
     rw (c.deref.ensures.value, place, same) at (c.evaluate_body.ensures around)
 
 pub invariant_of-scene : goal.invariant_of-scene
