@@ -1,0 +1,119 @@
+-- What judging a part gives, and how parts that follow one another are judged.
+use Rattle.std.specs.Prelude.{ℕ, ◌+◌, List, Option, Some, None, Result, Ok, Err, max, Bool}
+use Rattle.aml_operators.specs.declared.op.Op.{Op}
+use Rattle.aml_operators.specs.Tree.{Trees}
+use Rattle.aml_namespace.specs.declared.link.Link.{Link}
+use Rattle.aml_namespace.specs.declared.object.Object.{Object}
+use Rattle.aml_kinds.specs.Values.{Value}
+use Rattle.aml_regions.specs.declared.field.AnyField.{AnyField}
+use Rattle.aml_meaning.specs.declared.part.BufferPart.{BufferPart}
+use Rattle.aml_kinds.specs.Kinds.{Kind}
+use Rattle.aml_kinds.specs.Joins.{join}
+use Rattle.aml_kinds.specs.Contents.{ContentKinds}
+use Rattle.aml_meaning.specs.Rules.{Place}
+use Rattle.aml_judged.specs.Causes.{Cause, Refusal}
+use Rattle.aml_judged.specs.Known.{Env, join_env}
+
+-- whether a term has a value, and of which kind
+pub data Yield : Type 0 where
+  Always : (kind : Kind) → Yield
+  Sometimes : (kind : Kind) → Yield
+  Never : Yield
+
+-- an accepted method: the kinds of its arguments, what a call gives, and how many steps it takes at most
+pub record Accepted : Type 0 where
+  pub args : List Kind
+  pub result : Yield
+  pub bound : ℕ
+
+-- what a caller sees of a method: whether it reaches the caller, whether a chain of 64 begins with it, and what it is, where it is
+-- accepted
+pub record Seen : Type 0 where
+  pub reaches : Bool
+  pub deep : Bool
+  pub accepted : Option Accepted
+
+-- the kinds of data names, and of the own names made so far
+pub record NameKinds : Type 0 where
+  pub shared : ContentKinds
+  pub owns : ContentKinds
+
+-- what is known around a body
+pub record Around : Type 0 where
+  pub table : ℕ
+  pub width : ℕ
+  pub link : ℕ → Link
+  pub lone : ℕ → Bool
+  pub object : ℕ → Option Object
+  pub field : ℕ → Option AnyField
+  pub buffer_field : ℕ → Option BufferPart
+  pub literal : Op → Trees → Value
+  pub kinds : NameKinds
+  pub callee : ℕ → Seen
+
+-- what is known at the exits that count
+pub record Exits : Type 0 where
+  pub broke : Option Env
+  pub continued : Option Env
+  pub returned : Option Kind
+
+abbrev pub no_exits : Exits
+no_exits = record { broke = None; continued = None; returned = None }
+
+abbrev pub either : {X : Type 0} → (X → X → X) → Option X → Option X → Option X
+either f (Some a) (Some b) = Some (f a b)
+either f (Some a) None = Some a
+either f None b = b
+
+abbrev pub join_exits : Exits → Exits → Exits
+join_exits a b = record { broke = either join_env a.broke b.broke; continued = either join_env a.continued b.continued; returned = either join a.returned b.returned }
+
+-- goes on with something of a kind and in an environment, or leaves by its exits, at such a cost; or the first cause
+pub data Judged (K : Type 0) : Type 0 where
+  Goes : (kind : K) (env : Env) (exits : Exits) (cost : ℕ) → Judged K
+  Stops : (refusal : Refusal) → Judged K
+
+abbrev pub after : {L : Type 0} → Exits → ℕ → Judged L → Judged L
+after x n (Goes k env y m) = Goes k env (join_exits x y) (n + m)
+after x n (Stops r) = Stops r
+
+abbrev pub then_judge : {K L : Type 0} → Judged K → (K → Env → Judged L) → Judged L
+then_judge (Goes k env x n) f = after x n (f k env)
+then_judge (Stops r) f = Stops r
+
+-- a rule, from what is known before it
+abbrev pub Rule : Type 0 → Type 0
+Rule K = Env → Judged K
+
+infixl 10 ◌>>=◌
+abbrev pub ◌>>=◌ : {K L : Type 0} → Rule K → (K → Rule L) → Rule L
+(m >>= f) = λ env. then_judge (m env) f
+
+-- at a cost
+abbrev pub pays : {K : Type 0} → ℕ → K → Rule K
+pays n k env = Goes k env no_exits n
+
+abbrev pub goes : {K : Type 0} → K → Rule K
+goes k = pays 0 k
+
+-- one step
+abbrev pub step : Rule (Unit {0})
+step = pays 1 tt
+
+-- a rule's kind, or its cause
+abbrev pub ruled : {K : Type 0} → Result K Refusal → Rule K
+ruled (Ok k) = goes k
+ruled (Err r) = λ env. Stops r
+
+-- either of two, of which the first is judged first
+abbrev pub meet : {K : Type 0} → Judged K → Judged K → Judged K
+meet (Goes k a x n) (Goes j b y m) = Goes k (join_env a b) (join_exits x y) (max n m)
+meet (Goes k a x n) (Stops r) = Stops r
+meet (Stops r) j = Stops r
+
+abbrev pub refuses : {K : Type 0} → Cause → Place → Result K Refusal
+refuses why p = Err (record { table = p.table; at = p.at; why = why })
+
+abbrev pub then_rule : {J K : Type 0} → Result J Refusal → (J → Result K Refusal) → Result K Refusal
+then_rule (Ok j) f = f j
+then_rule (Err r) f = Err r

@@ -1,0 +1,16 @@
+pub mod Causes
+pub mod Known
+pub mod Judged
+pub mod KindRules
+pub mod Shapes
+pub mod Judge
+pub mod Bodies
+pub mod Verdicts
+pub mod Safe
+pub mod Laws
+pub mod Events
+pub mod Fine
+pub mod Chains
+pub mod Mutexes
+pub mod Keeps
+pub mod InPlace

@@ -1,0 +1,134 @@
+-- What a body that is judged fine never meets.
+use Rattle.std.specs.Prelude.{◌≡◌, ℕ, ◌+◌, ◌≤◌, ◌<◌, ◌^◌, List, [], ◌∷◌, Option, Some, None, slice_get, true}
+use Rattle.aml_kinds.specs.Values.{Value, Int, Buf, Str, Pkg, Elements, Element, Holds, Named, Unset, count}
+use Rattle.aml_kinds.specs.Values as elements
+use Rattle.aml_kinds.specs.Kinds.{Kind}
+use Rattle.aml_kinds.specs.Fits.{fits, most_elements}
+use Rattle.aml_kinds.specs.Contents.{Contents, ContentKinds, content_at, are_fitting}
+use Rattle.aml_regions.specs.Events.{Event, Slept}
+use Rattle.aml_meaning.specs.State as state
+use Rattle.aml_meaning.specs.State.{State, Frame, Names, Stop, Error, Returned, Broke, Continued, Out, Halts, NoAnswer, Spent}
+use Rattle.aml_meaning.specs.Parts.{M}
+use Rattle.aml_meaning.specs.Rules.{Place}
+use Rattle.aml_judged.specs.Known.{Slot, Env}
+use Rattle.aml_meaning.specs.Owns.{field_at}
+use Rattle.aml_judged.specs.Judged.{NameKinds, Yield, Always, Sometimes, Never, Accepted, Seen, Exits, Judged, Goes, Stops}
+
+abbrev pub AreBytes : List ℕ → Type 0
+AreBytes [] = Unit {0}
+AreBytes (b ∷ bytes) = (b < 256) × AreBytes bytes
+
+module _ (width : ℕ) where
+  abbrev mutual
+    -- a value whose integers have the width, whose bytes are bytes, and whose packages have not too many elements, at every depth
+    pub IsWord : Value → Type 0
+    IsWord (Int n) = n < 2 ^ width
+    IsWord (Buf bytes) = AreBytes bytes
+    IsWord (Str characters) = AreBytes characters
+    IsWord (Pkg es) = (count es ≤ most_elements) × AreWords es
+
+    pub AreWords : Elements → Type 0
+    AreWords elements.none = Unit {0}
+    AreWords (elements.more e es) = IsWordElement e × AreWords es
+
+    pub IsWordElement : Element → Type 0
+    IsWordElement (Holds v) = IsWord v
+    IsWordElement (Named object) = Unit {0}
+    IsWordElement Unset = Unit {0}
+
+  pub record IsOf (v : Value) (k : Kind) : Type 0 where
+    pub fit : fits v k ≡ true
+    pub word : IsWord v
+
+  abbrev pub FitsSlot : Option Value → Slot → Type 0
+  FitsSlot v None = Unit {0}
+  FitsSlot (Some v) (Some k) = IsOf v k
+  FitsSlot None (Some k) = ⊥
+
+  -- place by place; what the kinds don't reach is free
+  abbrev pub FitSlots : List (Option Value) → List Slot → Type 0
+  FitSlots vs [] = Unit {0}
+  FitSlots (v ∷ vs) (k ∷ ks) = FitsSlot v k × FitSlots vs ks
+  FitSlots [] (k ∷ ks) = ⊥
+
+  abbrev pub FitAll : List Value → List Kind → Type 0
+  FitAll [] [] = Unit {0}
+  FitAll (v ∷ vs) (k ∷ ks) = IsOf v k × FitAll vs ks
+  FitAll vs ks = ⊥
+
+  -- each data name holds what its kind lets it hold
+  pub record FitNames (kinds : ContentKinds) (names : Names) : Type 0 where
+    pub kinds_stay : names.kinds ≡ kinds
+    pub fitting : are_fitting names.contents kinds ≡ true
+    pub words : (i : ℕ) (v : Value) → content_at names.contents i ≡ Some v → IsWord v
+
+  -- contents that a Sleep left are of the names' kinds
+  pub record FitContents (kinds : ContentKinds) (contents : Contents) : Type 0 where
+    pub fitting : are_fitting contents kinds ≡ true
+    pub words : (i : ℕ) (v : Value) → content_at contents i ≡ Some v → IsWord v
+
+  pub record FitScript (kinds : ContentKinds) (script : List Event) : Type 0 where
+    pub left : (i milliseconds : ℕ) (contents : Contents) → slice_get script i ≡ Some (Slept milliseconds (Some contents)) → FitContents kinds contents
+
+module _ (width : ℕ) (kinds : NameKinds) where
+  -- what is known counts, and is true
+  pub record FitsState (env : Env) (s : State) : Type 0 where
+    pub reached : env.counts ≡ true
+    pub own : FitSlots width s.frame.locals env.locals
+    pub given : FitSlots width s.frame.args env.args
+    pub shared : FitNames width kinds.shared s.names
+    pub owned : FitNames width kinds.owns s.frame.owns
+    pub fieldless : (k : ℕ) → field_at s.frame.fields k ≡ None
+    pub unheld : s.frame.held ≡ []
+
+  abbrev pub FitsYield : Option Value → Yield → Type 0
+  FitsYield (Some v) (Always k) = IsOf width v k
+  FitsYield None (Always k) = ⊥
+  FitsYield (Some v) (Sometimes k) = IsOf width v k
+  FitsYield None (Sometimes k) = Unit {0}
+  FitsYield (Some v) Never = ⊥
+  FitsYield None Never = Unit {0}
+
+  abbrev pub FitsExit : Option Env → State → Type 0
+  FitsExit None s = ⊥
+  FitsExit (Some env) s = FitsState env s
+
+  abbrev pub FitsReturn : Option Kind → Value → Type 0
+  FitsReturn None v = ⊥
+  FitsReturn (Some k) v = IsOf width v k
+
+  -- a stop is no error, and one of these exits
+  abbrev pub FitsStop : Exits → Stop → State → Type 0
+  FitsStop x (Error e) s = ⊥
+  FitsStop x (Returned v) s = FitsReturn x.returned v × FitNames width kinds.shared s.names
+  FitsStop x (Broke at) s = FitsExit x.broke s
+  FitsStop x (Continued at) s = FitsExit x.continued s
+
+  -- from so many steps: no error, as the rules say, within the cost, and short of steps only where fewer were there
+  abbrev pub IsSafe : {V K : Type 0} → (V → K → State → Type 0) → ℕ → Judged K → Out V → Type 0
+  IsSafe P before (Stops r) out = Unit {0}
+  IsSafe P before (Goes k env x n) (state.Goes v s) = P v k s × FitsState env s × (before ≤ s.steps + n)
+  IsSafe P before (Goes k env x n) (Halts stop s) = FitsStop x stop s × (before ≤ s.steps + n)
+  IsSafe P before (Goes k env x n) (NoAnswer s) = Unit {0}
+  IsSafe P before (Goes k env x n) (Spent s) = before < n
+
+  -- a call meets no error, gives what is known of it within its bound, and leaves the frame alone
+  abbrev pub IsCalled : Yield → ℕ → Frame → ℕ → Out (Option Value) → Type 0
+  IsCalled y n frame before (state.Goes v s) = FitsYield v y × (s.frame ≡ frame) × FitNames width kinds.shared s.names × (before ≤ s.steps + n)
+  IsCalled y n frame before (Halts stop s) = ⊥
+  IsCalled y n frame before (NoAnswer s) = Unit {0}
+  IsCalled y n frame before (Spent s) = before < n
+
+  pub record AreCalls (callee : ℕ → Seen) (call : Place → ℕ → List Value → M (Option Value)) : Type 0 where
+    pub each : (p : Place) (k : ℕ) (m : Accepted) (vs : List Value) (script : List Event) (s : State) → (callee k).accepted ≡ Some m → FitAll width vs m.args → FitNames width kinds.shared s.names → FitScript width kinds.shared script → IsCalled m.result m.bound s.frame s.steps ((call p k vs).run script s)
+
+-- whatever a call is, it leaves its caller's frame alone, and stops by an error or not at all
+abbrev pub IsTame : Frame → Out (Option Value) → Type 0
+IsTame frame (state.Goes v s) = s.frame ≡ frame
+IsTame frame (Halts (Error e) s) = Unit {0}
+IsTame frame (Halts stop s) = ⊥
+IsTame frame (NoAnswer s) = Unit {0}
+IsTame frame (Spent s) = Unit {0}
+
+pub record AreTame (call : Place → ℕ → List Value → M (Option Value)) : Type 0 where
+  pub each : (p : Place) (k : ℕ) (vs : List Value) (script : List Event) (s : State) → IsTame s.frame ((call p k vs).run script s)

@@ -1,0 +1,65 @@
+//! What a verdict is, and what it means: the kind rules with their bound, over the meaning of
+//! `aml_meaning` (ACPI 6.5, 5.5.2 and 19.6; kinds, causes and bounds are the project's own).
+//!
+//! The text to believe stands in `specs/`: `Known` (what is known of a frame), `Judged` (what judging
+//! gives), `KindRules` (the kinds of what operators give), `Shapes` (what stands in a loop), `Judge`
+//! (a clause an operator, in the order of causes, beside `aml_meaning`'s `Meaning`), `Bodies`,
+//! `Verdicts`, and in `Safe` and `Laws` what a verdict means. `docs/VERDICTS.md` tells the same in
+//! plain words, and which operators no rule judges yet.
+#![tactic(auto)]
+
+ghost use Rattle.std.specs.Prelude.{Option};
+ghost use Rattle.aml_kinds.specs.Values.{Value};
+ghost use Rattle.aml_judged.specs.Chains.{ChainsAreCounted};
+ghost use Rattle.aml_judged.specs.Events.{FieldsCost};
+ghost use Rattle.aml_judged.specs.Fine.{FineParts};
+ghost use Rattle.aml_judged.specs.InPlace.{ExitsAreJoined, PartsAreJoined};
+ghost use Rattle.aml_judged.specs.Keeps.{TermsKeepLocals};
+ghost use Rattle.aml_judged.specs.Laws.{OrderAnswers, VerdictsAreOne, VerdictsMean};
+ghost use Rattle.aml_judged.specs.Mutexes.{MutexesHold};
+
+/// A method that is accepted meets no error, and ends within its bound, or a read of it has no answer.
+pub fn verdicts_mean()
+    ensures { VerdictsMean }
+{}
+
+/// Which methods are accepted has one answer, and judging them in call order finds it.
+pub fn verdicts_are_found()
+    ensures one { VerdictsAreOne }
+    ensures found { OrderAnswers }
+{}
+
+/// What is said of the lengths of methods' chains is so of each chain, and cycles have no length.
+pub fn chains_are_counted()
+    ensures { ChainsAreCounted }
+{}
+
+/// A local that is no target in a term is kept by it, and a turn is ended early only by a Continue in
+/// it, whatever its operators are.
+pub fn terms_keep_locals()
+    ensures { TermsKeepLocals }
+{}
+
+/// A field's read and its write take as many steps as they have events.
+pub fn fields_cost()
+    ensures { FieldsCost }
+{}
+
+/// Exits may be joined and costs added as they come.
+pub fn parts_are_joined()
+    ensures exits { ExitsAreJoined }
+    ensures parts { PartsAreJoined }
+{}
+
+/// What is fine has a fine first part, and what follows is fine; a step is there, so steps count down
+/// through loops and calls, and an error is never there.
+pub fn evaluations_count_down()
+    ensures statements { FineParts (Option Value) (Unit {0}) }
+    ensures values { FineParts Value (Option Value) }
+    ensures effects { FineParts (Unit {0}) (Option Value) }
+{}
+
+/// In a miniature with mutexes: what is judged fine takes and drops them in order, whoever calls it.
+pub fn mutexes_hold()
+    ensures { MutexesHold }
+{}
