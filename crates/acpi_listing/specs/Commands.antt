@@ -14,7 +14,7 @@ use Rattle.aml_kinds.specs.FirstKinds.{greatest_of}
 use Rattle.aml_kinds.specs.FirstContents.{first_contents, first_kinds}
 use Rattle.aml_kinds.specs.Values.{Value, Int}
 use Rattle.aml_meaning.specs.State as State
-use Rattle.aml_regions.specs.declared.event.Event.{Event}
+use Rattle.aml_regions.specs.Events.{Event}
 use Rattle.aml_plain.specs.Methods.{Evaluates}
 use Rattle.aml_plain.specs.declared.body.Outcome.{Outcome}
 use Rattle.aml_plain.specs.declared.body.Outcome.TheVariants.{Done, AmlError, OutOfSteps}

@@ -1,5 +1,5 @@
 -- The program: by its words or by standard input, with its status.
-use Rattle.std.specs.Prelude.{◌≡◌, ◌⊎◌, ℕ, List, [], ◌∷◌, Option, Result, Ok, Err, Vec, String, map, string_bytes, vec_items}
+use Rattle.std.specs.Prelude.{◌≡◌, ℕ, List, [], ◌∷◌, Option, Result, Ok, Err, Vec, String, map, string_bytes, vec_items}
 use Rattle.std.specs.Io.KnownBytes.{Keeps}
 use Rattle.acpi_text.specs.declared.writing.RunFault.{RunFault}
 use Rattle.acpi_listing.specs.Commands.{Reports, RunsWords, RunsInput}
@@ -16,9 +16,10 @@ abbrev pub RunsEither : {F B : Type 0} → Answers F → F → F → Result (Vec
 RunsEither answers old new (Ok words) from to held holds r = RunsByWords answers old new (map string_bytes (vec_items words)) from to held holds r
 RunsEither answers old new (Err f) from to held holds r = Reports f held holds r × (new ≡ old) × (to ≡ from)
 
--- the status of an end, with the bytes that are left unwritten: none, or it is 1
+-- the status of an end, with the bytes that are left unwritten: that of the command where there are none, else 1
 abbrev pub IsStatusOf : Result ℕ RunFault → List ℕ → ℕ → Type 0
-IsStatusOf (Ok ended) unwritten status = ((status ≡ ended) × (unwritten ≡ [])) ⊎ (status ≡ 1)
+IsStatusOf (Ok ended) [] status = status ≡ ended
+IsStatusOf (Ok ended) (byte ∷ more) status = status ≡ 1
 IsStatusOf (Err _) unwritten status = status ≡ 1
 
 -- the program: what it prints, of that a beginning where a write fails, and its status

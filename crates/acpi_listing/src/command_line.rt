@@ -1,6 +1,6 @@
 // The program: its words, its streams and its status.
 
-ghost use Rattle.std.specs.Prelude.{◌≡◌, ◌⊎◌, ◌≤◌, [], IfErr, IfOk, OnOk, Ok};
+ghost use Rattle.std.specs.Prelude.{◌≡◌, ◌⊎◌, ◌≤◌, IfErr, IfOk};
 ghost use Rattle.std.specs.Io.Buffered.{writer_buffer, writer_contents};
 ghost use Rattle.std.specs.Io.KnownBytes.{Keeps};
 ghost use Rattle.acpi_listing.specs.Program.{RunsEither, RunsProgram};
@@ -46,7 +46,8 @@ fn fault_of_unread(kind: ErrorKind) -> Fault
 }
 
 /// Runs the program by its words, without words by its standard input, and answers the status that it
-/// ends with: that of [`run_words`] or [`run`]; 1 where not all was written.
+/// ends with: that of [`run_words`] or [`run`]; 1 where, and only where, a fault was told or not all was
+/// written.
 pub fn run_program<R: Read, F: Source, W: Write + Drop, N: Eprint>(
     alloc: Global,
     words: Result<Vec<String>, Fault>,
@@ -62,9 +63,10 @@ pub fn run_program<R: Read, F: Source, W: Write + Drop, N: Eprint>(
     ensures status { result ≤ 3 }
 {
     let ended = run_either(alloc, words, input, files, out, notes);
-    match finish(ended, out, notes) {
-        Ok(status) => status,
-        Err(_) => 1,
+    write_held(out, notes);
+    match ended {
+        Ok(status) if out.buffer().is_empty() => status,
+        _ => 1,
     }
 }
 
@@ -107,24 +109,14 @@ fn run_either<R: Read, F: Source, W: Write, N: Eprint>(
 }
 
 // Writes out what is still held. Standard error tells why that fails, but where nobody reads on.
-fn finish<W: Write + Drop, N: Eprint>(
-    ended: Result<u8, RunFault>,
-    out: &mut BufWriter<W>,
-    notes: &N,
-) -> Result<u8, RunFault>
-    ensures same { IfOk result (λ status. ended ≡ Ok status) }
-    ensures all { OnOk result (writer_buffer out.new ≡ []) }
-    ensures bytes { Keeps (writer_contents W.contents out.old)
-        (writer_contents W.contents out.new) }
+fn write_held<W: Write + Drop, N: Eprint>(out: &mut BufWriter<W>, notes: &N)
+    ensures { Keeps (writer_contents W.contents out.old) (writer_contents W.contents out.new) }
 {
-    match out.flush() {
-        Ok(()) => ended,
-        Err(error) => {
-            if error.kind() != ErrorKind::BrokenPipe {
-                let _ = notes.eprint("acpicheck: standard output: ");
-                let _ = notes.eprintln(&error);
-            }
-            Err(RunFault::Write)
-        }
+    let Err(error) = out.flush() else {
+        return;
+    };
+    if error.kind() != ErrorKind::BrokenPipe {
+        let _ = notes.eprint("acpicheck: standard output: ");
+        let _ = notes.eprintln(&error);
     }
 }

@@ -11,6 +11,7 @@ ghost use Rattle.acpi_listing.specs.Commands.{IsMeant, Takes, are_taken, evaluat
 ghost use Rattle.aml_operators.specs.Tree as terms;
 ghost use Rattle.aml_operators.specs.Tree.{views};
 ghost use Rattle.aml_plain.specs.Methods.{AreStatementsOf};
+ghost use Rattle.aml_regions.specs.EventViews.{events_of};
 ghost use Rattle.acpi_listing.specs.Steps.{Tells, Tries, Writes};
 ghost use Rattle.acpi_listing.specs.Inputs.{tables_of};
 ghost use Rattle.acpi_listing.specs.Loading.{interfaces_of};
@@ -130,7 +131,7 @@ fn outcome_of(
     requires fresh { world.old.events.items ≡ [] }
     ensures { (m : Method) → method_at (shown namespace.now) id.0 ≡ Some m →
         IsMeant (shown namespace.now) id.0 m (views body.items) (map view (vec_items arguments)) steps
-        (with_events result world.new.events.items) }
+        (with_events result (events_of world.new.events.items)) }
 {
     let mut names = Names::initial(alloc, namespace)?;
     let outcome = evaluate_tree(
@@ -148,7 +149,7 @@ fn list_ended<W: Write>(
     events: &[Event],
 ) -> Result<(), RunFault>
     ensures { Lists result (W.contents out.old) (W.contents out.new)
-        (evaluation_text (shown namespace.now).entries (outcome.now, events.now)) }
+        (evaluation_text (shown namespace.now).entries (outcome.now, events_of events.now)) }
 {
     list_events(alloc, out, namespace, events)?;
     list_evaluation(alloc, out, namespace, outcome)
@@ -163,7 +164,7 @@ fn tell_outcome<W: Write>(
     events: &[Event],
 ) -> Result<u8, Stop>
     ensures status { IfOk result (λ status. status ≤ 3) }
-    ensures printed { let text = evaluation_text (shown namespace.now).entries (outcome.now, events.now) in
+    ensures printed { let text = evaluation_text (shown namespace.now).entries (outcome.now, events_of events.now) in
         Writes (Tells text (outcome_status outcome.now))
         (tt {0}) (tt {0}) (W.contents out.old) (W.contents out.new) result }
 {

@@ -1,27 +1,18 @@
-// Rows whose expected output was worked out by hand: each fault number, each status, each kind of
-// line, and writers that fail.
+// What the built program cannot show: writers that fail, files that memory cannot hold, and single calls. What it prints
+// and answers is told by the rows of crates/acpicheck/rows.
 
 mod calls;
 mod faults;
-mod given;
 mod names;
-mod rows;
-mod several;
 mod values;
 mod whole;
-mod worked;
 
 use acpi_listing::{RunFault, run};
-use given::ARGUMENTS;
 use hex;
-use rows::{EVAL, INPUTS, TABLES};
-use several::SEVERAL;
 use std::alloc::{AllocError, Global};
 use std::io;
 use std::io::Write;
-use std::process::Abort;
 use std::test::Fail;
-use worked::WORKED;
 
 const TABLE_1: &str =
     "4453445430000000021f41435049434b524f57533030303101000000524f575301000000140b4d30303001a472680100";
@@ -54,19 +45,6 @@ struct Answer {
     ended: Result<u8, RunFault>,
 }
 
-impl Answer {
-    // Whether it is want of memory: the call ends so, or a last line tells it, and what stands before
-    // is a beginning of the text.
-    fn wants_memory(&self, text: &str) -> bool {
-        let front = match self.ended {
-            Err(RunFault::NoMemory) => Some(self.text.as_slice()),
-            Ok(1) => self.text.strip_suffix(b"fault E524 NoMemory\n"),
-            _ => None,
-        };
-        front.is_some_and(|front| text.as_bytes().starts_with(front))
-    }
-}
-
 // What the program answers to an input, by a writer of that width and room.
 fn told(alloc: Global, input: &str, width: usize, room: usize) -> Result<Answer, AllocError> {
     let mut out = Narrow {
@@ -79,17 +57,6 @@ fn told(alloc: Global, input: &str, width: usize, room: usize) -> Result<Answer,
         text: out.text,
         ended,
     })
-}
-
-// A row's answer; where the first try wanted memory, that of the second.
-fn prints(rt: &impl Abort, alloc: Global, input: &str, text: &str, status: u8) -> Result<(), Fail> {
-    let answer = match told(alloc, input, 4096, 4096) {
-        Ok(answer) if !answer.wants_memory(text) => answer,
-        _ => told(alloc, input, 4096, 4096)?,
-    };
-    assert_eq!(rt; answer.text.as_slice(), text.as_bytes(), "at {input}");
-    assert_eq!(rt; answer.ended, Ok(status), "at {input}");
-    Ok(())
 }
 
 // A DSDT with that revision and body, its length and checksum to fit, in hex.
@@ -113,68 +80,6 @@ fn seal(table: &mut [u8]) -> Option<()> {
     let sum = table.iter().fold(0u8, |sum, b| sum.wrapping_add(*b));
     *table.get_mut(9)? = 0u8.wrapping_sub(sum);
     Some(())
-}
-
-// The input of an evaluation.
-fn evaluation(alloc: Global, words: &str, revision: u8, body: &str) -> Option<String> {
-    let table = dsdt(alloc, revision, body)?;
-    format!(in alloc; "eval {words} @\n{table}\n").ok()
-}
-
-// Words of `eval`, revision and body of the DSDT, what is printed, and the status.
-type Evaluation = (&'static str, u8, &'static str, &'static str, u8);
-
-// Each row prints what it says.
-fn each_prints(rt: &impl Abort, alloc: Global, rows: &[Evaluation]) -> Result<(), Fail> {
-    for (words, revision, body, text, status) in rows {
-        let input = match evaluation(alloc, words, *revision, body) {
-            Some(input) => input,
-            None => evaluation(alloc, words, *revision, body).ok_or("an input")?,
-        };
-        prints(rt, alloc, input.as_str(), text, *status)?;
-    }
-    Ok(())
-}
-
-// `rt try --test --fail-alloc N` refuses the N-th growth: each test that is named for rows then still
-// passes.
-#[test]
-fn rows_of_evaluations(rt: HostRuntime) -> Result<(), Fail> {
-    each_prints(&rt, rt.alloc(), EVAL)
-}
-
-#[test]
-fn rows_of_worked_evaluations(rt: HostRuntime) -> Result<(), Fail> {
-    each_prints(&rt, rt.alloc(), WORKED)
-}
-
-#[test]
-fn rows_of_evaluations_with_arguments(rt: HostRuntime) -> Result<(), Fail> {
-    each_prints(&rt, rt.alloc(), ARGUMENTS)
-}
-
-#[test]
-fn rows_of_inputs(rt: HostRuntime) -> Result<(), Fail> {
-    for (input, text, status) in INPUTS {
-        prints(&rt, rt.alloc(), input, text, *status)?;
-    }
-    Ok(())
-}
-
-#[test]
-fn rows_of_tables(rt: HostRuntime) -> Result<(), Fail> {
-    for (input, text, status) in TABLES {
-        prints(&rt, rt.alloc(), input, text, *status)?;
-    }
-    Ok(())
-}
-
-#[test]
-fn rows_of_several_files(rt: HostRuntime) -> Result<(), Fail> {
-    for (input, text, status) in SEVERAL {
-        prints(&rt, rt.alloc(), input, text, *status)?;
-    }
-    Ok(())
 }
 
 // What a command prints, into a writer that takes a byte at a time, and into one that fails at each

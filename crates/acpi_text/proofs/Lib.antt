@@ -1,3 +1,4 @@
+mod EventLemmas
 pub mod Listing
 pub mod NameLemmas
 pub mod ValueLemmas

@@ -1,13 +1,11 @@
 -- What an evaluation did to the world, as it is printed.
 use Rattle.std.specs.Prelude.{ℕ, List, [], ◌∷◌, ◌==◌, codes, decimal, if◌then◌else◌}
 use Rattle.std.specs.List.{flat_map}
-use Rattle.acpi_text.specs.Names.{path_of}
+use Rattle.acpi_text.specs.Names.{object_text}
 use Rattle.acpi_text.specs.Text.{joined, hex}
 use Rattle.aml_namespace.specs.Entries.{Entries}
-use Rattle.aml_namespace.specs.Printed.{path_text}
 use Rattle.aml_regions.specs.declared.access.Access.{Access}
-use Rattle.aml_regions.specs.declared.event.Event.{Event}
-use Rattle.aml_regions.specs.declared.event.Event.TheVariants.{Read, Written, Notified, Slept, Stalled}
+use Rattle.aml_regions.specs.Events.{Event, Read, Written, Notified, Slept, Stalled}
 
 -- an address space (ACPI 6.5, 5.5.2.4): the word that a register file's text has for it, or else its number
 abbrev pub space_text : ℕ → List ℕ
@@ -27,20 +25,20 @@ access_line verb access value = joined (
     ∷ codes " " ∷ decimal access.width
     ∷ codes " 0x" ∷ hex value ∷ codes "\n" ∷ [])
 
--- the line of a Notify of the object with a path
+-- the line of a Notify of the object with this text
 unfoldable pub notify_line : List ℕ → ℕ → List ℕ
-notify_line path value = joined (codes "notify " ∷ path ∷ codes " 0x" ∷ hex value ∷ codes "\n" ∷ [])
+notify_line thing value = joined (codes "notify " ∷ thing ∷ codes " 0x" ∷ hex value ∷ codes "\n" ∷ [])
 
 -- the line of a Sleep or a Stall of some time
 unfoldable pub wait_line : List ℕ → ℕ → List ℕ
 wait_line verb time = joined (verb ∷ codes " 0x" ∷ hex time ∷ codes "\n" ∷ [])
 
--- the line of an event
+-- the line of an event; that of a Sleep does not tell what others left
 abbrev pub event_line : Entries → Event → List ℕ
 event_line entries (Read access value) = access_line (codes "read") access value
 event_line entries (Written access value) = access_line (codes "write") access value
-event_line entries (Notified object value) = notify_line (path_text (path_of entries object.0)) value
-event_line entries (Slept milliseconds) = wait_line (codes "sleep") milliseconds
+event_line entries (Notified object value) = notify_line (object_text entries object) value
+event_line entries (Slept milliseconds left) = wait_line (codes "sleep") milliseconds
 event_line entries (Stalled microseconds) = wait_line (codes "stall") microseconds
 
 -- the lines of events, in their order

@@ -1,11 +1,10 @@
 -- Values, as they are printed.
 use Rattle.std.specs.Prelude.{ℕ, List, [], ◌∷◌, ◌++◌, Option, Some, None, codes}
 use Rattle.hex.specs.Hex.{encode_lower}
-use Rattle.acpi_text.specs.Names.{path_of}
+use Rattle.acpi_text.specs.Names.{object_text}
 use Rattle.acpi_text.specs.Text.{joined, hex, escaped}
 use Rattle.aml_kinds.specs.Values.{Value, Int, Buf, Str, Pkg, Element, Elements, Holds, Named, Unset, none, more}
 use Rattle.aml_namespace.specs.Entries.{Entries}
-use Rattle.aml_namespace.specs.Printed.{path_text}
 use Rattle.aml_namespace.specs.declared.object.ObjectId.{ObjectId}
 
 -- these pieces with `, ` between each two
@@ -22,7 +21,7 @@ bytes_text (b ∷ rest) = encode_lower (b ∷ rest)
 -- what a name in a package names: the first path of that object, or nothing
 abbrev pub named_text : Entries → Option ObjectId → List ℕ
 named_text entries None = codes "unresolved"
-named_text entries (Some id) = path_text (path_of entries id.0)
+named_text entries (Some id) = object_text entries id
 
 unfoldable mutual
   -- a value: its kind, but for integers, and what it holds

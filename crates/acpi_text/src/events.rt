@@ -3,11 +3,11 @@
 ghost use Rattle.std.specs.Prelude.{◌≡◌, IfOk, string_bytes};
 ghost use Rattle.acpi_text.specs.Events.{access_line, event_line, events_text, notify_line, space_text, wait_line};
 ghost use Rattle.acpi_text.specs.Lists.{Lists};
-ghost use Rattle.acpi_text.specs.Names.{path_of};
-ghost use Rattle.aml_namespace.specs.Printed.{path_text};
+ghost use Rattle.acpi_text.specs.Names.{object_text};
 ghost use Rattle.aml_namespace.specs.Shows.{shown};
+ghost use Rattle.aml_regions.specs.EventViews.{event_of, events_of};
 
-use crate::path::push_path;
+use crate::path::push_object;
 use crate::writing::{RunFault, put};
 use aml_namespace::{Namespace, ObjectId};
 use aml_regions::{Access, Event};
@@ -26,10 +26,10 @@ pub fn list_events<W: Write>(
     events: &[Event],
 ) -> Result<(), RunFault>
     ensures { Lists result (W.contents out.old) (W.contents out.new)
-        (events_text (shown namespace.now).entries events.now) }
+        (events_text (shown namespace.now).entries (events_of events.now)) }
 {
     for event in events {
-        list_event(alloc, out, namespace, *event)?;
+        list_event(alloc, out, namespace, event)?;
     }
     Ok(())
 }
@@ -39,17 +39,17 @@ fn list_event<W: Write>(
     alloc: Global,
     out: &mut W,
     namespace: &Namespace<'_>,
-    event: Event,
+    event: &Event,
 ) -> Result<(), RunFault>
     ensures { Lists result (W.contents out.old) (W.contents out.new)
-        (event_line (shown namespace.now).entries event) }
+        (event_line (shown namespace.now).entries (event_of event.now)) }
 {
     match event {
-        Event::Read(access, value) => list_access(alloc, out, "read", access, value),
-        Event::Written(access, value) => list_access(alloc, out, "write", access, value),
-        Event::Notified(object, value) => list_notify(alloc, out, namespace, object, value),
-        Event::Slept(milliseconds) => list_wait(alloc, out, "sleep", milliseconds),
-        Event::Stalled(microseconds) => list_wait(alloc, out, "stall", microseconds),
+        Event::Read(access, value) => list_access(alloc, out, "read", *access, *value),
+        Event::Written(access, value) => list_access(alloc, out, "write", *access, *value),
+        Event::Notified(object, value) => list_notify(alloc, out, namespace, *object, *value),
+        Event::Slept(milliseconds, _) => list_wait(alloc, out, "sleep", *milliseconds),
+        Event::Stalled(microseconds) => list_wait(alloc, out, "stall", *microseconds),
     }
 }
 
@@ -103,9 +103,9 @@ fn list_notify<W: Write>(
     object: ObjectId,
     value: u64,
 ) -> Result<(), RunFault>
-    ensures { let path = path_of (shown namespace.now).entries object.0 in
+    ensures { let thing = object_text (shown namespace.now).entries object in
         Lists result (W.contents out.old) (W.contents out.new)
-        (notify_line (path_text path) value) }
+        (notify_line thing value) }
 {
     let line = notify_line_of(alloc, namespace, object, value)?;
     put(out, line.as_slice())
@@ -118,12 +118,12 @@ fn notify_line_of(
     object: ObjectId,
     value: u64,
 ) -> Result<Vec<u8>, RunFault>
-    ensures { let path = path_of (shown namespace.now).entries object.0 in
-        IfOk result (λ line. line.items ≡ notify_line (path_text path) value) }
+    ensures { let thing = object_text (shown namespace.now).entries object in
+        IfOk result (λ line. line.items ≡ notify_line thing value) }
 {
     let mut line = Vec::new(alloc);
     line.extend_from_slice(b"notify ")?;
-    push_path(alloc, &mut line, namespace, object)?;
+    push_object(alloc, &mut line, namespace, object)?;
     let behind = format!(in alloc; " 0x{value:x}\n")?;
     line.extend_from_slice(behind.as_bytes())?;
     Ok(line)

@@ -2,13 +2,14 @@
 
 ghost use Rattle.std.specs.Prelude.{◌≡◌, ◌++◌, ◌<◌, length, slice_get, IfOk, OnOk, string_bytes};
 ghost use Rattle.acpi_text.specs.Lists.{Lists};
-ghost use Rattle.acpi_text.specs.Names.{content_text, entry_line, entry_text, kind_text, names_text, path_of, size_bits};
+ghost use Rattle.acpi_text.specs.Names.{content_text, entry_line, entry_text, kind_text, names_text, path_of};
 ghost use Rattle.aml_namespace.specs.Paths.{Path};
 ghost use Rattle.aml_namespace.specs.Shows.{shown};
+ghost use Rattle.aml_namespace.specs.Widths.{bits_of};
 
 use crate::path::push_path;
 use crate::writing::{RunFault, put};
-use aml_namespace::{BufferFieldSize, Content, Entry, Namespace, Object, ObjectId};
+use aml_namespace::{Content, Entry, Namespace, Object, ObjectId, Width};
 use std::alloc::{AllocError, Global};
 use std::io::Write;
 
@@ -44,7 +45,7 @@ fn list_name<W: Write>(
     requires { id.0 < length (shown namespace.now).entries }
     ensures { let entries = (shown namespace.now).entries in
         (named : Path × Entry) → slice_get entries id.0 ≡ Some named
-        → Lists result (W.contents out.old) (W.contents out.new) (entry_line entries named) }
+        → Lists result (W.contents out.old) (W.contents out.new) (entry_line (shown namespace.now) named) }
 {
     let entry = namespace.entry(id).unwrap();
     let line = line_of(alloc, namespace, id, entry)?;
@@ -60,7 +61,7 @@ fn line_of(
     entry: Entry,
 ) -> Result<Vec<u8>, RunFault>
     ensures { IfOk result (λ line. let entries = (shown namespace.now).entries in
-        line.items ≡ entry_line entries (path_of entries id.0, entry)) }
+        line.items ≡ entry_line (shown namespace.now) (path_of entries id.0, entry)) }
 {
     let mut line = Vec::new(alloc);
     push_path(alloc, &mut line, namespace, id)?;
@@ -79,11 +80,11 @@ fn push_entry(
     entry: Entry,
 ) -> Result<(), RunFault>
     ensures { OnOk result
-        (line.new.items ≡ line.old.items ++ entry_text (shown namespace.now).entries entry) }
+        (line.new.items ≡ line.old.items ++ entry_text (shown namespace.now) entry) }
 {
     match entry {
         Entry::Own(object) => {
-            let kind = kind_of(alloc, object)?;
+            let kind = kind_of(alloc, namespace.width(), object)?;
             line.extend_from_slice(kind.as_bytes())?;
             Ok(())
         }
@@ -94,10 +95,10 @@ fn push_entry(
     }
 }
 
-// The kind of an object.
+// The kind of an object, where integers have this width.
 #[tactic(auto, unfolding(crate::specs::Names::kind_text))]
-fn kind_of(alloc: Global, object: Object) -> Result<String, AllocError>
-    ensures { IfOk result (λ kind. string_bytes kind ≡ kind_text object) }
+fn kind_of(alloc: Global, width: Width, object: Object) -> Result<String, AllocError>
+    ensures { IfOk result (λ kind. string_bytes kind ≡ kind_text (bits_of width) object) }
 {
     match object {
         Object::Scope => format!(in alloc; "scope"),
@@ -110,8 +111,8 @@ fn kind_of(alloc: Global, object: Object) -> Result<String, AllocError>
         Object::Data(name) => content_of(alloc, name.content),
         Object::Region(_) | Object::DataTableRegion => format!(in alloc; "region"),
         Object::Field(field) => format!(in alloc; "field {}", field.bits),
-        Object::BufferField(field) => format!(in alloc; "bufferfield {}", bits_of(field.size)),
-        Object::Mutex => format!(in alloc; "mutex"),
+        Object::BufferField(field) => format!(in alloc; "bufferfield {}", field.size.bits(width)),
+        Object::Mutex { .. } | Object::GlobalLock => format!(in alloc; "mutex"),
         Object::Event => format!(in alloc; "event"),
     }
 }
@@ -126,20 +127,5 @@ fn content_of(alloc: Global, content: Content) -> Result<String, AllocError>
         Content::Buffer(count) => format!(in alloc; "buffer {count}"),
         Content::String(count) => format!(in alloc; "string {count}"),
         Content::Package(count) => format!(in alloc; "package {count}"),
-    }
-}
-
-// The number of a field's bits.
-#[tactic(auto, unfolding(crate::specs::Names::size_bits))]
-fn bits_of(size: BufferFieldSize) -> u64
-    ensures { result ≡ size_bits size }
-{
-    match size {
-        BufferFieldSize::Bit => 1,
-        BufferFieldSize::Byte => 8,
-        BufferFieldSize::Word => 16,
-        BufferFieldSize::DWord => 32,
-        BufferFieldSize::QWord => 64,
-        BufferFieldSize::Bits(count) => count,
     }
 }

@@ -1,7 +1,7 @@
 // Paths of a namespace, as they are printed.
 
 ghost use Rattle.std.specs.Prelude.{◌≡◌, ◌++◌, OnOk};
-ghost use Rattle.acpi_text.specs.Names.{path_of};
+ghost use Rattle.acpi_text.specs.Names.{object_text, path_of};
 ghost use Rattle.aml_namespace.specs.Printed.{path_text};
 ghost use Rattle.aml_namespace.specs.Shows.{shown};
 ghost use Rattle.aml_namespace.specs.Steps.{path_seen};
@@ -26,6 +26,25 @@ pub fn push_path(
         None => push_segments(line, &[])?,
     }
     Ok(())
+}
+
+/// Adds the first path of the object with this number, and `unresolved` where no object has it.
+pub(crate) fn push_object(
+    alloc: Global,
+    line: &mut Vec<u8>,
+    namespace: &Namespace<'_>,
+    id: ObjectId,
+) -> Result<(), RunFault>
+    ensures { OnOk result
+        (line.new.items ≡ line.old.items ++ object_text (shown namespace.now).entries id) }
+{
+    match namespace.object(id) {
+        Some(_) => push_path(alloc, line, namespace, id),
+        None => {
+            line.extend_from_slice(b"unresolved")?;
+            Ok(())
+        }
+    }
 }
 
 // Adds the path of these segments.

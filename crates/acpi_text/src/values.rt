@@ -8,7 +8,7 @@ ghost use Rattle.aml_kinds.specs.Views.{element, elements_of, view};
 ghost use Rattle.aml_namespace.specs.Shows.{shown};
 
 use crate::escaped::escaped_text;
-use crate::path::push_path;
+use crate::path::push_object;
 use crate::writing::{RunFault, put};
 use aml_kinds::{Element, Value};
 use aml_namespace::{Namespace, ObjectId};
@@ -116,7 +116,7 @@ fn push_named(
         ≡ text.old.items ++ named_text (shown namespace.now).entries object) }
 {
     match object {
-        Some(id) => push_path(alloc, text, namespace, id),
+        Some(id) => push_object(alloc, text, namespace, id),
         None => {
             text.extend_from_slice(b"unresolved")?;
             Ok(())

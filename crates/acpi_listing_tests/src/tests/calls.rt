@@ -1,4 +1,4 @@
-// Public calls by themselves, where `run` would not show them: files by their names, and each listing.
+// Public calls by themselves: sources and streams that fail, and listings.
 
 use super::TABLE_1;
 use acpi_listing::{
@@ -16,14 +16,9 @@ use std::io;
 use std::io::{ErrorKind, Read};
 use std::test::Fail;
 
-const EVAL: [&str; 7] = [
-    "eval", "--plain", "1000", "--method", "\\M000", "--args", "41",
-];
-
 pub const LINE_1: &str = "table DSDT length 48 revision 2 oem \"ACPICK\" \"ROWS0001\" 0x1\n";
 
-// The first table as `dsdt.bin`, the same with a wrong last byte as `bad.bin`, and `vast.bin`, which
-// no memory can hold.
+// The first table as `dsdt.bin`, and `vast.bin`, which no memory can hold.
 #[derive(Drop)]
 pub struct Shelf {
     pub alloc: Global,
@@ -31,18 +26,11 @@ pub struct Shelf {
 
 impl Source for Shelf {
     fn read(&mut self, name: &str) -> Result<Vec<u8>, SourceFault> {
-        let mut bytes = match hex::decode(self.alloc, TABLE_1) {
-            Ok(bytes) => bytes,
-            Err(_) => return Err(SourceFault::NoMemory),
-        };
         match name {
-            "dsdt.bin" => Ok(bytes),
-            "bad.bin" => {
-                if let Some(last) = bytes.last_mut() {
-                    *last = 1;
-                }
-                Ok(bytes)
-            }
+            "dsdt.bin" => match hex::decode(self.alloc, TABLE_1) {
+                Ok(bytes) => Ok(bytes),
+                Err(_) => Err(SourceFault::NoMemory),
+            },
             "vast.bin" => Err(SourceFault::NoMemory),
             _ => Err(SourceFault::File),
         }
@@ -50,62 +38,20 @@ impl Source for Shelf {
 }
 
 #[test]
-fn words_and_files(rt: HostRuntime) -> Result<(), Fail> {
+fn files_that_memory_cannot_hold(rt: HostRuntime) -> Result<(), Fail> {
     let alloc = rt.alloc();
-    let tables: [(&[&str], &str, &str, u8); 6] = [
-        (&["tables", "dsdt.bin"], LINE_1, "", 0),
-        (
-            &["tables", "dsdt.bin", "bad.bin"],
-            LINE_1,
-            "fault E103 BadSum 1 9\n",
-            1,
-        ),
-        (
-            &["tables", "dsdt.bin", "none.bin"],
-            LINE_1,
-            "fault E523 File\n",
-            1,
-        ),
-        (
-            &["tables", "dsdt.bin", "vast.bin"],
-            LINE_1,
-            "fault E524 NoMemory\n",
-            1,
-        ),
-        (
-            &["tables", "vast.bin", "dsdt.bin"],
-            "",
-            "fault E524 NoMemory\n",
-            1,
-        ),
-        (&["verify", "dsdt.bin"], "", "fault E520 CommandLine\n", 2),
+    let eval = ["eval", "--plain", "9", "--method", "\\M000", "vast.bin"];
+    let rows: [(&[&str], &str); 3] = [
+        (&["tables", "dsdt.bin", "vast.bin"], LINE_1),
+        (&["tables", "vast.bin", "dsdt.bin"], ""),
+        (&eval, ""),
     ];
-    for (words, front, last, status) in tables {
+    for (words, front) in rows {
         let mut out = Vec::new(alloc);
         let ended = run_words(alloc, words, &mut Shelf { alloc }, &mut out);
-        let text = format!(in alloc; "{front}{last}")?;
-        assert_eq!(rt; out.as_slice(), text.as_bytes(), "at {last}");
-        assert_eq!(rt; ended, Ok(status), "at {last}");
-    }
-    Ok(())
-}
-
-#[test]
-fn a_method_of_a_file(rt: HostRuntime) -> Result<(), Fail> {
-    let alloc = rt.alloc();
-    let rows = [
-        ("dsdt.bin", "result 0x2a\n", 0),
-        ("bad.bin", "fault E103 BadSum 0 9\n", 1),
-        ("none.bin", "fault E523 File\n", 1),
-        ("vast.bin", "fault E524 NoMemory\n", 1),
-    ];
-    for (file, text, status) in rows {
-        let mut words = Vec::from_slice(alloc, &EVAL)?;
-        words.push(file)?;
-        let mut out = Vec::new(alloc);
-        let ended = run_words(alloc, words.as_slice(), &mut Shelf { alloc }, &mut out);
-        assert_eq!(rt; out.as_slice(), text.as_bytes(), "at {file}");
-        assert_eq!(rt; ended, Ok(status), "at {file}");
+        let text = format!(in alloc; "{front}fault E524 NoMemory\n")?;
+        assert_eq!(rt; out.as_slice(), text.as_bytes());
+        assert_eq!(rt; ended, Ok(1));
     }
     Ok(())
 }
@@ -129,21 +75,8 @@ fn outcomes(rt: HostRuntime) -> Result<(), Fail> {
     let namespace = Namespace::load(alloc, &[bytes.as_slice()], host)?;
     let rows = [
         (Outcome::Done(Some(Value::Int(0))), "result 0x0\n"),
-        (
-            Outcome::Done(Some(Value::Int(u64::MAX))),
-            "result 0xffffffffffffffff\n",
-        ),
-        (Outcome::Done(None), "result none\n"),
         (Outcome::OutOfSteps, "out of steps\n"),
         (at_44(AmlCause::Unset), "error 1 44 A1 Unset\n"),
-        (at_44(AmlCause::Kind), "error 1 44 A2 Kind\n"),
-        (at_44(AmlCause::Divisor), "error 1 44 A3 Divisor\n"),
-        (at_44(AmlCause::Index), "error 1 44 A4 Index\n"),
-        (at_44(AmlCause::Missing), "error 1 44 A5 Missing\n"),
-        (at_44(AmlCause::Outside), "error 1 44 A6 Outside\n"),
-        (at_44(AmlCause::Region), "error 1 44 A7 Region\n"),
-        (at_44(AmlCause::NoValue), "error 1 44 A8 NoValue\n"),
-        (at_44(AmlCause::Depth), "error 1 44 A9 Depth\n"),
     ];
     for (outcome, text) in rows {
         let mut out = Vec::new(alloc);

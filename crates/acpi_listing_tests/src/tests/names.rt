@@ -1,46 +1,13 @@
-// The listing of a namespace's names.
+// The listing of as many names as there may be.
 
 use super::seal;
-use acpi_listing::{Source, SourceFault, list_names, run_words};
-use aml_namespace::{Host, Namespace};
+use acpi_listing::{Source, SourceFault, run_words};
 use hex;
 use std::alloc::Global;
 use std::test::Fail;
 
 const PREDEFINED: &str =
     "\\_GPE scope\n\\_PR_ scope\n\\_SB_ scope\n\\_SI_ scope\n\\_TZ_ scope\n\\_REV integer\n\\_OSI method 1\n\\_OS_ string 9\n\\_GL_ mutex\n";
-
-// Tables, and what is listed of each behind the predefined names: one method; an alias of one; and two
-// devices with a method and a package within.
-const ROWS: [(&str, &str); 3] = [
-    (super::TABLE_1, "\\M000 method 1\n"),
-    (
-        "4453445439000000022341435049434b524f57533030303101000000524f575301000000140b4d30303001a472680100064d303030414c5330",
-        "\\M000 method 1\n\\ALS0 alias \\M000\n",
-    ),
-    (
-        "445344547d000000026e41435049434b524f57533030303101000000524f5753010000001048055c5f53425f5b82324c4e4b41142c5f43525300084255463011090a062300001879008b425546300149525157700b000249525157a4425546305b821b50434930085f505254121001120d040cffff0100004c4e4b4100",
-        "\\_SB_.LNKA device\n\\_SB_.LNKA._CRS method 0\n\\_SB_.PCI0 device\n\\_SB_.PCI0._PRT package 1\n",
-    ),
-];
-
-#[test]
-fn names_of_tables(rt: HostRuntime) -> Result<(), Fail> {
-    let alloc = rt.alloc();
-    let host = Host {
-        os: b"acpicheck",
-        osi: &[],
-    };
-    for (table, names) in ROWS {
-        let bytes = hex::decode(alloc, table)?;
-        let namespace = Namespace::load(alloc, &[bytes.as_slice()], host)?;
-        let mut out = Vec::new(alloc);
-        list_names(alloc, &mut out, &namespace)?;
-        let text = format!(in alloc; "{PREDEFINED}{names}")?;
-        assert_eq!(rt; out.as_slice(), text.as_bytes());
-    }
-    Ok(())
-}
 
 const LETTERS: &[u8] = b"ABCDEFGHIJKLMNOPQRSTUVWXYZ0123456789";
 

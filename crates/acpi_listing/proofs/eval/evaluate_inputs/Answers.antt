@@ -13,6 +13,7 @@ use Rattle.acpi_listing.specs.Loading.{Loads, interfaces_of}
 use Rattle.acpi_listing.specs.Commands.{EvaluatesBody, Finds, Fit, IsMeant, ReadsBody, Takes, evaluation_text, outcome_status}
 use Rattle.acpi_listing.proofs.Chains.{given_fault}
 use Rattle.acpi_listing.proofs.Evaluations.{known_texts, after_load, after_find, after_body, after_outcome, no_outcome}
+use Rattle.aml_regions.specs.EventViews.{events_of}
 use Rattle.acpi_listing.proofs.eval.evaluate_inputs.Goals as goal
 
 abbrev now : Bor (List ℕ) → List ℕ
@@ -95,6 +96,6 @@ returns-clause-printed g c =
     let m = c.in_ok-id.method in
     let body = c.in-Ok.ensures m c.in_ok-id.ensures.found.1 in
     let meant = rw (← c.events.ensures) at (c.in_ok-outcome.ensures m c.in_ok-id.ensures.found.1) in
-    after_outcome c.args.request.now.method.now (map values.view c.args.arguments.items) c.args.request.now.steps (interfaces_of (option_map now c.args.request.now.osi)) (tables_of c.args.inputs.now) ns _ m (map view c.in-Ok.body.items) (c.in_ok-outcome.outcome, c.events.result.now) _ _ _
+    after_outcome c.args.request.now.method.now (map values.view c.args.arguments.items) c.args.request.now.steps (interfaces_of (option_map now c.args.request.now.osi)) (tables_of c.args.inputs.now) ns _ m (map view c.in-Ok.body.items) (c.in_ok-outcome.outcome, events_of c.events.result.now) _ _ _
     (known_texts _ _ _ _ _ c.as_slice.ensures.value c.in_ok-known.ensures.known c.in_ok-namespace.ensures) c.in_ok-id.ensures.found body ((rw c.deref.ensures.value at c.fits.ensures).0 c.if-not-fits.false) meant
     c.tell_outcome.ensures.printed

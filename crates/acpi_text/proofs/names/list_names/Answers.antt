@@ -9,22 +9,24 @@ use Rattle.acpi_text.proofs.names.list_names.Goals as goal
 
 pub loop-number-preserved : goal.loop-number-preserved
 loop-number-preserved g c =
-    let entries = (shown c.args.namespace.now).entries in
+    let ns = shown c.args.namespace.now in
+    let entries = ns.entries in
     let before = c.loop-number.invariant in
     let named = element_there entries c.loop-number.number (omega arith) in
-    let line = entry_line entries named.0 in
-    let begins = next_text (entry_line entries) entries c.loop-number.number named.0 named.1 in (
+    let line = entry_line ns named.0 in
+    let begins = next_text (entry_line ns) entries c.loop-number.number named.0 named.1 in (
       before.0 ++ line,
       before.1 ∙ ap (λ left. before.0 ++ left) begins
-          ∙ sym (append_assoc before.0 line (flat_map (entry_line entries) (drop (c.loop-number.number + 1) entries))),
+          ∙ sym (append_assoc before.0 line (flat_map (entry_line ns) (drop (c.loop-number.number + 1) entries))),
       Appends-trans _ _ (g.W.Write.contents c.list_name.new.out) before.0 line before.2 (c.in_ok-list_name.ensures named.0 named.1),
     )
 
 pub returns-in_err-list_name : goal.returns-in_err-list_name
 returns-in_err-list_name g c =
-    let entries = (shown c.args.namespace.now).entries in
+    let ns = shown c.args.namespace.now in
+    let entries = ns.entries in
     let before = c.loop-number.invariant in
     let named = element_there entries c.loop-number.number (omega arith) in
-    let begins = next_text (entry_line entries) entries c.loop-number.number named.0 named.1 in
-    stopped _ c.from_residual.result _ _ _ before.0 (entry_line entries named.0) (flat_map (entry_line entries) (drop (c.loop-number.number + 1) entries)) _
+    let begins = next_text (entry_line ns) entries c.loop-number.number named.0 named.1 in
+    stopped _ c.from_residual.result _ _ _ before.0 (entry_line ns named.0) (flat_map (entry_line ns) (drop (c.loop-number.number + 1) entries)) _
     c.from_residual.ensures.0 before.2 (c.in_err-list_name.ensures named.0 named.1) (before.1 ∙ ap (λ left. before.0 ++ left) begins)

@@ -9,5 +9,5 @@ use Rattle.acpi_text.proofs.names.list_names.Given as goal
 abbrev pub invariant-loop-number : goal.invariant-loop-number
 invariant-loop-number g l =
     let entries = (shown l.namespace).entries in
-    (done : List ℕ) × (names_text (shown l.namespace) ≡ done ++ flat_map (entry_line entries) (drop l.number entries))
+    (done : List ℕ) × (names_text (shown l.namespace) ≡ done ++ flat_map (entry_line (shown l.namespace)) (drop l.number entries))
     × Appends (g.W.Write.contents l.initial.out) (g.W.Write.contents l.out) done
