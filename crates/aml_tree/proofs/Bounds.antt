@@ -45,7 +45,7 @@ module _ (arity : NameString → ℕ → ℕ) (Below : ℕ → Spot → List ℕ
   piece_in piece.Text own bytes at t le h = let w = of_ok _ _ _ _ (text_in bytes at le) h.2 in rw h.3 w
   piece_in piece.Connection own bytes at t le h = connection_in own bytes at t le h
 
-  pieces_in : (ps : List Piece) (own : ℕ) (bytes : List ℕ) (at stop : ℕ) (ts : List Tree) → at ≤ length bytes → ArePieces arity Below ps own bytes at stop ts → (at + length ps ≤ stop) × (stop ≤ length bytes)
+  pub pieces_in : (ps : List Piece) (own : ℕ) (bytes : List ℕ) (at stop : ℕ) (ts : List Tree) → at ≤ length bytes → ArePieces arity Below ps own bytes at stop ts → (at + length ps ≤ stop) × (stop ≤ length bytes)
   pieces_in [] own bytes at stop ts le h = (omega (arith, h.1), omega (arith, h.1))
   pieces_in (p ∷ rest) own bytes at stop ts le h =
       let w = piece_in p own bytes at h.0 le h.3 in
@@ -58,15 +58,15 @@ module _ (arity : NameString → ℕ → ℕ) (Below : ℕ → Spot → List ℕ
       let r = pieces_in (pieces_of h.1) own bytes (item_next h.1 at) h.2 h.3 (omega (arith, lt, on)) h.6 in
       rw h.7 (omega (arith, on, r), r.1)
 
-  are_in : (own : ℕ) (s : Spot) (bytes : List ℕ) (at stop : ℕ) (ts : List Tree) → at ≤ length bytes → AreTerms arity Below own s bytes at stop ts → (at ≤ stop) × (stop ≤ length bytes)
+  pub are_in : (own : ℕ) (s : Spot) (bytes : List ℕ) (at stop : ℕ) (ts : List Tree) → at ≤ length bytes → AreTerms arity Below own s bytes at stop ts → (at ≤ stop) × (stop ≤ length bytes)
   are_in own s bytes at stop [] le h = (omega (arith, h), omega (arith, h))
   are_in own s bytes at stop (t ∷ ts) le h = let w = within own s bytes at t h.0 in let r = are_in own s bytes (stop_of t) stop ts w.1 h.1 in (omega (arith, w, r), r.1)
 
-  items_in : (own : ℕ) (bytes : List ℕ) (at stop : ℕ) (ts : List Tree) → at ≤ length bytes → AreItems arity Below own bytes at stop ts → (at ≤ stop) × (stop ≤ length bytes)
+  pub items_in : (own : ℕ) (bytes : List ℕ) (at stop : ℕ) (ts : List Tree) → at ≤ length bytes → AreItems arity Below own bytes at stop ts → (at ≤ stop) × (stop ≤ length bytes)
   items_in own bytes at stop [] le h = (omega (arith, h), omega (arith, h))
   items_in own bytes at stop (t ∷ ts) le h = let w = item_in own bytes at t h.0 in let r = items_in own bytes (stop_of t) stop ts w.1 h.1 in (omega (arith, w, r), r.1)
 
-  else_in : (own : ℕ) (bytes : List ℕ) (at stop : ℕ) (ts : List Tree) → at ≤ length bytes → IsElse arity Below own bytes at stop ts → (at ≤ stop) × (stop ≤ length bytes)
+  pub else_in : (own : ℕ) (bytes : List ℕ) (at stop : ℕ) (ts : List Tree) → at ≤ length bytes → IsElse arity Below own bytes at stop ts → (at ≤ stop) × (stop ≤ length bytes)
   else_in own bytes at stop [] le h = (omega (arith, h.1), omega (arith, h.1))
   else_in own bytes at stop (t ∷ ts) le h =
       let lt = slice_get_within bytes at 0xA1 h.0 in

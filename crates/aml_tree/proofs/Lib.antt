@@ -14,5 +14,7 @@ pub mod Shaped
 pub mod Made
 pub mod RefusedBeginnings
 pub mod Refused
+pub mod Inversion
+pub mod SameArity
 pub mod Kept
 pub mod Heads

@@ -11,5 +11,6 @@ pub mod Data
 pub mod Owns
 pub mod Spelled
 pub mod Laws
+pub mod OperatorAt
 pub mod Causes
 pub mod Heads

@@ -15,6 +15,7 @@ mod leaf;
 mod limit;
 mod module;
 mod opening;
+mod operator;
 mod walk;
 
 pub use aml_operators::{Op, Term};
@@ -28,3 +29,4 @@ pub use laws::{
     trees_have_their_shape,
 };
 pub use module::read_module;
+pub use operator::{counts_within_decide, op_at, opcodes_decide};

@@ -4,6 +4,7 @@ use aml_operators::{
     Class, Code, Naming, NumberSize, Op, Piece, Ruling, Spot, item_of_byte, item_pieces, naming_of,
     op_of_code, row_of, ruling_of,
 };
+use aml_tree::op_at;
 
 /// Whether the opcode is the operator's, whose row has this class and as many letters.
 fn has_row(opcode: u16, op: Op, class: Class, letters: usize) -> bool {
@@ -32,6 +33,25 @@ fn rows(rt: HostRuntime) {
     ];
     for (opcode, op, class, letters) in rows {
         assert!(rt; has_row(*opcode, *op, *class, *letters), "{opcode}");
+    }
+}
+
+/// The operator at a place and the place behind its opcode; a name, the end and a lone 5B have none.
+#[test]
+fn operators_at_places(rt: HostRuntime) {
+    let bytes: &[u8] = &[0x70, 0x5B, 0x30, 0x5C, 0x4D, 0xA1, 0x5B];
+    let rows: &[(usize, Option<(Op, usize)>)] = &[
+        (0, Some((Op::Store, 1))),
+        (1, Some((Op::Revision, 3))),
+        (2, None),
+        (3, None),
+        (4, None),
+        (5, None),
+        (6, None),
+        (7, None),
+    ];
+    for (at, wanted) in rows {
+        assert!(rt; op_at(bytes, *at) == *wanted, "{at}");
     }
 }
 
