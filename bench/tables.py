@@ -25,6 +25,7 @@
 | searched_untold | a method MAIN of COUNT statements that are one name, in a scope that is 1,000 segments deep, where at each segment an External spells a path through that name and tells nothing of it |
 | externals | COUNT Externals of methods of one argument at the root, and a body that calls each |
 | deep_externals | COUNT such Externals in a scope that is 10,000 segments deep |
+| long_externals | COUNT such Externals at the root, of names of 255 segments, the first of which differ |
 
 The names of `chosen`, `methods_chosen` and `uses_chosen` are those that whoever writes a table would choose against a
 reader that keeps names in a hash map of the kit: its default hasher has a fixed seed, and these names all begin their
@@ -226,6 +227,8 @@ def body_of(kind, count):
         return b"".join(b"\x15" + name + b"\x08\x01" for name in names) + method(b"MAIN", b"".join(name + b"\x01" for name in names))
     if kind == "deep_externals":
         return MAIN + deep(10_000, b"".join(b"\x15" + name + b"\x08\x01" for name in other_names(count)))
+    if kind == "long_externals":
+        return MAIN + b"".join(b"\x15" + name_of([name] + [b"DEEP"] * 254) + b"\x08\x01" for name in other_names(count))
     raise ValueError(kind)
 
 

@@ -23,7 +23,7 @@ ghost use Rattle.acpi_listing.specs.declared.fault.FaultCause.TheVariants as cau
 use crate::arguments::read_arguments;
 use crate::fault::{Fault, FaultCause, Stop};
 use crate::inputs::Inputs;
-use crate::load::load;
+use crate::load::load_counted;
 use crate::regs::read_registers;
 use crate::source::Source;
 use crate::words::EvalRequest;
@@ -98,7 +98,7 @@ fn evaluate_inputs<F: Source, W: Write>(
         (tables_of inputs.now)) tt tt (W.contents out.old) (W.contents out.new) result }
 {
     let known = interfaces_of(alloc, request.osi)?;
-    let namespace = load(alloc, inputs, known.as_slice(), files)?;
+    let namespace = load_counted(alloc, inputs, known.as_slice(), files)?;
     let (id, method) = find_method(&namespace, request.method)?;
     let body = match namespace.tree(alloc, id) {
         Ok(body) => body,

@@ -41,6 +41,24 @@ pub fn load<'a, F: Source>(
     }
 }
 
+/// The same, for who reads bodies: it is counted once how many arguments the methods take that tables
+/// declare as others'.
+///
+/// Faults: those of `load`.
+pub fn load_counted<'a, F: Source>(
+    alloc: Global,
+    inputs: &'a Inputs,
+    osi: &'a [&'a [u8]],
+    files: &F,
+) -> Result<Namespace<'a>, Fault>
+    ensures { let tables = tables_of inputs.now in
+        Tries (λ ns. IsNamespace (bytes_in osi.entry.now) tables (shown ns)) (FailsToLoad tables) result }
+{
+    let mut namespace = load(alloc, inputs, osi, files)?;
+    namespace.count_externals(alloc)?;
+    Ok(namespace)
+}
+
 // Tells where a table is refused for an If that `--dead-externals` opens.
 fn tell_way_out<F: Source>(inputs: &Inputs, fault: LoadFault, files: &F) {
     let LoadFault::Refused(refusal) = fault else {

@@ -12,7 +12,8 @@ use Rattle.aml_operators.specs.Table.{op_of, class_of, letters_of}
 use Rattle.aml_operators.proofs.Rows.{op_of_finds}
 use Rattle.aml_externals.specs.declared.step.Step.{Step}
 use Rattle.aml_externals.specs.declared.step.Step.TheVariants.{Dead, Enter, Over, Stop}
-use Rattle.aml_externals.specs.Extents.{has_byte, package_at, operator_at, list_at, letters_end, term_end}
+use Rattle.aml_lex.specs.Standing.{has_byte}
+use Rattle.aml_externals.specs.Extents.{package_at, operator_at, list_at, letters_end, term_end}
 use Rattle.aml_externals.specs.DeadIfs.{dead_end, dead_end_of}
 use Rattle.aml_externals.specs.Steps.{over, enter, package_step, letters_step, class_step, operator_step, step_behind, step_of}
 use Rattle.aml_externals.proofs.Changes.{byte_there}

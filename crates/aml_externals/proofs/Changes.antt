@@ -14,7 +14,8 @@ use Rattle.aml_operators.specs.Table.{class_of, letters_of}
 use Rattle.aml_externals.specs.declared.step.Step.{Step}
 use Rattle.aml_externals.specs.declared.step.Step.TheVariants.{Dead, Enter, Over, Stop}
 use Rattle.aml_externals.specs.DeadIfs.{dead_end, dead_end_of, holds_externals, are_externals}
-use Rattle.aml_externals.specs.Extents.{is_some_byte, has_byte, package_at, operator_at, list_at, letters_end, term_end}
+use Rattle.aml_lex.specs.Standing.{has_byte, is_byte}
+use Rattle.aml_externals.specs.Extents.{package_at, operator_at, list_at, letters_end, term_end}
 use Rattle.aml_externals.specs.Steps.{over, enter, package_step, letters_step, class_step, operator_step, step_of, step_behind}
 use Rattle.aml_externals.specs.Opened.{Opened, kept, joined, as_scope, entered, opened_by, opened_until, opened, dead_inside, dead_by, dead_until, dead_in}
 use Rattle.aml_externals.proofs.DeadTurns.{not_below}
@@ -147,7 +148,7 @@ pub dead_step : (d : ℕ) (bytes : List ℕ) (size : ℕ) → step_of d bytes �
 unfolding step_of
 dead_step d bytes size e = dead_step_by d bytes (dead_end bytes) size e
 
-pub byte_there : (b : ℕ) (o : Option ℕ) → is_some_byte b o ≡ true → o ≡ Some b
+pub byte_there : (b : ℕ) (o : Option ℕ) → is_byte b o ≡ true → o ≡ Some b
 byte_there b None e = absurd cc
 byte_there b (Some c) e = ap Some (eqb-true c b e)
 

@@ -21,7 +21,8 @@ use Rattle.aml_tree.specs.Body.{no_arguments}
 use Rattle.aml_tree.specs.Leaf.{end_at, name_at, little_endian_at}
 use Rattle.aml_tree.specs.Opening.{Operator}
 use Rattle.aml_tree.specs.Grammar.{AreTerms, IsTerm}
-use Rattle.aml_externals.specs.Extents.{has_byte, and_then, read_or_none, name_end, bytes_end, package_at, behind as behind_read}
+use Rattle.aml_lex.specs.Standing.{has_byte}
+use Rattle.aml_externals.specs.Extents.{and_then, read_or_none, name_end, bytes_end, package_at, behind as behind_read}
 use Rattle.aml_externals.specs.DeadIfs.{external_end, externals_until, holds_behind, are_externals, dead_end}
 use Rattle.aml_externals.specs.Laws.{AllExternal, DeadIfsAreScopes}
 use Rattle.aml_externals.specs.Reached.{AreDefinitions}

@@ -19,7 +19,8 @@ use Rattle.aml_operators.specs.declared.row.Letter.{Letter}
 use Rattle.aml_operators.specs.declared.row.Letter.TheVariants.{One, Sized, Package, Branch, Terms, Fields, Bytes}
 use Rattle.aml_operators.specs.Table.{op_of, letters_of}
 use Rattle.aml_operators.specs.Places.{size_of}
-use Rattle.aml_externals.specs.Extents.{has_byte, and_then, read_or_none, behind, name_end, text_end, package_at, bytes_end, and_next, long_operator, operator_of, operator_at, piece_end, letters_end, list_at, form_end, term_end}
+use Rattle.aml_lex.specs.Standing.{has_byte}
+use Rattle.aml_externals.specs.Extents.{and_then, read_or_none, behind, name_end, text_end, package_at, bytes_end, and_next, long_operator, operator_of, operator_at, piece_end, letters_end, list_at, form_end, term_end}
 use Rattle.aml_externals.proofs.DeadTurns.{not_below}
 use Rattle.aml_externals.proofs.Scopes.{get_first, get_rest, package_from}
 use Rattle.aml_externals.proofs.Changes.{byte_there}

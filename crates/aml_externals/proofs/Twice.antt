@@ -15,7 +15,8 @@ use Rattle.aml_operators.proofs.Rows.{op_of_finds}
 use Rattle.aml_lex.specs.Reading.{name_string_at}
 use Rattle.aml_externals.specs.declared.step.Step.{Step}
 use Rattle.aml_externals.specs.declared.step.Step.TheVariants.{Dead, Enter, Over, Stop}
-use Rattle.aml_externals.specs.Extents.{has_byte, package_at, name_end, bytes_end, operator_at, list_at, piece_end, letters_end, term_end}
+use Rattle.aml_lex.specs.Standing.{has_byte}
+use Rattle.aml_externals.specs.Extents.{package_at, name_end, bytes_end, operator_at, list_at, piece_end, letters_end, term_end}
 use Rattle.aml_externals.specs.DeadIfs.{external_end, externals_until, holds_behind, dead_end, dead_end_of}
 use Rattle.aml_externals.specs.Steps.{over, step_of}
 use Rattle.aml_externals.specs.Opened.{Opened, kept, joined, entered, opened_by, opened_until, opened, dead_inside, dead_in}

@@ -1,6 +1,7 @@
 -- The `If (Zero)` that a compiler puts round a table's Externals (ACPI 6.5, 19.6.46 and 20.2.5.3).
 use Rattle.std.specs.Prelude.{ℕ, zero, suc, ◌+◌, ◌&&◌, not, Bool, true, false, List, length, take, Option, Some, None, nat_lt, if◌then◌else◌}
-use Rattle.aml_externals.specs.Extents.{has_byte, and_then, name_end, package_at, bytes_end}
+use Rattle.aml_lex.specs.Standing.{has_byte}
+use Rattle.aml_externals.specs.Extents.{and_then, name_end, package_at, bytes_end}
 
 -- the place behind an External: its opcode, a name, its type, and how many arguments it takes
 unfoldable pub external_end : List ℕ → ℕ → Option ℕ

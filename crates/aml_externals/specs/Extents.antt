@@ -1,7 +1,8 @@
 -- How far a definition goes, by the letters of its row (ACPI 6.5, 20.2.5): its parts are read no further than their ends, and a package is stepped over.
-use Rattle.std.specs.Prelude.{ℕ, zero, suc, ◌+◌, ◌==◌, Bool, false, List, [], ◌∷◌, length, Option, Some, None, Result, Ok, Err, nat_lt, slice_get, if◌then◌else◌}
+use Rattle.std.specs.Prelude.{ℕ, zero, suc, ◌+◌, List, [], ◌∷◌, length, Option, Some, None, Result, Ok, Err, nat_lt, if◌then◌else◌}
 use Rattle.aml_lex.specs.declared.fault.LexFault.{LexFault}
 use Rattle.aml_lex.specs.Reading.{package_end_at, name_string_at, string_data_at}
+use Rattle.aml_lex.specs.Standing.{has_byte}
 use Rattle.aml_operators.specs.declared.op.Op.{Op}
 use Rattle.aml_operators.specs.declared.row.Piece.{Piece}
 use Rattle.aml_operators.specs.declared.row.Piece.TheVariants as piece
@@ -24,14 +25,6 @@ read_or_none (Err fault) = None
 abbrev pub behind : {X : Type 0} → Result (X × ℕ) LexFault → Option ℕ
 behind (Ok r) = Some r.1
 behind (Err fault) = None
-
--- such a byte stands at a place
-abbrev pub is_some_byte : ℕ → Option ℕ → Bool
-is_some_byte b None = false
-is_some_byte b (Some c) = c == b
-
-abbrev pub has_byte : ℕ → List ℕ → ℕ → Bool
-has_byte b bytes at = is_some_byte b (slice_get bytes at)
 
 -- the place behind a name string (20.2.2)
 unfoldable pub name_end : List ℕ → ℕ → Option ℕ

@@ -3,7 +3,8 @@
 ghost use Rattle.std.specs.Prelude.{◌≡◌, ◌≤◌, ◌<◌, length, IfSome};
 ghost use Rattle.aml_externals.specs.DeadIfs.{external_end, externals_until, are_externals, holds_externals, dead_end};
 
-use crate::extent::{bytes_end, has_byte, name_end, package};
+use crate::extent::{bytes_end, name_end, package};
+use aml_lex::has_byte;
 
 /// The opcode of an External.
 const EXTERNAL: u8 = 0x15;

@@ -1,20 +1,14 @@
 // How far a definition goes (ACPI 6.5, 20.2.5).
 
 ghost use Rattle.std.specs.Prelude.{◌≡◌, ◌≤◌, ◌<◌, ◌+◌, length, IfSome, Some, None, if◌then◌else◌};
-ghost use Rattle.aml_externals.specs.Extents.{has_byte, name_end, text_end, package_at, bytes_end, operator_at, piece_end, letters_end, list_at, term_end};
+ghost use Rattle.aml_lex.specs.Standing.{has_byte};
+ghost use Rattle.aml_externals.specs.Extents.{name_end, text_end, package_at, bytes_end, operator_at, piece_end, letters_end, list_at, term_end};
 
 use aml_lex::{name_string, package_end, string_data};
 use aml_operators::{Letter, Op, Piece, op_of_code, row_of};
 
 /// What a target place holds for none.
 const NO_TARGET: u8 = 0x00;
-
-/// Whether such a byte stands at a place.
-pub(crate) fn has_byte(byte: u8, bytes: &[u8], at: usize) -> bool
-    ensures { result ≡ has_byte byte bytes.now at }
-{
-    at < bytes.len() && bytes[at] == byte
-}
 
 /// The place behind a name string.
 #[tactic(auto, unfolding(crate::specs::Extents::name_end))]

@@ -23,7 +23,7 @@ mod write;
 pub use buffer::{read_buffer_field, read_wide_buffer_field, write_buffer_field};
 pub use bytes::BitBytes;
 pub use count::{read_count, write_count};
-pub use law::events_are_made;
+pub use law::{events_are_made, limits_count_events};
 pub use part::{made_part, part_numbered, part_value, stored_byte, usable_part};
 pub use reach::field_in;
 pub use read::read_integer_field;

@@ -10,7 +10,6 @@ ghost use Rattle.aml_meaning.specs.BufferFields.{IsLaidOut, bit_in_byte, buffer_
 
 use crate::buffer::{read_buffer_field, read_wide_buffer_field};
 use crate::kernel::byte_replaced;
-use crate::reach::wrapped;
 use crate::source::Bits;
 use aml_kinds::{Bytes, Value};
 use aml_meaning::BufferPart;
@@ -45,7 +44,7 @@ fn bit_in_byte(size: BufferFieldSize, index: u64) -> u8
 pub fn made_part(width: Width, source: Link, size: BufferFieldSize, index: u64) -> BufferPart
     ensures { result ≡ made_part (bits_of width) source size index }
 {
-    let index = wrapped(width, index);
+    let index = width.wrapped(index);
     BufferPart {
         source,
         byte: byte_at(size, index),

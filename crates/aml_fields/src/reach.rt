@@ -1,13 +1,12 @@
 // The fields of a namespace (ACPI 6.5, 19.6, Field, IndexField and BankField).
 
-ghost use Rattle.std.specs.Prelude.{◌≡◌, ◌%◌, ◌^◌, IfSome};
+ghost use Rattle.std.specs.Prelude.{◌≡◌, IfSome};
 ghost use Rattle.aml_namespace.specs.Shows.{shown};
-ghost use Rattle.aml_namespace.specs.Widths.{bits_of};
 ghost use Rattle.aml_regions.specs.Fields.{IsSoundField};
 ghost use Rattle.aml_meaning.specs.Reached.{field_layout, in_region, named, other_bits, plain_field, reached, reached_through, unit_width, usable};
 
 use crate::soundness::{is_known, sound};
-use aml_namespace::{AccessType, Field, Namespace, Object, Reference, Through, UpdateRule, Width};
+use aml_namespace::{AccessType, Field, Namespace, Object, Reference, Through, UpdateRule};
 use aml_regions::{
     AnyField, BankedField, FieldLayout, IndexedField, OtherBits, RegionField, UnitWidth,
 };
@@ -49,7 +48,7 @@ fn through_in(namespace: &Namespace<'_>, through: &Through, layout: FieldLayout)
         } => Some(AnyField::Banked(BankedField {
             field: region_in(namespace, layout, region)?,
             bank: plain_in(namespace, bank)?,
-            value: wrapped(namespace.width(), (*value)?),
+            value: namespace.width().wrapped((*value)?),
         })),
     }
 }
@@ -95,20 +94,10 @@ fn region_in(
     }
     Some(RegionField {
         space: region.space as u8,
-        place: wrapped(namespace.width(), place),
-        length: wrapped(namespace.width(), length),
+        place: namespace.width().wrapped(place),
+        length: namespace.width().wrapped(length),
         layout,
     })
-}
-
-// An integer of a width.
-pub(crate) fn wrapped(width: Width, value: u64) -> u64
-    ensures { result ≡ value % 2 ^ bits_of width }
-{
-    match width {
-        Width::Bits32 => value % 0x1_0000_0000,
-        Width::Bits64 => value,
-    }
 }
 
 // Where a field's bits stand.

@@ -1,6 +1,6 @@
 // What data holds, by its term (ACPI 6.5, 19.6, Name, Buffer and Package).
 
-ghost use Rattle.std.specs.Prelude.{◌≡◌, ◌-◌, ◌++◌, IfOk, drop, length, map, replicate, take};
+ghost use Rattle.std.specs.Prelude.{◌≡◌, ◌-◌, ◌++◌, IfOk, length, map, replicate, take};
 ghost use Rattle.aml_lex.specs.Standing.{bytes_between};
 ghost use Rattle.aml_operators.specs.Tree.{view, views};
 ghost use Rattle.aml_namespace.specs.Shows.{shown};
@@ -14,7 +14,7 @@ use crate::package::Package;
 use crate::told::content_in;
 use crate::value::{Element, Value};
 use aml_namespace::{Content, NamePlace, Namespace, ObjectId, Scope, Width};
-use aml_operators::{Op, Term, literal_in};
+use aml_operators::{Op, Term, behind_first, literal_in};
 use std::alloc::{AllocError, Global};
 
 /// Where data stands.
@@ -252,16 +252,6 @@ fn named(namespace: &Namespace<'_>, site: Site, at: usize) -> Option<ObjectId>
         at,
         scope: site.scope,
     })
-}
-
-/// The terms behind the first.
-fn behind_first(parts: &[Term]) -> &[Term]
-    ensures { result.now ≡ drop 1 parts.now }
-{
-    match parts {
-        [_, rest @ ..] => rest,
-        [] => &[],
-    }
 }
 
 /// So many terms, or all where there are fewer.

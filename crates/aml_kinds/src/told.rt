@@ -3,35 +3,16 @@
 
 ghost use Rattle.std.specs.Prelude.{◌≡◌};
 ghost use Rattle.aml_operators.specs.Tree.{view, views};
-ghost use Rattle.aml_namespace.specs.Made.{buffer_content, content_in, literal, number_in, package_content, size_in, sized_package_content, string_content};
+ghost use Rattle.aml_namespace.specs.Made.{buffer_content, content_in, literal, package_content, sized_package_content, string_content};
 
 use aml_namespace::Content;
-use aml_operators::{Op, Term, literal_of};
+use aml_operators::{Op, Term, literal_of, number_in, size_in};
 
 /// An integer literal, which a module's sizes and counts are.
 fn literal(term: &Term) -> u64
     ensures { result ≡ literal (view term.now) }
 {
     literal_of(term).unwrap_or(0)
-}
-
-/// The number that stands beside an opcode.
-#[tactic(auto, using(aml_operators::proofs::Views::view_out))]
-fn number_in(term: &Term) -> u64
-    ensures { result ≡ number_in (view term.now) }
-{
-    match term.op {
-        Op::Number(number) => number,
-        _ => 0,
-    }
-}
-
-/// The number of bytes of a part.
-#[tactic(auto, using(aml_operators::proofs::Views::view_out))]
-fn size_in(term: &Term) -> u64
-    ensures { result ≡ size_in (view term.now) }
-{
-    term.end.saturating_sub(term.at) as u64
 }
 
 /// What a buffer is, by its parts.

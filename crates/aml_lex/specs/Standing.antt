@@ -1,8 +1,16 @@
 -- What stands at a place of the bytes, where something does (ACPI 6.5, 20.2.2 and 20.2.3).
-use Rattle.std.specs.Prelude.{◌≡◌, ◌≤◌, ℕ, List, length, take, drop, Option, Some, None, Result, Ok, Err}
+use Rattle.std.specs.Prelude.{◌≡◌, ◌≤◌, ◌==◌, ℕ, Bool, false, List, length, take, drop, slice_get, Option, Some, None, Result, Ok, Err}
 use Rattle.aml_lex.specs.declared.fault.LexFault.{LexFault}
 use Rattle.aml_lex.specs.NameStrings.{NameString}
 use Rattle.aml_lex.specs.Reading.{name_string_at, string_data_at}
+
+abbrev pub is_byte : ℕ → Option ℕ → Bool
+is_byte b None = false
+is_byte b (Some c) = c == b
+
+-- whether such a byte stands at a place
+abbrev pub has_byte : ℕ → List ℕ → ℕ → Bool
+has_byte b bytes at = is_byte b (slice_get bytes at)
 
 abbrev pub value_read : {V : Type 0} → Result (V × ℕ) LexFault → Option V
 value_read (Ok r) = Some r.0

@@ -1,13 +1,21 @@
 // What stands at a place, read again.
 
-ghost use Rattle.std.specs.Prelude.{◌≡◌, IsSome, Some};
+ghost use Rattle.std.specs.Prelude.{◌≡◌, ◌<◌, IsSome, Some, length, true};
 ghost use Rattle.std.specs.Option.{option_map};
 ghost use Rattle.aml_lex.specs.Names.{name_of};
-ghost use Rattle.aml_lex.specs.Standing.{name_there, text_there};
+ghost use Rattle.aml_lex.specs.Standing.{has_byte, name_there, text_there};
 
 use crate::name_reader::{find_name_string, name_string};
 use crate::names::NameRef;
 use crate::strings::find_string_data;
+
+/// Whether such a byte stands at a place; false also past the bytes.
+pub fn has_byte(byte: u8, bytes: &[u8], at: usize) -> bool
+    ensures gives { result ≡ has_byte byte bytes.now at }
+    ensures within { result ≡ true → at < length bytes.now }
+{
+    at < bytes.len() && bytes[at] == byte
+}
 
 /// The name string that stands at a place, where one does; None also past the bytes.
 #[tactic(auto, using(crate::proofs::Fronts::name_there_within))]

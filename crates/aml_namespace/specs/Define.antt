@@ -3,7 +3,7 @@ use Rattle.std.specs.Prelude.{ℕ, length, Option, Some, None, Result, Ok}
 use Rattle.aml_operators.specs.declared.op.Op.{Op}
 use Rattle.aml_operators.specs.declared.op.Op.TheVariants as op
 use Rattle.aml_operators.specs.Tree.{Tree, Trees, Node, none, more}
-use Rattle.aml_operators.specs.Literal.{literal_of}
+use Rattle.aml_operators.specs.Literal.{literal_of, number_in}
 use Rattle.aml_lex.specs.NameStrings.{NameString}
 use Rattle.aml_lex.specs.Standing.{name_there}
 use Rattle.aml_namespace.specs.declared.fault.LoadRefusal.{LoadRefusal}
@@ -18,7 +18,7 @@ use Rattle.aml_namespace.specs.Entries.{Entries}
 use Rattle.aml_namespace.specs.Enter.{Here, aliased, entered, opened}
 use Rattle.aml_namespace.specs.Fault.{◌>>=◌}
 use Rattle.aml_namespace.specs.FieldLists.{behind, field_of, list_start}
-use Rattle.aml_namespace.specs.Made.{at_of, number_in, object_of, reference}
+use Rattle.aml_namespace.specs.Made.{at_of, object_of, reference}
 
 -- what a name makes, where one stands; each name of a module does
 abbrev pub where_named : Option NameString → Entries → (NameString → Result Entries LoadRefusal) → Result Entries LoadRefusal

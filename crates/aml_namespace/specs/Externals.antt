@@ -4,6 +4,7 @@ use Rattle.aml_lex.specs.NameStrings.{NameString}
 use Rattle.aml_lex.specs.Standing.{name_there}
 use Rattle.aml_operators.specs.declared.op.Op.{Op}
 use Rattle.aml_operators.specs.declared.op.Op.TheVariants as op
+use Rattle.aml_operators.specs.Literal.{number_in}
 use Rattle.aml_operators.specs.Tree.{Tree, Trees, Node, none, more}
 use Rattle.aml_namespace.specs.declared.external.External.{External}
 use Rattle.aml_namespace.specs.declared.fault.LoadRefusal.{LoadRefusal}
@@ -13,7 +14,7 @@ use Rattle.aml_namespace.specs.declared.object.Object.TheVariants as object
 use Rattle.aml_namespace.specs.Define.{defined}
 use Rattle.aml_namespace.specs.Enter.{Here, entered, opened}
 use Rattle.aml_namespace.specs.Entries.{Entries}
-use Rattle.aml_namespace.specs.Made.{at_of, name_place, number_in}
+use Rattle.aml_namespace.specs.Made.{at_of, name_place}
 
 -- the object type of methods
 abbrev pub method_type : ℕ

@@ -1,6 +1,7 @@
 -- The fields of a field list, one behind the other (ACPI 6.5, 19.6, Field, and 20.2.5.2).
 use Rattle.std.specs.Prelude.{◌==◌, ◌+◌, ◌-◌, ◌^◌, ◌/◌, ◌%◌, ℕ, min, Option, Some, None, true, false, if◌then◌else◌}
 use Rattle.aml_operators.specs.declared.op.Op.TheVariants as op
+use Rattle.aml_operators.specs.Literal.{number_in}
 use Rattle.aml_operators.specs.Tree.{Tree, Trees, Node, none, more}
 use Rattle.aml_namespace.specs.declared.object.Field.{Field}
 use Rattle.aml_namespace.specs.declared.object.Through.{Through}
@@ -10,7 +11,7 @@ use Rattle.aml_namespace.specs.declared.object.AccessType.TheVariants as access
 use Rattle.aml_namespace.specs.declared.object.UpdateRule.{UpdateRule}
 use Rattle.aml_namespace.specs.declared.object.UpdateRule.TheVariants as update
 use Rattle.aml_namespace.specs.declared.fields.Cursor.{Cursor}
-use Rattle.aml_namespace.specs.Made.{at_of, number_in}
+use Rattle.aml_namespace.specs.Made.{at_of}
 
 -- bits 3:0 of a field list's flags, or of an access type
 abbrev pub access_of : ℕ → AccessType

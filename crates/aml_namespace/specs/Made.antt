@@ -2,8 +2,8 @@
 use Rattle.std.specs.Prelude.{◌==◌, ◌-◌, ◌/◌, ◌%◌, ℕ, zero, suc, max, Option, Some, None, unwrap_or}
 use Rattle.aml_operators.specs.declared.op.Op.{Op}
 use Rattle.aml_operators.specs.declared.op.Op.TheVariants as op
-use Rattle.aml_operators.specs.Tree.{Tree, Trees, Node, none, more, stop_of}
-use Rattle.aml_operators.specs.Literal.{literal_of}
+use Rattle.aml_operators.specs.Tree.{Tree, Trees, Node, none, more, size_in, stop_of}
+use Rattle.aml_operators.specs.Literal.{literal_of, number_in}
 use Rattle.aml_namespace.specs.declared.object.Object.{Object}
 use Rattle.aml_namespace.specs.declared.object.Object.TheVariants as object
 use Rattle.aml_namespace.specs.declared.object.NamePlace.{NamePlace}
@@ -19,11 +19,6 @@ use Rattle.aml_namespace.specs.Enter.{Here}
 
 abbrev pub at_of : Tree → ℕ
 at_of (Node o at stop parts) = at
-
--- the number that stands beside an opcode
-abbrev pub number_in : Tree → ℕ
-number_in (Node (op.Number n) at stop parts) = n
-number_in t = 0
 
 -- an integer literal, which a module's sizes, counts and indices are
 abbrev pub literal : Tree → ℕ
@@ -41,10 +36,6 @@ name_place here name = record { table = here.table; at = at_of name; scope = sco
 -- what is named here, and found once all tables are loaded
 abbrev pub reference : Here → Tree → Reference
 reference here name = record { name = name_place here name; object = None }
-
--- how many bytes a part has
-abbrev pub size_in : Tree → ℕ
-size_in (Node o at stop parts) = stop - at
 
 -- the first content of a name: a buffer has the greater of its size and its initialiser's length, a string ends with a 00
 abbrev pub buffer_content : Trees → Content

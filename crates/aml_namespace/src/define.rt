@@ -15,11 +15,11 @@ use crate::external::External;
 use crate::fault::LoadFault;
 use crate::fields::Cursor;
 use crate::here::Here;
-use crate::made::{name_place, number_in, object_of, reference};
+use crate::made::{name_place, object_of, reference};
 use crate::object::{Entry, Field, Object, Through};
 use crate::objects::Objects;
 use aml_lex::name_there;
-use aml_operators::{Op, Term, first_and_rest, literal_of, three, two};
+use aml_operators::{Op, Term, first_and_rest, literal_of, number_in, three, two};
 
 /// The object type of methods.
 const METHOD_TYPE: u64 = 8;

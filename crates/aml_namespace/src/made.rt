@@ -7,26 +7,15 @@ ghost use Rattle.aml_operators.specs.Tree.{view, views};
 ghost use Rattle.aml_namespace.specs.Parts.{HasParts};
 ghost use Rattle.aml_namespace.specs.Kept.{here_of};
 ghost use Rattle.aml_namespace.specs.LookUp.{scope_number};
-ghost use Rattle.aml_namespace.specs.Made.{buffer_content, buffer_field, content_of, data_of, literal, method_of, name_place, named, named_bits, named_buffer_field, named_data, named_method, named_mutex, named_region, number_in, object_of, package_content, reference, scope_numbered, size_in, sized_package_content, string_content};
+ghost use Rattle.aml_namespace.specs.Made.{buffer_content, buffer_field, content_of, data_of, literal, method_of, name_place, named, named_bits, named_buffer_field, named_data, named_method, named_mutex, named_region, object_of, package_content, reference, scope_numbered, sized_package_content, string_content};
 
 use crate::here::Here;
 use crate::object::{
     BufferField, BufferFieldSize, Content, DataName, Method, NamePlace, Object, ObjectId,
     Reference, Region, Scope, Source,
 };
-use aml_operators::{Op, Term, four, literal_of, one, three, two};
+use aml_operators::{Op, Term, four, literal_of, number_in, one, size_in, three, two};
 use aml_tree::Span;
-
-/// The number that stands beside an opcode.
-#[tactic(auto, using(aml_operators::proofs::Views::view_out, aml_operators::proofs::PartsOf::part_count))]
-pub(crate) fn number_in(term: &Term) -> u64
-    ensures { result ≡ number_in (view term.now) }
-{
-    match term.op {
-        Op::Number(number) => number,
-        _ => 0,
-    }
-}
 
 /// An integer literal, which a module's sizes, counts and indices are.
 fn literal(term: &Term) -> u64
@@ -75,14 +64,6 @@ pub(crate) fn reference(here: Here<'_>, name: &Term) -> Reference
         name: name_place(here, name),
         object: None,
     }
-}
-
-/// The number of bytes of a part.
-#[tactic(auto, using(aml_operators::proofs::Views::view_out, aml_operators::proofs::PartsOf::part_count))]
-fn size_in(term: &Term) -> u64
-    ensures { result ≡ size_in (view term.now) }
-{
-    term.end.saturating_sub(term.at) as u64
 }
 
 /// The first content of a name that is a buffer.

@@ -9,6 +9,7 @@ ghost use Rattle.aml_namespace.specs.Entries.{paths_in};
 ghost use Rattle.aml_namespace.specs.Kept.{entries_seen, owned_kept, path_kept};
 ghost use Rattle.aml_namespace.specs.LookUp.{methods_in, owned_paths};
 ghost use Rattle.aml_namespace.specs.Names.{args_of, link_of, method_in};
+ghost use Rattle.aml_namespace.specs.Shows.{IsTold, shown};
 
 use crate::answered::Answered;
 use crate::counted::Counted;
@@ -45,11 +46,10 @@ pub struct Namespace<'a> {
     objects: Objects,
     /// The methods that the tables declare as others', in the order of the bytes.
     externals: Vec<External>,
-    /// How many arguments those take; None where there are none.
+    /// How many arguments those take, once `count_externals` has counted them.
     answered: Option<Answered>,
     methods: Vec<ObjectId>,
     ghost listed: { methods.items ≡ methods_in (entries_seen objects) },
-    ghost untold: { ForNone answered (externals.items ≡ []) },
     ghost told: { ForSome answered (λ a. let paths = paths_in (entries_seen objects) in
         TellsAll (map (λ t. t.now) tables.items) paths externals.items a.counted) },
     ghost bodies: { BodiesWithin (map (λ t. t.now) tables.items) (entries_seen objects) },
@@ -60,12 +60,12 @@ impl<'a> Namespace<'a> {
     ghost use Rattle.std.specs.Option.{option_map};
     ghost use Rattle.aml_tree.specs.Body.{trees_read};
     ghost use Rattle.aml_namespace.specs.LookUp.{looked_up};
-    ghost use Rattle.aml_namespace.specs.Names.{ReadsBodyOf, body_bytes, element_at, is_interface, link_at, link_with_owns, method_at, told_within};
+    ghost use Rattle.aml_namespace.specs.Names.{ReadsBodyOf, body_bytes, element_at, is_interface, link_at, link_with_owns, method_at};
     ghost use Rattle.aml_namespace.specs.Entries.{entry_numbered, object_at, path_numbered};
     ghost use Rattle.aml_namespace.specs.OwnNamesSeen.{owns_seen};
     ghost use Rattle.aml_namespace.specs.Printed.{printed_object};
     ghost use Rattle.aml_namespace.specs.Settled.{named_at};
-    ghost use Rattle.aml_namespace.specs.Shows.{Loads, bytes_in, shown};
+    ghost use Rattle.aml_namespace.specs.Shows.{Loads, bytes_in};
 
     /// Loads a DSDT and any number of SSDTs behind it. Of each table: its header, then its whole module,
     /// then its definitions in the order of the bytes.
@@ -91,16 +91,33 @@ impl<'a> Namespace<'a> {
         objects.settle_chains()?;
         objects.settle(alloc, tables)?;
         let methods = objects.methods(alloc)?;
-        let answered = declared_counts(alloc, &objects, tables, &loaded.externals)?;
         Ok(Namespace {
             tables: Vec::from_slice(alloc, tables)?,
             host,
             width: Width::by_revision(loaded.revision),
             objects,
             externals: loaded.externals,
-            answered,
+            answered: None,
             methods,
         })
+    }
+
+    /// Counts how many arguments the methods take that tables declare as others', and keeps it, so that
+    /// `tree` need not count anew for each body that it reads. Who reads no body spares the memory, which
+    /// may be many times that of the declarations.
+    pub fn count_externals(&mut self, alloc: Global) -> Result<(), NoMemory>
+        ensures { shown self.new ≡ shown self.old }
+    {
+        if self.answered.is_some() {
+            return Ok(());
+        }
+        match self.counted(alloc) {
+            Ok(answered) => {
+                self.answered = answered;
+                Ok(())
+            }
+            Err(_) => Err(NoMemory),
+        }
     }
 
     /// The width of integers, by the DSDT's revision.
@@ -181,20 +198,6 @@ impl<'a> Namespace<'a> {
             ≡ looked_up (shown self.now).entries scope (name_of name.now) }
     {
         Some(ObjectId(self.objects.look_up(scope, name)?))
-    }
-
-    /// How many arguments tables declare of the other's method that a name names within the object with
-    /// this number.
-    fn told_within(&self, id: usize, name: &NameRef<'_>) -> Option<u8>
-        ensures { result ≡ told_within (shown self.now) id (name_of name.now) }
-    {
-        if id >= self.objects.len() {
-            return None;
-        }
-        match &self.answered {
-            Some(answered) => answered.count(id + 1, name),
-            None => None,
-        }
     }
 
     /// The number of the object that the name of a package element names at a place of these bytes, in
@@ -297,9 +300,41 @@ impl<'a> Namespace<'a> {
         ensures { let ns = shown self.now in
             (m : Method) → method_at ns id.0 ≡ Some m → ReadsBodyOf ns id.0 m (trees_read result) }
     {
+        match &self.answered {
+            Some(_) => self.tree_with(alloc, id, &self.answered),
+            None => {
+                let answered = self.counted(alloc)?;
+                self.tree_with(alloc, id, &answered)
+            }
+        }
+    }
+
+    /// What declarations tell of the paths; None where there is none.
+    fn counted(&self, alloc: Global) -> Result<Option<Answered>, AllocError>
+        ensures untold { IfOk result
+            (λ answered. ForNone answered ((shown self.now).externals ≡ [])) }
+        ensures told { IfOk result (λ answered. ForSome answered (IsTold (shown self.now))) }
+    {
+        declared_counts(alloc, &self.objects, &self.tables, &self.externals)
+    }
+
+    /// The statements of a method's body, from what declarations tell of the paths.
+    fn tree_with(
+        &self,
+        alloc: Global,
+        id: ObjectId,
+        answered: &Option<Answered>,
+    ) -> Result<Vec<Term>, TreeFault>
+        requires there { IsSome (method_at (shown self.now) id.0) }
+        requires untold { ForNone answered.now ((shown self.now).externals ≡ []) }
+        requires told { ForSome answered.now (IsTold (shown self.now)) }
+        ensures { let ns = shown self.now in
+            (m : Method) → method_at ns id.0 ≡ Some m → ReadsBodyOf ns id.0 m (trees_read result) }
+    {
         let method = self.method(id).unwrap();
         let inside = Inside {
             namespace: self,
+            answered,
             method: id.0,
         };
         read_body(alloc, self.table(method.table), method.body, &inside)
@@ -307,16 +342,38 @@ impl<'a> Namespace<'a> {
 }
 
 /// The body of a method, in which names take arguments.
-#[derive(Clone, Copy)]
+#[derive(Drop)]
 struct Inside<'a> {
     namespace: &'a Namespace<'a>,
+    /// What declarations tell of the namespace's paths; None where there is none.
+    answered: &'a Option<Answered>,
     /// The method's number.
     method: usize,
+    ghost untold: { ForNone answered.now ((shown namespace.now).externals ≡ []) },
+    ghost told: { ForSome answered.now (IsTold (shown namespace.now)) },
+}
+
+impl Inside<'_> {
+    ghost use Rattle.std.specs.Prelude.{Option};
+    ghost use Rattle.aml_namespace.specs.Names.{told_within};
+
+    /// How many arguments tables declare of the other's method that a name names in the body.
+    fn told(&self, name: &NameRef<'_>) -> Option<u8>
+        ensures { result
+            ≡ told_within (shown self.now.namespace.now) self.now.method (name_of name.now) }
+    {
+        if self.method >= self.namespace.objects.len() {
+            return None;
+        }
+        match self.answered {
+            Some(answered) => answered.count(self.method + 1, name),
+            None => None,
+        }
+    }
 }
 
 impl Arity for Inside<'_> {
     ghost use Rattle.aml_namespace.specs.Names.{counts};
-    ghost use Rattle.aml_namespace.specs.Shows.{shown};
 
     ghost counts = { λ inside. counts (shown inside.namespace.now) inside.method };
 
@@ -324,7 +381,7 @@ impl Arity for Inside<'_> {
         let scope = Scope::At(ObjectId(self.method));
         match self.namespace.objects.look_up(scope, name) {
             Some(number) => args_of(self.namespace.objects.object(number)),
-            None => self.namespace.told_within(self.method, name).unwrap_or(0),
+            None => self.told(name).unwrap_or(0),
         }
     }
 }

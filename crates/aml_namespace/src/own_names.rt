@@ -1,13 +1,14 @@
 // The own names of a method's body (ACPI 6.5, 5.3 and 5.5.2).
 
 ghost use Rattle.std.specs.Prelude.{◌≡◌, ◌++◌, ◌∷◌, [], List, length, map, IfOk, OnOk};
-ghost use Rattle.aml_operators.specs.Tree.{view, views};
-ghost use Rattle.aml_tree.specs.Body.{first_at, made_place, rest_of};
+ghost use Rattle.aml_operators.specs.Tree.{view};
+ghost use Rattle.aml_tree.specs.Body.{made_place};
 ghost use Rattle.aml_namespace.specs.OwnNames.{HasFirsts, own_at, own_made, own_names, own_number};
 
 use crate::memory::NoMemory;
 use aml_lex::{NameSeg, name_there};
-use aml_operators::{Op, Term};
+use aml_operators::Term;
+use aml_tree::made_place;
 use std::alloc::{AllocError, Global};
 use std::collections::BTreeMap;
 
@@ -76,44 +77,6 @@ impl OwnNames {
         ensures { result ≡ own_at bytes.now (owns_seen self.now) at }
     {
         self.number(at, name_there(bytes, at)?.lone_segment()?)
-    }
-}
-
-/// The place of the first part.
-#[tactic(auto, using(aml_operators::proofs::Views::view_out))]
-fn first_place(parts: &[Term]) -> Option<usize>
-    ensures { result ≡ first_at (views parts.now) }
-{
-    match parts {
-        [first, ..] => Some(first.at),
-        [] => None,
-    }
-}
-
-/// The parts behind the first.
-fn behind_first(parts: &[Term]) -> &[Term]
-    ensures { views result.now ≡ rest_of (views parts.now) }
-{
-    match parts {
-        [_, rest @ ..] => rest,
-        [] => parts,
-    }
-}
-
-/// Where the name stands that a Name or a CreateField form makes.
-#[tactic(auto, using(aml_operators::proofs::Views::view_out))]
-fn made_place(term: &Term) -> Option<usize>
-    ensures { result ≡ made_place (view term.now) }
-{
-    match term.op {
-        Op::Name => first_place(&term.parts),
-        Op::CreateBitField
-        | Op::CreateByteField
-        | Op::CreateWordField
-        | Op::CreateDWordField
-        | Op::CreateQWordField => first_place(behind_first(behind_first(&term.parts))),
-        Op::CreateField => first_place(behind_first(behind_first(behind_first(&term.parts)))),
-        _ => None,
     }
 }
 

@@ -1,8 +1,8 @@
-// Integer literals.
+// Integer literals, and numbers beside opcodes.
 
 ghost use Rattle.std.specs.Prelude.{◌≡◌};
 ghost use Rattle.aml_operators.specs.Tree.{view, views};
-ghost use Rattle.aml_operators.specs.Literal.{first_number, literal_in, literal_of};
+ghost use Rattle.aml_operators.specs.Literal.{first_number, literal_in, literal_of, number_in};
 
 use crate::op::Op;
 use crate::term::Term;
@@ -40,4 +40,15 @@ pub fn literal_of(term: &Term) -> Option<u64>
     ensures { result ≡ literal_of (view term.now) }
 {
     literal_in(term.op, &term.parts)
+}
+
+/// The number that stands beside an opcode, as flags, levels and counts do; 0 for any other part.
+#[tactic(auto, using(crate::proofs::Views::view_out))]
+pub fn number_in(term: &Term) -> u64
+    ensures { result ≡ number_in (view term.now) }
+{
+    match term.op {
+        Op::Number(number) => number,
+        _ => 0,
+    }
 }

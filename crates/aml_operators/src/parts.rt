@@ -1,7 +1,7 @@
 // The parts of a term, as many as its operator's letters name.
 
-ghost use Rattle.std.specs.Prelude.{◌≡◌, ◌+◌, ◌<◌, length};
-ghost use Rattle.aml_operators.specs.Tree.{more, none, view, views};
+ghost use Rattle.std.specs.Prelude.{◌≡◌, ◌+◌, ◌<◌, drop, length};
+ghost use Rattle.aml_operators.specs.Tree.{first_at, more, none, rest_of, size_in, view, views};
 
 use crate::term::Term;
 
@@ -61,4 +61,34 @@ pub fn first_and_rest(parts: &[Term]) -> (&Term, &[Term])
         [first, rest @ ..] => (first, rest),
         [] => unreachable!(),
     }
+}
+
+/// The place of the first part; None where there is none.
+#[tactic(auto, using(crate::proofs::Views::view_out))]
+pub fn first_place(parts: &[Term]) -> Option<usize>
+    ensures { result ≡ first_at (views parts.now) }
+{
+    match parts {
+        [first, ..] => Some(first.at),
+        [] => None,
+    }
+}
+
+/// The parts behind the first; none where there is no first.
+pub fn behind_first(parts: &[Term]) -> &[Term]
+    ensures parts { result.now ≡ drop 1 parts.now }
+    ensures views { views result.now ≡ rest_of (views parts.now) }
+{
+    match parts {
+        [_, rest @ ..] => rest,
+        [] => &[],
+    }
+}
+
+/// The number of bytes of a part.
+#[tactic(auto, using(crate::proofs::Views::view_out))]
+pub fn size_in(term: &Term) -> u64
+    ensures { result ≡ size_in (view term.now) }
+{
+    term.end.saturating_sub(term.at) as u64
 }

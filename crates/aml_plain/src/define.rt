@@ -3,7 +3,6 @@
 ghost use Rattle.std.specs.Prelude.{◌≡◌, ◌≤◌, List};
 ghost use Rattle.std.specs.Option.{option_map};
 ghost use Rattle.aml_namespace.specs.declared.object.BufferFieldSize.TheVariants as size;
-ghost use Rattle.aml_operators.specs.Literal.{literal_of};
 ghost use Rattle.aml_operators.specs.Tree.{view, views};
 ghost use Rattle.aml_regions.specs.Events.{Event};
 ghost use Rattle.aml_meaning.specs.declared.definition.Definition.TheVariants as makes;
@@ -19,7 +18,7 @@ use crate::own::{link_of, makes_own};
 use aml_fields::made_part;
 use aml_meaning::{Action, AmlCause, action_of};
 use aml_namespace::{BufferFieldSize, Link};
-use aml_operators::{Term, four, literal_in, three};
+use aml_operators::{Term, four, literal_of, three};
 use std::alloc::Global;
 
 /// The place of the name that the source of a field is, where it is one.
@@ -32,14 +31,6 @@ fn source_of(term: &Term) -> Option<usize>
         Action::Invoke => first_place_if_any(&term.parts),
         _ => None,
     }
-}
-
-/// The number of a term that is an integer literal.
-#[tactic(auto, using(aml_operators::proofs::Views::view_out))]
-fn literal_of(term: &Term) -> Option<u64>
-    ensures { result ≡ literal_of (view term.now) }
-{
-    literal_in(term.op, &term.parts)
 }
 
 /// What a field is made of, by what its source's name means: a data name, also an own one that is no

@@ -4,7 +4,7 @@ ghost use Rattle.std.specs.Prelude.{◌≡◌, ◌<◌, length, IsSome, Some};
 ghost use Rattle.aml_operators.specs.declared.row.Code.TheVariants as code;
 ghost use Rattle.aml_operators.specs.Literal.{literal_in};
 ghost use Rattle.aml_operators.specs.Shape.{AreShaped};
-ghost use Rattle.aml_tree.specs.Body.{first_at};
+ghost use Rattle.aml_operators.specs.Tree.{first_at};
 ghost use Rattle.aml_meaning.specs.Meaning.{is_else};
 ghost use Rattle.aml_plain.specs.Shapes.{IsBranch, IsSplit};
 ghost use Rattle.aml_operators.specs.Tree.{views};

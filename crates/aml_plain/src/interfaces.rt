@@ -4,7 +4,7 @@ ghost use Rattle.std.specs.Prelude.{◌≡◌, map, unwrap_or};
 ghost use Rattle.aml_kinds.specs.Values.{Int};
 ghost use Rattle.aml_kinds.specs.Views.{view};
 ghost use Rattle.aml_operators.specs.Tree.{views};
-ghost use Rattle.aml_tree.specs.Body.{first_at};
+ghost use Rattle.aml_operators.specs.Tree.{first_at};
 ghost use Rattle.aml_meaning.specs.Interfaces.{answered};
 ghost use Rattle.aml_meaning.specs.Meaning.{interface_asked};
 ghost use Rattle.aml_meaning.specs.Runs.{Runs, ruled};

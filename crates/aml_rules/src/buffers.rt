@@ -1,6 +1,6 @@
 // Buffers and strings joined, and how large values are.
 
-ghost use Rattle.std.specs.Prelude.{◌≡◌, ◌+◌, ◌%◌, ◌^◌, ◌++◌, nat_le};
+ghost use Rattle.std.specs.Prelude.{◌≡◌, ◌+◌, ◌++◌, nat_le};
 ghost use Rattle.aml_kinds.specs.Values.{Int};
 ghost use Rattle.aml_kinds.specs.Views.{view};
 ghost use Rattle.aml_meaning.specs.Buffers as rule;
@@ -115,19 +115,9 @@ pub fn size_of(width: Width, operand: Place, value: &Value) -> Result<u64, AmlEr
         rule.size_of (bits_of width) (place_of operand) (view value.now) }
 {
     match value {
-        Value::Buf(bytes) => Ok(wrapped(width, bytes.len())),
-        Value::Str(characters) => Ok(wrapped(width, characters.len())),
-        Value::Pkg(elements) => Ok(wrapped(width, elements.len())),
+        Value::Buf(bytes) => Ok(width.wrapped(bytes.len() as u64)),
+        Value::Str(characters) => Ok(width.wrapped(characters.len() as u64)),
+        Value::Pkg(elements) => Ok(width.wrapped(elements.len() as u64)),
         Value::Int(_) => Err(error_at(AmlCause::Kind, operand)),
-    }
-}
-
-/// A number modulo 2 to the width.
-fn wrapped(width: Width, number: usize) -> u64
-    ensures { result ≡ number % 2 ^ bits_of width }
-{
-    match width {
-        Width::Bits32 => number as u64 % 0x1_0000_0000,
-        Width::Bits64 => number as u64,
     }
 }

@@ -24,7 +24,8 @@ use Rattle.aml_tree.specs.Begins.{HasNoTarget}
 use Rattle.aml_tree.proofs.Combining.{of_ok}
 use Rattle.aml_tree.proofs.Leaves.{end_in}
 use Rattle.aml_tree.proofs.Beginnings.{opening_full}
-use Rattle.aml_tree.specs.Reading.{is_byte, item_next, terms_until, terms_counted, connection_at, piece_at, pieces_at, item_of_kind, item_at, items_until, else_at, parts_at, form_at, deepest_at, term_at}
+use Rattle.aml_lex.specs.Standing.{is_byte}
+use Rattle.aml_tree.specs.Reading.{item_next, terms_until, terms_counted, connection_at, piece_at, pieces_at, item_of_kind, item_at, items_until, else_at, parts_at, form_at, deepest_at, term_at}
 use Rattle.aml_tree.specs.Grammar.{AreTerms, IsConnection, IsPiece, ArePieces, IsItem, AreItems, IsElse, Meets, Follows, IsNameLeaf, IsTerm}
 use Rattle.aml_tree.proofs.Bounds.{item_in, term_in}
 

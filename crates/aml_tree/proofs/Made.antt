@@ -9,9 +9,9 @@ use Rattle.aml_operators.specs.declared.row.Letter.TheVariants.{One}
 use Rattle.aml_operators.specs.declared.row.Piece.{Piece}
 use Rattle.aml_operators.specs.declared.row.Piece.TheVariants as piece
 use Rattle.aml_operators.specs.Shape.{GoBy, IsShaped}
-use Rattle.aml_operators.specs.Tree.{Tree, Trees, Node, none, more}
+use Rattle.aml_operators.specs.Tree.{Tree, Trees, Node, none, more, first_at, rest_of}
 use Rattle.aml_lex.specs.Standing.{HasName, name_there}
-use Rattle.aml_tree.specs.Body.{first_at, rest_of, made_place}
+use Rattle.aml_tree.specs.Body.{made_place}
 use Rattle.aml_tree.specs.Spelled.{IsSpelled, IsSpelledAt, AreSpelled}
 
 name_is_there : (bytes : List ℕ) (at stop : ℕ) → HasName bytes at stop → IsSome (name_there bytes at)

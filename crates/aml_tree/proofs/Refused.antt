@@ -20,7 +20,8 @@ use Rattle.aml_lex.specs.declared.names.NameSeg.{NameSeg}
 use Rattle.aml_tree.specs.declared.fault.Refusal.{Refusal}
 use Rattle.aml_tree.specs.Leaf.{byte_at}
 use Rattle.aml_tree.specs.Opening.{Opening, NoTarget, PlainName, InvokedName, Operator}
-use Rattle.aml_tree.specs.Reading.{is_byte, item_next, terms_until, terms_counted, connection_at, piece_at, pieces_at, item_of_kind, item_at, items_until, else_at, parts_at, form_at, deepest_at, term_at}
+use Rattle.aml_lex.specs.Standing.{is_byte}
+use Rattle.aml_tree.specs.Reading.{item_next, terms_until, terms_counted, connection_at, piece_at, pieces_at, item_of_kind, item_at, items_until, else_at, parts_at, form_at, deepest_at, term_at}
 use Rattle.aml_tree.specs.Grammar.{AreTerms, AreItems, FaultyTerms, FaultyConnection, FaultyPiece, FaultyPieces, FaultyItem, FaultyElse, FaultyParts, FaultyForm, IsTerm, Faulty}
 use Rattle.aml_tree.specs.Body.{with_owns, owns_behind, greatest_depth, no_arguments, module_start, AreStatements, FaultyModule, body_until, module_at}
 use Rattle.aml_tree.specs.Laws.{OneModuleFault, OneBodyFault}

@@ -27,7 +27,8 @@ use Rattle.aml_tree.proofs.Combining.{then_answers, and_answers, weaker, by_test
 use Rattle.aml_tree.proofs.Leaves.{Ended, byte_is, end_in}
 use Rattle.aml_tree.proofs.Beginnings.{Fits}
 use Rattle.aml_operators.specs.Literal.{literal_of}
-use Rattle.aml_tree.specs.Reading.{is_byte, item_next, is_above, terms_until, terms_counted, connection_at, piece_at, pieces_at, item_of_kind, item_at, items_until, else_at, parts_at, form_at}
+use Rattle.aml_lex.specs.Standing.{is_byte}
+use Rattle.aml_tree.specs.Reading.{item_next, is_above, terms_until, terms_counted, connection_at, piece_at, pieces_at, item_of_kind, item_at, items_until, else_at, parts_at, form_at}
 use Rattle.aml_tree.specs.Grammar.{AreTerms, IsConnection, IsPiece, ArePieces, IsItem, AreItems, IsElse, Meets, Follows, IsNameLeaf, FaultyTerms, FaultyConnection, FaultyPiece, FaultyPieces, FaultyItem, FaultyItems, FaultyElse, FaultyParts, FaultyForm}
 use Rattle.aml_tree.proofs.Bounds.{piece_in, item_in}
 

@@ -1,5 +1,5 @@
 -- Reading terms from left to right by their operand letters, with the first fault that is met.
-use Rattle.std.specs.Prelude.{◌≡◌, ℕ, zero, suc, ◌+◌, ◌-◌, List, [], ◌∷◌, ◌++◌, length, take, Option, Some, None, Result, Ok, Err, nat_lt, ◌==◌, ◌||◌, ◌&&◌, slice_get, if◌then◌else◌, Bool, false}
+use Rattle.std.specs.Prelude.{◌≡◌, ℕ, zero, suc, ◌+◌, ◌-◌, List, [], ◌∷◌, ◌++◌, length, take, Option, Some, None, Result, Ok, Err, nat_lt, ◌||◌, ◌&&◌, if◌then◌else◌, Bool, false}
 use Rattle.aml_operators.specs.declared.op.Op.{Op}
 use Rattle.aml_operators.specs.declared.op.Op.TheVariants as op
 use Rattle.aml_operators.specs.declared.row.Code.{Code}
@@ -17,6 +17,7 @@ use Rattle.aml_operators.specs.Fields.{item_of, pieces_of}
 use Rattle.aml_operators.specs.Literal.{literal_of}
 use Rattle.aml_operators.specs.Tree.{Tree, Node, none, trees, stop_of}
 use Rattle.aml_lex.specs.NameStrings.{NameString}
+use Rattle.aml_lex.specs.Standing.{has_byte}
 use Rattle.aml_lex.specs.declared.fault.LexCause.TheVariants.{BadName}
 use Rattle.aml_tree.specs.declared.fault.TreeCause.TheVariants.{Lexical, TooDeep, TooLarge}
 use Rattle.aml_tree.specs.declared.fault.TreeFault.{TreeFault}
@@ -41,10 +42,6 @@ abbrev pub item_next : Op → ℕ → ℕ
 item_next op.NamedField at = at
 item_next o at = at + 1
 
-abbrev pub is_byte : ℕ → Option ℕ → Bool
-is_byte b None = false
-is_byte b (Some c) = c == b
-
 -- a term below: of the operator that asks for it, in such a place, in bytes, from a place on
 module _ (arity : NameString → ℕ → ℕ) (below : ℕ → Spot → List ℕ → ℕ → Result Tree Refusal) where
   -- terms up to the end of the bytes, behind those in front
@@ -63,7 +60,7 @@ module _ (arity : NameString → ℕ → ℕ) (below : ℕ → Spot → List ℕ
 
   -- what a field list connects to: a buffer, or the name of one
   unfoldable pub connection_at : ℕ → List ℕ → ℕ → Result Tree Refusal
-  connection_at own bytes at = if is_byte 0x11 (slice_get bytes at) then below own spot.Connection bytes at else (do
+  connection_at own bytes at = if has_byte 0x11 bytes at then below own spot.Connection bytes at else (do
     r ← name_at bytes at
     Ok (Node op.NameString at r.1 none))
 
@@ -112,7 +109,7 @@ module _ (arity : NameString → ℕ → ℕ) (below : ℕ → Spot → List ℕ
 
   -- the other block of an If, where one stands behind it
   unfoldable pub else_at : ℕ → List Tree → List ℕ → ℕ → Result (List Tree × ℕ) Refusal
-  else_at own front bytes at = if is_byte 0xA1 (slice_get bytes at) then (do
+  else_at own front bytes at = if has_byte 0xA1 bytes at then (do
     p ← end_at bytes (at + 1)
     r ← terms_until own spot.Statement (take p.0 bytes) (length (take p.0 bytes)) [] p.1
     Ok (front ++ Node op.Else at p.0 (trees r.0) ∷ [], p.0)) else Ok (front, at)

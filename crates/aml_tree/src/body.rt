@@ -1,7 +1,7 @@
 // A method's body (ACPI 6.5, 20.2.5), in which the names that it makes take no arguments.
 
 ghost use Rattle.std.specs.Prelude.{◌≡◌, ◌≤◌, ◌<◌, ◌↔◌, List, length, take, IsTrue, IfOk, IfErr, OnOk, []};
-ghost use Rattle.aml_operators.specs.Tree.{view, views};
+ghost use Rattle.aml_operators.specs.Tree.{view};
 ghost use Rattle.aml_operators.specs.declared.term.Term.{out-Term};
 ghost use Rattle.aml_operators.specs.declared.row.Code.TheVariants as code;
 ghost use Rattle.aml_operators.specs.declared.row.Spot.TheVariants as spot;
@@ -11,14 +11,14 @@ ghost use Rattle.aml_tree.specs.Fault.{ReadsAs};
 ghost use Rattle.aml_tree.specs.Reading.{term_at};
 ghost use Rattle.aml_tree.specs.Spelled.{IsSpelled};
 ghost use Rattle.aml_tree.specs.Owns.{is_kept, with_kept, Keeps};
-ghost use Rattle.aml_tree.specs.Body.{first_at, rest_of, made_place, segment_at, greatest_depth, owns_behind, body_until, ReadsBody, trees_of, trees_read};
+ghost use Rattle.aml_tree.specs.Body.{made_place, segment_at, greatest_depth, owns_behind, body_until, ReadsBody, trees_of, trees_read};
 
 use crate::arity::Arity;
 use crate::fault::TreeFault;
 use crate::module::GREATEST_DEPTH;
 use crate::walk::Reader;
 use aml_lex::{NameRef, NameSeg, standing_name};
-use aml_operators::{Code, Op, Spot, Term};
+use aml_operators::{Code, Op, Spot, Term, behind_first, first_place};
 use std::alloc::Global;
 use std::collections::BTreeSet;
 
@@ -70,30 +70,9 @@ fn is_own(owns: &BTreeSet<NameSeg>, name: &NameRef<'_>) -> bool
     }
 }
 
-/// The place of the first part behind so many.
+/// Where the name stands that a Name or a CreateField form makes; None for any other term.
 #[tactic(auto, using(aml_operators::proofs::Views::view_out))]
-fn first_place(parts: &[Term]) -> Option<usize>
-    ensures { result ≡ first_at (views parts.now) }
-{
-    match parts {
-        [first, ..] => Some(first.at),
-        [] => None,
-    }
-}
-
-/// The parts behind the first.
-fn behind_first(parts: &[Term]) -> &[Term]
-    ensures { views result.now ≡ rest_of (views parts.now) }
-{
-    match parts {
-        [_, rest @ ..] => rest,
-        [] => parts,
-    }
-}
-
-/// Where the name stands that a Name or a CreateField form makes.
-#[tactic(auto, using(aml_operators::proofs::Views::view_out))]
-fn place_made(term: &Term) -> Option<usize>
+pub fn made_place(term: &Term) -> Option<usize>
     ensures { result ≡ made_place (view term.now) }
 {
     match term.op {
@@ -115,7 +94,7 @@ fn segment_made(bytes: &[u8], term: &Term) -> Option<NameSeg>
     requires spelled { IsSpelled bytes.now (view term.now) }
     ensures { seg_bytes result ≡ segment_at bytes.now (made_place (view term.now)) }
 {
-    let at = place_made(term)?;
+    let at = made_place(term)?;
     standing_name(bytes, at).lone_segment()
 }
 

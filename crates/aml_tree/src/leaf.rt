@@ -1,12 +1,11 @@
 // Parts without parts of their own.
 
-ghost use Rattle.std.specs.Prelude.{◌≡◌, ◌≤◌, ◌<◌, ◌+◌, length, IfOk, slice_get, true};
+ghost use Rattle.std.specs.Prelude.{◌≡◌, ◌≤◌, ◌<◌, ◌+◌, length, IfOk};
 ghost use Rattle.aml_lex.specs.Names.{name_of};
 ghost use Rattle.aml_operators.specs.Places.{size_of};
 ghost use Rattle.aml_tree.specs.Fault.{ReadsAs, TakesNone, same, refusal};
 ghost use Rattle.aml_lex.specs.declared.fault.LexCause.TheVariants.{Truncated};
 ghost use Rattle.aml_tree.specs.Leaf.{byte_at, end_at, name_at, bits_at, text_at, little_endian_at};
-ghost use Rattle.aml_tree.specs.Reading.{is_byte};
 
 use crate::fault::{Refusal, TreeCause, TreeFault};
 use aml_lex::{LexCause, NameRef, name_string, package_end, pkg_length, string_data};
@@ -35,14 +34,6 @@ pub(crate) fn byte(bytes: &[u8], at: usize) -> Result<u8, TreeFault>
         return Err(truncated(bytes));
     }
     Ok(bytes[at])
-}
-
-/// Whether such a byte stands at a place.
-pub(crate) fn has_byte(byte: u8, bytes: &[u8], at: usize) -> bool
-    ensures gives { result ≡ is_byte byte (slice_get bytes.now at) }
-    ensures within { result ≡ true → at < length bytes.now }
-{
-    at < bytes.len() && bytes[at] == byte
 }
 
 /// A package's end, and the place behind its PkgLength.

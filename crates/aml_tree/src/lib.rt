@@ -20,7 +20,7 @@ mod walk;
 
 pub use aml_operators::{Op, Term};
 pub use arity::{Arity, NoArguments};
-pub use body::{Span, read_body};
+pub use body::{Span, made_place, read_body};
 pub use data::read_data;
 pub use fault::{Refusal, TreeCause, TreeFault};
 pub use head::{Head, data_head, element_head};

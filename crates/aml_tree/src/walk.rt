@@ -10,10 +10,10 @@ ghost use Rattle.aml_tree.specs.Reading.{Adds, item_next, deepest_at, term_at, f
 
 use crate::arity::Arity;
 use crate::fault::{TreeCause, TreeFault};
-use crate::leaf::{bits, byte, end, has_byte, name, number, text};
+use crate::leaf::{bits, byte, end, name, number, text};
 use crate::limit::is_too_large;
 use crate::opening::{Opening, is_none, open_term, refuse};
-use aml_lex::LexCause;
+use aml_lex::{LexCause, has_byte};
 use aml_operators::{
     Code, Letter, Op, Piece, Spot, Term, count_of, item_of_byte, item_pieces, literal_of, row_of,
 };

@@ -52,13 +52,19 @@ fn statements_of(alloc: Global, ns: &Namespace<'_>, method: ObjectId) -> Result<
     Ok(ns.tree(alloc, method)?.len())
 }
 
+/// The bodies are the same whether Externals were counted before or are counted for each.
 #[test]
 fn declared_counts(rt: HostRuntime) -> Result<(), Fail> {
     let first = dsdt_of(rt.alloc(), CALLERS)?;
     let second = ssdt_of(rt.alloc(), DECLARED_LATER)?;
-    let ns = Namespace::load(rt.alloc(), &[&first, &second], HOST)?;
+    let uncounted = Namespace::load(rt.alloc(), &[&first, &second], HOST)?;
+    let mut counted = Namespace::load(rt.alloc(), &[&first, &second], HOST)?;
+    counted.count_externals(rt.alloc())?;
     for (method, wanted) in STATEMENTS {
-        let statements = statements_of(rt.alloc(), &ns, ObjectId(*method))?;
+        let id = ObjectId(*method);
+        let statements = statements_of(rt.alloc(), &uncounted, id)?;
+        assert_eq!(rt; statements, *wanted, "{method}");
+        let statements = statements_of(rt.alloc(), &counted, id)?;
         assert_eq!(rt; statements, *wanted, "{method}");
     }
     Ok(())
@@ -76,10 +82,13 @@ fn want_of_memory_for_declarations(rt: HostRuntime) -> Result<(), Fail> {
         Err(AllocError) => callers(rt.alloc())?,
     };
     let tables: &[&[u8]] = &[&first, &second];
-    let ns = match Namespace::load(rt.alloc(), tables, HOST) {
+    let mut ns = match Namespace::load(rt.alloc(), tables, HOST) {
         Ok(ns) => ns,
         Err(_) => Namespace::load(rt.alloc(), tables, HOST)?,
     };
+    if ns.count_externals(rt.alloc()).is_err() {
+        ns.count_externals(rt.alloc())?;
+    }
     assert_eq!(rt; (ns.len(), ns.methods().len()), (20, 9));
     Ok(())
 }

@@ -1,8 +1,6 @@
 use Rattle.std.proofs.Common.{List, ℕ, length, sym, ap, ◌∙◌, subst}
 use Rattle.aml_namespace.specs.Bodies.{BodiesWithin}
-use Rattle.aml_namespace.specs.declared.external.External.{External}
-use Rattle.aml_namespace.specs.Counted.{TellsAll}
-use Rattle.aml_namespace.specs.Entries.{Entries, paths_in}
+use Rattle.aml_namespace.specs.Entries.{Entries}
 use Rattle.aml_namespace.specs.Kept.{entries_seen}
 use Rattle.aml_namespace.specs.Load.{AllMake}
 use Rattle.aml_namespace.specs.Settled.{settled}
@@ -21,9 +19,3 @@ invariant_of-result-clause-bodies c =
     let within = settled_bodies tables entries (bodies_within tables (length c.args.host.os.now) entries made) in
     let kept = subst (BodiesWithin tables) (sym settled_are) within in
     subst (λ (ts : List (List ℕ)). BodiesWithin ts (entries_seen c.settle.new.self)) (ap bytes_in (sym c.in_ok-from_slice.ensures.items)) kept
-
-pub invariant_of-result-clause-told : goal.invariant_of-result-clause-told
-invariant_of-result-clause-told c = λ answered is.
-    let paths = paths_in (entries_seen c.settle.new.self) in
-    let told = subst (λ (es : List External). TellsAll (bytes_in c.args.tables.now) paths es answered.counted) c.deref.ensures.value (c.in_ok-answered.ensures.told answered is) in
-    subst (λ (ts : List (List ℕ)). TellsAll ts paths c.in-Ok.loaded.externals.items answered.counted) (ap bytes_in (sym c.in_ok-from_slice.ensures.items)) told
