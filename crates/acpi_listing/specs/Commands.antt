@@ -16,8 +16,8 @@ use Rattle.aml_kinds.specs.Values.{Value, Int}
 use Rattle.aml_meaning.specs.State as State
 use Rattle.aml_regions.specs.Events.{Event}
 use Rattle.aml_plain.specs.Methods.{Evaluates}
-use Rattle.aml_plain.specs.declared.body.Outcome.{Outcome}
-use Rattle.aml_plain.specs.declared.body.Outcome.TheVariants.{Done, AmlError, OutOfSteps}
+use Rattle.aml_meaning.specs.declared.outcome.Outcome.{Outcome}
+use Rattle.aml_meaning.specs.declared.outcome.Outcome.TheVariants.{Done, AmlError, OutOfSteps}
 use Rattle.acpi_listing.specs.Arguments.{ListsArguments, ListsBadArguments}
 use Rattle.acpi_text.specs.Events.{events_text}
 use Rattle.acpi_text.specs.Lists.{Lists}

@@ -9,8 +9,8 @@ use Rattle.aml_kinds.specs.Values.{Value}
 use Rattle.aml_kinds.specs.Views.{view}
 use Rattle.aml_namespace.specs.Entries.{Entries}
 use Rattle.aml_tree.specs.declared.fault.Refusal.{Refusal}
-use Rattle.aml_plain.specs.declared.body.Outcome.{Outcome}
-use Rattle.aml_plain.specs.declared.body.Outcome.TheVariants as outcome
+use Rattle.aml_meaning.specs.declared.outcome.Outcome.{Outcome}
+use Rattle.aml_meaning.specs.declared.outcome.Outcome.TheVariants as outcome
 
 -- the line of a value that a method gave
 unfoldable pub result_line : Entries → Value → List ℕ

@@ -9,9 +9,8 @@ ghost use Rattle.aml_namespace.specs.Shows.{shown};
 use crate::values::push_value;
 use crate::writing::{RunFault, put};
 use aml_kinds::Value;
-use aml_meaning::AmlError;
+use aml_meaning::{AmlError, Outcome};
 use aml_namespace::Namespace;
-use aml_plain::Outcome;
 use std::alloc::{AllocError, Global};
 use std::io::Write;
 

@@ -11,6 +11,7 @@ mod definition;
 mod error;
 mod law;
 mod mutex;
+mod outcome;
 mod part;
 
 pub use action::{Action, Arithmetic, Bitwise, Comparison, Conversion, Pause, action_of};
@@ -21,4 +22,5 @@ pub use law::{
     set_bits_are_found, sleeps_are_answered, terms_take_a_step,
 };
 pub use mutex::TakenMutex;
+pub use outcome::Outcome;
 pub use part::BufferPart;

@@ -5,28 +5,19 @@ ghost use Rattle.aml_kinds.specs.Views as values;
 ghost use Rattle.aml_operators.specs.declared.row.Code.TheVariants as code;
 ghost use Rattle.aml_operators.specs.Shape.{AreShaped};
 ghost use Rattle.aml_operators.specs.Tree.{views};
-ghost use Rattle.aml_plain.specs.Tells.{EvaluatesBody, names_of, outcome_of, setting_of};
+ghost use Rattle.aml_machine.specs.Views.{names_of};
+ghost use Rattle.aml_plain.specs.Tells.{EvaluatesBody, outcome_of, setting_of};
 
 use crate::eval::eval_body;
-use crate::frame::Frame;
 use crate::halt::{Halt, Setting};
-use crate::machine::Machine;
 use aml_kinds::{Names, Value};
-use aml_meaning::{AmlCause, AmlError};
+use aml_machine::{Frame, Machine};
+use aml_meaning::{AmlCause, AmlError, Outcome};
 use aml_namespace::NoMemory;
 use aml_operators::Term;
 use aml_regions::World;
 use std::alloc::Global;
 use std::mem;
-
-/// How an evaluation ends.
-#[derive(Drop)]
-pub enum Outcome {
-    /// The body ended: with a Return's value, or without.
-    Done(Option<Value>),
-    AmlError(AmlError),
-    OutOfSteps,
-}
 
 /// Evaluates a body where it stands, with its arguments and at most so many steps.
 ///

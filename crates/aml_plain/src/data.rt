@@ -5,7 +5,8 @@ ghost use Rattle.aml_operators.specs.Tree.{views};
 ghost use Rattle.aml_meaning.specs.declared.action.Action.TheVariants as does;
 ghost use Rattle.aml_meaning.specs.Meaning.{act};
 ghost use Rattle.aml_meaning.specs.Runs.{Runs};
-ghost use Rattle.aml_plain.specs.Tells.{setting_of, told, value_of};
+ghost use Rattle.aml_machine.specs.Views.{value_of};
+ghost use Rattle.aml_plain.specs.Tells.{setting_of, told};
 
 use crate::halt::{Halt, Setting, fails};
 use aml_kinds::{Value, body_data, computed_size};

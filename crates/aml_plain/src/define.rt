@@ -9,13 +9,16 @@ ghost use Rattle.aml_meaning.specs.declared.definition.Definition.TheVariants as
 ghost use Rattle.aml_meaning.specs.Definitions.{defined, field_source, make_field, source_of};
 ghost use Rattle.aml_meaning.specs.Runs.{Runs};
 ghost use Rattle.aml_plain.specs.Shapes.{HasParts, counted_field, sized_field};
-ghost use Rattle.aml_plain.specs.Tells.{itself, now, setting_of, told, went};
+ghost use Rattle.aml_machine.specs.Views.{now};
+ghost use Rattle.aml_plain.specs.Tells.{itself, setting_of, told, went};
 
+use crate::contents;
 use crate::form::first_place_if_any;
 use crate::halt::{Halt, Setting, fails};
-use crate::machine::Machine;
 use crate::own::{link_of, makes_own};
+use crate::steps::take_step;
 use aml_fields::made_part;
+use aml_machine::Machine;
 use aml_meaning::{Action, AmlCause, action_of};
 use aml_namespace::{BufferFieldSize, Link};
 use aml_operators::{Term, four, literal_of, three};
@@ -77,7 +80,7 @@ fn make_field(
     };
     let source = field_source(here, at, link_of(here, from), machine)?;
     let part = made_part(here.scene.width, source, size, index);
-    machine.define_field(alloc, here, part)
+    contents::define_field(alloc, here, part, machine)
 }
 
 /// A field that is as large as its operator says, with its step. A6 at the opcode where its name may not
@@ -97,7 +100,7 @@ pub fn sized_field(
     ensures falls { machine.new.steps ≤ machine.old.steps }
 {
     let (source, index, name) = three(parts);
-    machine.take_step()?;
+    take_step(machine)?;
     if makes_own(here, name.at) {
         let from = source_of(source);
         make_field(
@@ -140,7 +143,7 @@ pub fn counted_field(
     ensures falls { machine.new.steps ≤ machine.old.steps }
 {
     let (source, index, count, name) = four(parts);
-    machine.take_step()?;
+    take_step(machine)?;
     if makes_own(here, name.at) {
         let from = source_of(source);
         let size = counted(literal_of(count));

@@ -11,12 +11,14 @@ ghost use Rattle.aml_meaning.specs.FieldValues.{takes_buffer, wanted_field};
 ghost use Rattle.aml_meaning.specs.Meaning.{bits_stored, field_read, field_stored};
 ghost use Rattle.aml_meaning.specs.Reached.{field_numbered};
 ghost use Rattle.aml_meaning.specs.Runs.{Runs, ruled};
-ghost use Rattle.aml_plain.specs.Tells.{itself, now, place_in, setting_of, told, value_of, went};
+ghost use Rattle.aml_machine.specs.Views.{now, value_of};
+ghost use Rattle.aml_plain.specs.Tells.{itself, place_in, setting_of, told, went};
 
 use crate::halt::{Halt, Setting, fails};
-use crate::machine::Machine;
+use crate::steps::take_step;
 use aml_fields::{BitBytes, Bits, field_in, read_count, read_field, write_count, write_field};
 use aml_kinds::Value;
+use aml_machine::Machine;
 use aml_meaning::AmlCause;
 use aml_namespace::{Namespace, Object, ObjectId, Width};
 use aml_regions::{AnyField, World};
@@ -150,7 +152,7 @@ pub fn field_stored<W: World>(
         (now machine.old (W.log world.old)) (now machine.new (W.log world.new)) }
     ensures falls { machine.new.steps ≤ machine.old.steps }
 {
-    machine.take_step()?;
+    take_step(machine)?;
     let field = wanted_field(here, at, id)?;
     match stored {
         Value::Int(number) => write_bits(&field, number, machine, world),

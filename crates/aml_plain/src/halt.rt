@@ -7,7 +7,8 @@ ghost use Rattle.aml_meaning.specs.Meaning.{want};
 ghost use Rattle.aml_meaning.specs.Runs.{By, Runs, method_result};
 ghost use Rattle.aml_meaning.specs.State.{error};
 ghost use Rattle.aml_plain.specs.Stores.{dropped};
-ghost use Rattle.aml_plain.specs.Tells.{halted, setting_of, told, value_of, went};
+ghost use Rattle.aml_machine.specs.Views.{value_of};
+ghost use Rattle.aml_plain.specs.Tells.{halted, setting_of, told, went};
 
 pub use crate::setting::{Scene, Setting};
 use aml_kinds::Value;

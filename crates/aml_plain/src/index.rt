@@ -15,13 +15,15 @@ ghost use Rattle.aml_meaning.specs.Actions.{action};
 ghost use Rattle.aml_meaning.specs.Runs.{Runs};
 ghost use Rattle.aml_operators.specs.declared.term.Term.TheViews.{out-Term};
 ghost use Rattle.aml_operators.specs.Tree.{views};
-ghost use Rattle.aml_plain.specs.Tells.{IsChanged, itself, names_of, now, place_in, setting_of, told, went};
+ghost use Rattle.aml_machine.specs.Views.{names_of, now};
+ghost use Rattle.aml_plain.specs.Tells.{IsChanged, itself, place_in, setting_of, told, went};
 
 use crate::halt::{Halt, Setting, fails};
-use crate::machine::Machine;
 use crate::own::link_of;
 use crate::rules::byte_stored;
+use crate::steps::take_step;
 use aml_kinds::{Names, Value};
+use aml_machine::Machine;
 use aml_meaning::{Action, AmlCause, action_of};
 use aml_namespace::{Link, ObjectId};
 use aml_operators::{Term, first_and_rest};
@@ -38,7 +40,7 @@ fn refused(
         (now machine.old log) (now machine.new log) }
     ensures falls { machine.new.steps ≤ machine.old.steps }
 {
-    machine.take_step()?;
+    take_step(machine)?;
     Err(fails(cause, here, at))
 }
 

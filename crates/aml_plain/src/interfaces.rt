@@ -11,13 +11,14 @@ ghost use Rattle.aml_meaning.specs.Runs.{Runs, ruled};
 ghost use Rattle.aml_namespace.specs.Names.{is_interface};
 ghost use Rattle.aml_namespace.specs.Shows.{shown};
 ghost use Rattle.aml_namespace.specs.Widths.{bits_of};
-ghost use Rattle.aml_plain.specs.Tells.{place_in, setting_of, told, value_of};
+ghost use Rattle.aml_machine.specs.Views.{value_of};
+ghost use Rattle.aml_plain.specs.Tells.{place_in, setting_of, told};
 
 use crate::halt::{Halt, Setting, fails};
-use crate::integer::truth;
 use aml_kinds::Value;
 use aml_meaning::AmlCause;
 use aml_operators::Term;
+use aml_rules::truth;
 
 /// The place of the first of some arguments, or this one where there is none.
 #[tactic(auto, using(aml_operators::proofs::Views::view_out))]

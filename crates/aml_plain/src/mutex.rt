@@ -8,12 +8,14 @@ ghost use Rattle.aml_meaning.specs.Meaning.{act, mutex, mutex_named, mutex_numbe
 ghost use Rattle.aml_meaning.specs.Mutexes.{acquire, none_held, release};
 ghost use Rattle.aml_meaning.specs.Runs.{Runs};
 ghost use Rattle.aml_plain.specs.Shapes.{HasParts, name_and_word, one_name};
-ghost use Rattle.aml_plain.specs.Tells.{itself, now, setting_of, told, value_of, went};
+ghost use Rattle.aml_machine.specs.Views.{now, value_of};
+ghost use Rattle.aml_plain.specs.Tells.{itself, setting_of, told, went};
 
 use crate::halt::{Halt, Setting, fails};
-use crate::machine::Machine;
 use crate::own::link_of;
+use crate::steps::take_step;
 use aml_kinds::Value;
+use aml_machine::Machine;
 use aml_meaning::{Action, AmlCause, TakenMutex, action_of};
 use aml_namespace::{Link, Object, ObjectId};
 use aml_operators::{Term, one, two};
@@ -86,7 +88,7 @@ fn mutex_of(
         Action::Local(_) => Err(fails(AmlCause::Kind, here, from)),
         Action::Argument(_) => Err(fails(AmlCause::Kind, here, from)),
         _ => {
-            machine.take_step()?;
+            take_step(machine)?;
             Err(fails(AmlCause::Outside, here, from))
         }
     }

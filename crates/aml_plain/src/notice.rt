@@ -7,11 +7,13 @@ ghost use Rattle.aml_meaning.specs.Meaning.{notified, notified_name};
 ghost use Rattle.aml_meaning.specs.Notices.{is_notifiable, notice, paused};
 ghost use Rattle.aml_meaning.specs.Parts.{make_event, sleep};
 ghost use Rattle.aml_meaning.specs.Runs.{Runs, ruled};
-ghost use Rattle.aml_plain.specs.Tells.{itself, now, place_in, setting_of, told, went};
+ghost use Rattle.aml_machine.specs.Views.{now};
+ghost use Rattle.aml_plain.specs.Tells.{itself, place_in, setting_of, told, went};
 
 use crate::halt::{Halt, Setting, fails};
-use crate::machine::Machine;
 use crate::own::link_of;
+use crate::steps::take_step;
+use aml_machine::Machine;
 use aml_meaning::{Action, AmlCause, Pause};
 use aml_namespace::{Link, Object, ObjectId};
 use aml_regions::World;
@@ -61,7 +63,7 @@ pub fn notified(
         Action::Local(_) => Ok(None),
         Action::Argument(_) => Ok(None),
         _ => {
-            machine.take_step()?;
+            take_step(machine)?;
             Err(fails(AmlCause::Outside, here, at))
         }
     }

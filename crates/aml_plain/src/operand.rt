@@ -9,20 +9,23 @@ ghost use Rattle.aml_meaning.specs.declared.action.Action.TheVariants as does;
 ghost use Rattle.aml_meaning.specs.Meaning.{act, asked, changed_in_place, is_there, measured, named_seen, size, sizeless, takes_operand, untargeted};
 ghost use Rattle.aml_meaning.specs.Runs.{Runs};
 ghost use Rattle.aml_plain.specs.Shapes.{HasParts, name_and_target, one_name};
-ghost use Rattle.aml_plain.specs.Tells.{now, setting_of, told, value_of, went};
+ghost use Rattle.aml_machine.specs.Views.{now, value_of};
+ghost use Rattle.aml_plain.specs.Tells.{setting_of, told, went};
 
+use crate::contents;
 use crate::form::number_of_literal;
-use crate::frame::{held, seen};
 use crate::halt::{Halt, Setting, fails};
-use crate::integer::{truth, wrapped};
-use crate::machine::Machine;
 use crate::own::link_of;
 use crate::own_name::own_seen;
 use crate::rules::sized;
+use crate::slots::{held, seen};
+use crate::steps::take_step;
 use aml_kinds::Value;
+use aml_machine::Machine;
 use aml_meaning::{Action, AmlCause, action_of};
 use aml_namespace::Link;
 use aml_operators::{Op, Term, one, two};
+use aml_rules::truth;
 use std::alloc::Global;
 
 /// A literal's value.
@@ -31,7 +34,7 @@ pub fn literal(here: Setting<'_>, op: Op, at: usize, parts: &[Term]) -> Result<O
     ensures { (around : _) (s : _) → Runs (told value_of result)
         (act (setting_of here.entry around) (does.Literal op) at (views parts.now)) s s }
 {
-    let number = wrapped(here.scene.width, number_of_literal(op, parts));
+    let number = here.scene.width.wrapped(number_of_literal(op, parts));
     Ok(Some(Value::Int(number)))
 }
 
@@ -86,7 +89,7 @@ fn named_seen<'a>(here: Setting<'_>, at: usize, machine: &'a Machine) -> Result<
         (now machine.now log) (now machine.now log) }
 {
     match link_of(here, at) {
-        Link::Data(id) => machine.seen(here, at, id),
+        Link::Data(id) => contents::seen(here, at, id, machine),
         Link::Own(number) => own_seen(here, at, number, machine),
         link => Err(fails(sizeless(link), here, at)),
     }
@@ -118,7 +121,7 @@ fn measured(
             sized(here, at, held)
         }
         _ => {
-            machine.take_step()?;
+            take_step(machine)?;
             Err(fails(AmlCause::Outside, here, at))
         }
     }
@@ -236,7 +239,7 @@ pub fn changed_in_place(
 {
     match action {
         Action::Dereference => {
-            machine.take_step()?;
+            take_step(machine)?;
             Err(fails(AmlCause::Outside, here, at))
         }
         _ => Ok(()),

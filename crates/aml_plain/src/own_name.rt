@@ -5,13 +5,15 @@ ghost use Rattle.aml_kinds.specs.Views.{view};
 ghost use Rattle.aml_regions.specs.Events.{Event};
 ghost use Rattle.aml_meaning.specs.Meaning.{own_held, own_seen, own_stored};
 ghost use Rattle.aml_meaning.specs.Runs.{Runs};
-ghost use Rattle.aml_plain.specs.Tells.{now, setting_of, told, value_of, went};
+ghost use Rattle.aml_machine.specs.Views.{now, value_of};
+ghost use Rattle.aml_plain.specs.Tells.{setting_of, told, went};
 
+use crate::contents;
 use crate::halt::{Halt, Setting, fails};
-use crate::machine::Machine;
 use crate::part::{part_read, part_stored};
 use aml_fields::usable_part;
 use aml_kinds::Value;
+use aml_machine::Machine;
 use aml_meaning::AmlCause;
 use std::alloc::Global;
 
@@ -30,7 +32,7 @@ pub fn own_held(
     match machine.own_field(number) {
         Some(field) => part_read(alloc, here, at, usable_part(field), machine),
         None => {
-            let content = machine.own_content(alloc, here, at, number)?;
+            let content = contents::own_content(alloc, here, at, number, machine)?;
             Ok(Some(content))
         }
     }
@@ -51,7 +53,7 @@ pub fn own_stored(
 {
     match machine.own_field(number) {
         Some(field) => part_stored(here, at, usable_part(field), &stored, machine),
-        None => machine.set_own(here, at, number, stored),
+        None => contents::set_own(here, at, number, stored, machine),
     }
 }
 
@@ -68,6 +70,6 @@ pub fn own_seen<'a>(
 {
     match machine.own_field(number) {
         Some(_) => Err(fails(AmlCause::Kind, here, at)),
-        None => machine.own_seen(here, at, number),
+        None => contents::own_seen(here, at, number, machine),
     }
 }

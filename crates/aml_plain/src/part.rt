@@ -1,9 +1,9 @@
 // Fields of buffers (ACPI 6.5, 19.6, CreateField and its kin).
 
-ghost use Rattle.std.specs.Prelude.{◌≡◌, ℕ, ◌<◌, ◌≤◌, ◌+◌, ◌*◌, ◌/◌, ◌^◌, nat_le, length, slice_index, List, Some, IfOk, IfSome};
+ghost use Rattle.std.specs.Prelude.{◌≡◌, ◌<◌, ◌≤◌, ◌+◌, ◌*◌, length, List, Some, IfOk, IfSome};
 ghost use Rattle.std.specs.Option.{option_map};
-ghost use Rattle.aml_kinds.specs.Contents.{content_at, with_content};
-ghost use Rattle.aml_kinds.specs.Held.{contents, content_kinds};
+ghost use Rattle.aml_kinds.specs.Contents.{content_at};
+ghost use Rattle.aml_kinds.specs.Held.{contents};
 ghost use Rattle.aml_kinds.specs.Values.{Buf};
 ghost use Rattle.aml_kinds.specs.Views.{view};
 ghost use Rattle.aml_namespace.specs.Shows.{shown};
@@ -14,13 +14,15 @@ ghost use Rattle.aml_meaning.specs.BufferFields.{IsLaidOut, buffer_field_numbere
 ghost use Rattle.aml_meaning.specs.Changes.{change, held_by};
 ghost use Rattle.aml_meaning.specs.Meaning.{part_changed, part_read};
 ghost use Rattle.aml_meaning.specs.Runs.{Runs, ruled};
-ghost use Rattle.aml_plain.specs.Tells.{IsChanged, IsOrNoMemory, buffer_of, itself, names_of, now, place_in, setting_of, told, value_of, went};
+ghost use Rattle.aml_machine.specs.Views.{names_of, now, value_of};
+ghost use Rattle.aml_plain.specs.Tells.{IsChanged, IsOrNoMemory, itself, place_in, setting_of, told, went};
 
 use crate::field::takes_buffer;
 use crate::halt::{Halt, Setting, fails};
-use crate::machine::Machine;
-use aml_fields::{BitBytes, Bits, part_numbered, part_value, stored_byte};
+use crate::steps::take_step;
+use aml_fields::{BitBytes, part_numbered, part_value};
 use aml_kinds::{Names, Value};
+use aml_machine::{Machine, held_by, lies_in, put_bits};
 use aml_meaning::{AmlCause, BufferPart};
 use aml_namespace::{Link, ObjectId};
 use std::alloc::Global;
@@ -43,34 +45,6 @@ fn wanted_part(here: Setting<'_>, at: usize, part: Option<BufferPart>) -> Result
         Some(part) => Ok(part),
         None => Err(fails(AmlCause::Region, here, at)),
     }
-}
-
-/// What the source of a field holds.
-fn held_by(machine: &Machine, source: Link) -> Option<&Value>
-    ensures { (log : List Event) → option_map (λ v. view v.now) result
-        ≡ held_by source (now machine.now log) }
-{
-    match source {
-        Link::Data(id) => machine.names.get(id),
-        Link::Own(number) => machine.frame.owns.get(ObjectId(number)),
-        _ => None,
-    }
-}
-
-/// In how many bytes a field has a bit, from the one on from which its first bit is counted.
-fn bytes_from(part: BufferPart) -> u64
-    requires { IsLaidOut part }
-    ensures { result ≡ (part.bit + part.bits + 7) / 8 }
-{
-    (u64::from(part.bit) + part.bits + 7) / 8
-}
-
-/// Whether all bits of a field lie in a buffer of so many bytes.
-fn lies_in(part: BufferPart, size: usize) -> bool
-    requires { IsLaidOut part }
-    ensures { result ≡ nat_le (first_bit part + part.bits) (8 * size) }
-{
-    part.byte <= size as u64 && bytes_from(part) <= size as u64 - part.byte
 }
 
 /// The bytes of the buffer in which a field lies. At its name A2 where its source holds no buffer, and
@@ -131,50 +105,6 @@ pub fn part_read(
     let held = held_by(machine, part.source);
     let value = content(alloc, here, at, part, held)?;
     Ok(Some(value))
-}
-
-/// The bytes of a buffer; none of anything else.
-fn bytes_of<'a>(held: Option<&'a Value>) -> &'a [u8]
-    ensures { result.now ≡ buffer_of (option_map (λ v. view v.now) held.entry) }
-{
-    match held {
-        Some(Value::Buf(bytes)) => bytes.as_slice(),
-        _ => &[],
-    }
-}
-
-/// The byte that stands there; zero past the end.
-fn byte_at(bytes: &[u8], place: usize) -> u8
-    ensures { result ≡ slice_index bytes.now place }
-{
-    match bytes.get(place) {
-        Some(byte) => *byte,
-        None => 0,
-    }
-}
-
-/// The items of a list of bytes are bytes.
-fn are_bytes(bytes: &[u8])
-    ensures { (i : ℕ) → slice_index bytes.now i < 2 ^ 8 }
-{}
-
-/// Stores bits into a field of the buffer of so many bytes that the name with a number holds, a byte at
-/// a time and in place. It takes no memory.
-fn put_bits<B: Bits>(part: BufferPart, size: usize, value: &B, names: &mut Names, id: ObjectId)
-    requires laid_out { IsLaidOut part }
-    requires inside { first_bit part + part.bits ≤ 8 * size }
-    ensures put { (bytes : List ℕ) → content_at (contents names.old) id.0 ≡ Some (Buf bytes) →
-        contents names.new ≡ with_content (contents names.old) id.0
-        (Buf (stored (first_bit part) part.bits (B.bit value.now) bytes)) }
-    ensures kinds { content_kinds names.new ≡ content_kinds names.old }
-{
-    are_bytes(bytes_of(names.get(id)));
-    let first = part.byte as usize;
-    for place in first..first + bytes_from(part) as usize {
-        let old = byte_at(bytes_of(names.get(id)), place);
-        let byte = stored_byte(part, place as u64, old, value);
-        names.set_byte(id, place, byte);
-    }
 }
 
 /// Stores into a field of the buffer that the name with a number holds. At the field's name A2 where it
@@ -258,7 +188,7 @@ pub fn part_stored(
     match part {
         Some(part) => put_part(here, at, part, stored, machine),
         None => {
-            machine.take_step()?;
+            take_step(machine)?;
             Err(fails(AmlCause::Region, here, at))
         }
     }

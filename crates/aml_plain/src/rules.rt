@@ -3,7 +3,7 @@
 ghost use Rattle.std.specs.Prelude.{◌≡◌, Result};
 ghost use Rattle.aml_kinds.specs.Values.{Int};
 ghost use Rattle.aml_kinds.specs.Views.{view};
-ghost use Rattle.aml_meaning.specs.Rules.{Place, combined, compared, divided, divisor, equal, integer, negated, second, transformed};
+ghost use Rattle.aml_meaning.specs.Rules.{Place, combined, compared, divided, integer, negated, second, transformed};
 ghost use Rattle.aml_meaning.specs.Runs.{ruled};
 ghost use Rattle.aml_namespace.specs.Widths.{bits_of};
 ghost use Rattle.aml_meaning.specs.Buffers.{concatenated, size_of};
@@ -11,48 +11,42 @@ ghost use Rattle.aml_meaning.specs.Elements.{byte_stored, element_at};
 ghost use Rattle.aml_meaning.specs.Conversions.{converted};
 ghost use Rattle.aml_meaning.specs.declared.action.Conversion.TheVariants as converts;
 ghost use Rattle.aml_meaning.specs.declared.error.AmlError.{AmlError};
-ghost use Rattle.aml_rules.specs.Tells.{Obeys, place_of};
+ghost use Rattle.aml_rules.specs.Tells.{Obeys, place_of, division_of};
 ghost use Rattle.aml_rules.specs.Tells as rules;
-ghost use Rattle.aml_plain.specs.Stores.{Becomes};
-ghost use Rattle.aml_plain.specs.Tells.{IsOrNoMemory, division_of, itself, place_in, told, went};
+ghost use Rattle.aml_plain.specs.Tells.{IsOrNoMemory, itself, place_in, told};
 
-use crate::halt::{Halt, Setting, fails};
-use crate::integer::{holds, joined, transformed_bits, truth};
+use crate::halt::{Halt, Setting};
 use aml_kinds::Value;
-use aml_meaning::{AmlCause, AmlError, Arithmetic, Bitwise, Comparison};
-use aml_rules::{ByteStore, Place, RuleFault};
+use aml_meaning::{AmlError, Arithmetic, Bitwise, Comparison};
+use aml_rules::{ByteStore, Division, Place, RuleFault};
 use std::alloc::Global;
+
+/// The number that a rule gives.
+fn number(answer: Result<u64, AmlError>) -> Result<u64, Halt>
+    ensures as_number { told itself result ≡ ruled answer }
+    ensures as_integer { told Int result ≡ ruled (rules.told Int answer) }
+{
+    match answer {
+        Ok(number) => Ok(number),
+        Err(error) => Err(Halt::Error(error)),
+    }
+}
+
+/// The division that a rule gives.
+fn given_division(answer: Result<Division, AmlError>) -> Result<Division, Halt>
+    ensures { told division_of result ≡ ruled (rules.told division_of answer) }
+{
+    match answer {
+        Ok(division) => Ok(division),
+        Err(error) => Err(Halt::Error(error)),
+    }
+}
 
 /// An integer. A2 at the place of what is none.
 pub fn integer(here: Setting<'_>, at: usize, value: &Value) -> Result<u64, Halt>
     ensures { told itself result ≡ ruled (integer (place_in here.entry at) (view value.now)) }
 {
-    match value {
-        Value::Int(number) => Ok(*number),
-        _ => Err(fails(AmlCause::Kind, here, at)),
-    }
-}
-
-/// An integer that is not zero. A2 at the place of what is no integer, A3 at that of zero.
-pub fn divisor(here: Setting<'_>, at: usize, value: &Value) -> Result<u64, Halt>
-    ensures { told itself result ≡ ruled (divisor (place_in here.entry at) (view value.now)) }
-{
-    let number = integer(here, at, value)?;
-    if number == 0 {
-        return Err(fails(AmlCause::Divisor, here, at));
-    }
-    Ok(number)
-}
-
-/// The second of two operands: of Mod a divisor, else an integer.
-fn second(here: Setting<'_>, arithmetic: Arithmetic, at: usize, value: &Value) -> Result<u64, Halt>
-    ensures { told itself result
-        ≡ ruled (second arithmetic (place_in here.entry at) (view value.now)) }
-{
-    match arithmetic {
-        Arithmetic::Mod => divisor(here, at, value),
-        _ => integer(here, at, value),
-    }
+    number(aml_rules::integer(place(here, at), value))
 }
 
 /// Two integers joined, modulo 2 to the width.
@@ -67,16 +61,10 @@ pub fn combined(
     ensures { told Int result ≡ ruled (combined (bits_of here.entry.scene.now.width) arithmetic
         (place_in here.entry x_at) (view x.now) (place_in here.entry y_at) (view y.now)) }
 {
-    let first = integer(here, x_at, x)?;
-    let second = second(here, arithmetic, y_at, y)?;
-    Ok(joined(here.scene.width, arithmetic, first, second))
-}
-
-/// How often a divisor goes into an integer, and what is left.
-#[derive(Clone, Copy, Debug)]
-pub struct Division {
-    pub quotient: u64,
-    pub remainder: u64,
+    let first = place(here, x_at);
+    let second = place(here, y_at);
+    let width = here.scene.width;
+    number(aml_rules::combined(width, arithmetic, first, x, second, y))
 }
 
 /// An integer divided by another.
@@ -90,12 +78,9 @@ pub fn divided(
     ensures { told division_of result ≡ ruled (divided
         (place_in here.entry x_at) (view x.now) (place_in here.entry y_at) (view y.now)) }
 {
-    let first = integer(here, x_at, x)?;
-    let second = divisor(here, y_at, y)?;
-    Ok(Division {
-        quotient: first / second,
-        remainder: first % second,
-    })
+    let first = place(here, x_at);
+    let second = place(here, y_at);
+    given_division(aml_rules::divided(first, x, second, y))
 }
 
 /// What one integer gives, modulo 2 to the width.
@@ -108,23 +93,7 @@ pub fn transformed(
     ensures { told Int result ≡ ruled (transformed (bits_of here.entry.scene.now.width) operation
         (place_in here.entry x_at) (view x.now)) }
 {
-    let number = integer(here, x_at, x)?;
-    Ok(transformed_bits(here.scene.width, operation, number))
-}
-
-/// Whether two values of one kind are equal. A2 at the second's place where it is of another kind, and
-/// at the first's where that is a package.
-fn equal(here: Setting<'_>, x_at: usize, x: &Value, y_at: usize, y: &Value) -> Result<bool, Halt>
-    ensures { told itself result ≡ ruled (equal
-        (place_in here.entry x_at) (view x.now) (place_in here.entry y_at) (view y.now)) }
-{
-    match (x, y) {
-        (Value::Int(m), Value::Int(n)) => Ok(m == n),
-        (Value::Buf(xs), Value::Buf(ys)) => Ok(xs.as_slice() == ys.as_slice()),
-        (Value::Str(xs), Value::Str(ys)) => Ok(xs.as_slice() == ys.as_slice()),
-        (Value::Pkg(_), _) => Err(fails(AmlCause::Kind, here, x_at)),
-        _ => Err(fails(AmlCause::Kind, here, y_at)),
-    }
+    number(aml_rules::transformed(here.scene.width, operation, place(here, x_at), x))
 }
 
 /// What is said of two values: LEqual takes two of one kind, every other two integers.
@@ -139,17 +108,10 @@ pub fn compared(
     ensures { told Int result ≡ ruled (compared (bits_of here.entry.scene.now.width) comparison
         (place_in here.entry x_at) (view x.now) (place_in here.entry y_at) (view y.now)) }
 {
-    match comparison {
-        Comparison::LEqual => {
-            let same = equal(here, x_at, x, y_at, y)?;
-            Ok(truth(here.scene.width, same))
-        }
-        _ => {
-            let first = integer(here, x_at, x)?;
-            let second = integer(here, y_at, y)?;
-            Ok(truth(here.scene.width, holds(comparison, first, second)))
-        }
-    }
+    let first = place(here, x_at);
+    let second = place(here, y_at);
+    let width = here.scene.width;
+    number(aml_rules::compared(width, comparison, first, x, second, y))
 }
 
 /// Whether an integer is zero.
@@ -157,12 +119,11 @@ pub fn negated(here: Setting<'_>, x_at: usize, x: &Value) -> Result<u64, Halt>
     ensures { told Int result ≡ ruled (negated (bits_of here.entry.scene.now.width)
         (place_in here.entry x_at) (view x.now)) }
 {
-    let number = integer(here, x_at, x)?;
-    Ok(truth(here.scene.width, number == 0))
+    number(aml_rules::negated(here.scene.width, place(here, x_at), x))
 }
 
 /// A place in the body's table.
-fn place(here: Setting<'_>, at: usize) -> Place
+pub fn place(here: Setting<'_>, at: usize) -> Place
     ensures { place_of result ≡ place_in here.entry at }
 {
     Place {
@@ -244,30 +205,6 @@ pub fn concatenated(
     let first = place(here, x_at);
     let second = place(here, y_at);
     obeyed(aml_rules::concatenated(operator, first, x, second, y))
-}
-
-/// The same, made of the first where it stands.
-pub fn append(
-    alloc: Global,
-    here: Setting<'_>,
-    at: usize,
-    x_at: usize,
-    x: &mut Value,
-    y_at: usize,
-    y: &Value,
-) -> Result<(), Halt>
-    ensures { Becomes itself (went result) (concatenated (place_in here.entry at)
-        (place_in here.entry x_at) (view x.old) (place_in here.entry y_at) (view y.now))
-        (view x.old) (view x.new) }
-{
-    let operator = place(here, at);
-    let first = place(here, x_at);
-    let second = place(here, y_at);
-    match aml_rules::append(alloc, operator, first, x, second, y) {
-        Ok(()) => Ok(()),
-        Err(RuleFault::Error(error)) => Err(Halt::Error(error)),
-        Err(RuleFault::NoMemory) => Err(Halt::NoMemory),
-    }
 }
 
 /// A byte or a copy of an element of a value.

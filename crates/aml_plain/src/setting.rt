@@ -3,11 +3,10 @@
 ghost use Rattle.aml_namespace.specs.Names.{link_with_owns};
 ghost use Rattle.aml_namespace.specs.OwnNamesSeen.{owns_seen};
 ghost use Rattle.aml_namespace.specs.Shows.{shown};
-ghost use Rattle.aml_plain.specs.Prepared.{AreLinks, AreSound};
-ghost use Rattle.aml_plain.specs.TreeSets.{body_props};
+ghost use Rattle.aml_bodies.specs.Prepared.{AreLinks, AreSound};
+ghost use Rattle.aml_bodies.specs.TreeSets.{body_props};
 
-use crate::links::Links;
-use crate::prepared::Bodies;
+use aml_bodies::{Bodies, Links};
 use aml_namespace::{Namespace, ObjectId, OwnNames, Width};
 
 /// What stays the same while a body is evaluated.

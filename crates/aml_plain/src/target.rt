@@ -4,15 +4,18 @@ ghost use Rattle.std.specs.Prelude.{◌≡◌, ◌≤◌};
 ghost use Rattle.aml_kinds.specs.Views as values;
 ghost use Rattle.aml_meaning.specs.Meaning.{named, named_target, put, unwritable};
 ghost use Rattle.aml_meaning.specs.Runs.{Runs};
-ghost use Rattle.aml_plain.specs.Tells.{now, setting_of, told, value_of, went};
+ghost use Rattle.aml_machine.specs.Views.{now, value_of};
+ghost use Rattle.aml_plain.specs.Tells.{setting_of, told, went};
 
+use crate::contents;
 use crate::field::{field_read, field_stored};
 use crate::halt::{Halt, Setting, fails};
-use crate::machine::Machine;
 use crate::own::link_of;
 use crate::own_name::{own_held, own_stored};
 use crate::part::{named_part, part_read, part_stored};
+use crate::steps::take_step;
 use aml_kinds::Value;
+use aml_machine::Machine;
 use aml_meaning::{Action, AmlCause};
 use aml_namespace::Link;
 use aml_regions::World;
@@ -44,7 +47,7 @@ pub fn named<W: World>(
 {
     match link_of(here, at) {
         Link::Data(id) => {
-            let content = machine.content(alloc, here, at, id)?;
+            let content = contents::content(alloc, here, at, id, machine)?;
             Ok(Some(content))
         }
         Link::Own(number) => own_held(alloc, here, at, number, machine),
@@ -71,19 +74,19 @@ pub fn put<W: World>(
     match action {
         Action::NoTarget => Ok(()),
         Action::Local(k) => {
-            machine.take_step()?;
+            take_step(machine)?;
             machine.set_local(k, stored);
             Ok(())
         }
         Action::Argument(k) => {
-            machine.take_step()?;
+            take_step(machine)?;
             machine.set_argument(k, stored);
             Ok(())
         }
-        Action::Debug => machine.take_step(),
+        Action::Debug => take_step(machine),
         Action::Name => put_name(here, at, stored, machine, world),
         _ => {
-            machine.take_step()?;
+            take_step(machine)?;
             Err(fails(AmlCause::Outside, here, at))
         }
     }
@@ -103,12 +106,12 @@ fn put_name<W: World>(
     ensures falls { machine.new.steps ≤ machine.old.steps }
 {
     match link_of(here, at) {
-        Link::Data(id) => machine.set_name(here, at, id, stored),
+        Link::Data(id) => contents::set_name(here, at, id, stored, machine),
         Link::Own(number) => own_stored(here, at, number, stored, machine),
         Link::Field(id) => field_stored(here, at, id, &stored, machine, world),
         Link::BufferField(id) => part_stored(here, at, named_part(here, id), &stored, machine),
         link => {
-            machine.take_step()?;
+            take_step(machine)?;
             Err(fails(unwritable(link), here, at))
         }
     }

@@ -7,9 +7,9 @@ ghost use Rattle.aml_plain.specs.Methods.{Parses};
 
 use crate::plain::refused;
 use aml_kinds::{Names, Value};
-use aml_meaning::AmlCause;
+use aml_meaning::{AmlCause, Outcome};
 use aml_namespace::{LoadFault, Namespace, NoMemory, ObjectId};
-use aml_plain::{Outcome, evaluate_plain};
+use aml_plain::evaluate_plain;
 use aml_regions::World;
 use std::alloc::Global;
 

@@ -7,11 +7,9 @@ ghost use Rattle.aml_plain.specs.Methods.{Parses};
 
 use acpi_samples::{DSDT, HOST, changed, table_of};
 use aml_kinds::{Bytes, Names, Package, Value};
-use aml_meaning::{AmlCause, AmlError};
-use aml_namespace::{
-    Content, LoadCause, LoadFault, LoadRefusal, Namespace, NoMemory, Object, ObjectId,
-};
-use aml_plain::{Outcome, evaluate_plain, evaluate_tree};
+use aml_meaning::{AmlCause, AmlError, Outcome};
+use aml_namespace::{Content, LoadCause, LoadFault, LoadRefusal, Namespace, NoMemory, Object, ObjectId};
+use aml_plain::{evaluate_plain, evaluate_tree};
 use aml_regions::RegisterFile;
 use aml_tree::TreeFault;
 use std::alloc::{AllocError, Global};

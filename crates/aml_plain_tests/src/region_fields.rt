@@ -3,9 +3,8 @@
 
 use crate::outcomes::{Wanted, ends, first_names, outcome_in};
 use acpi_samples::{HOST, method_of, table_of};
-use aml_meaning::AmlCause;
+use aml_meaning::{AmlCause, Outcome};
 use aml_namespace::{LoadFault, Namespace, ObjectId};
-use aml_plain::Outcome;
 use aml_regions::{Access, Event, RegisterFile, RegistersFault};
 use std::alloc::Global;
 use std::process::Abort;

@@ -4,8 +4,8 @@
 use crate::outcomes::{Wanted, ends, first_names, outcome_in};
 use crate::region_fields::{Port, are_ports};
 use acpi_samples::{HOST, table_of};
+use aml_meaning::Outcome;
 use aml_namespace::{LoadFault, Namespace, ObjectId};
-use aml_plain::Outcome;
 use aml_regions::{AllOnes, Refusing, RegisterFile, RegistersFault, World};
 use std::alloc::Global;
 use std::process::Abort;

@@ -1,3 +1,4 @@
 pub mod Bytewise
 pub mod Numbered
 pub mod Spelled
+pub mod Shifts

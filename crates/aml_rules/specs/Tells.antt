@@ -3,7 +3,10 @@ use Rattle.std.specs.Prelude.{◌≡◌, Result, Ok, Err}
 use Rattle.aml_meaning.specs.declared.error.AmlCause.{AmlCause}
 use Rattle.aml_meaning.specs.declared.error.AmlError.{AmlError}
 use Rattle.aml_meaning.specs.Elements as rules
+use Rattle.aml_kinds.specs.Values.{Int}
+use Rattle.aml_meaning.specs.Rules as rule
 use Rattle.aml_meaning.specs.Rules.{Place}
+use Rattle.aml_rules.specs.declared.arithmetic.Division as program_division
 use Rattle.aml_rules.specs.declared.elements.ByteStore as program_store
 use Rattle.aml_rules.specs.declared.place.Place as program_place
 use Rattle.aml_rules.specs.declared.place.RuleFault.{RuleFault}
@@ -14,6 +17,9 @@ place_of p = record { table = p.table; at = p.at }
 
 abbrev pub store_of : program_store.ByteStore → rules.ByteStore
 store_of s = record { place = s.place; byte = s.byte }
+
+abbrev pub division_of : program_division.Division → rule.Division
+division_of d = record { quotient = Int d.quotient; remainder = Int d.remainder }
 
 -- an error at a place
 abbrev pub error_at : AmlCause → Place → AmlError

@@ -8,6 +8,7 @@ ghost use Rattle.aml_meaning.specs.Elements as rule;
 ghost use Rattle.aml_meaning.specs.Rules.{integer};
 ghost use Rattle.aml_rules.specs.Tells.{Obeys, place_of, store_of, told};
 
+use crate::arithmetic::integer;
 use crate::place::{Place, RuleFault, error_at};
 use aml_kinds::{Element, Package, Value, copy};
 use aml_meaning::{AmlCause, AmlError};
@@ -18,16 +19,6 @@ use std::alloc::Global;
 pub struct ByteStore {
     pub place: usize,
     pub byte: u8,
-}
-
-/// An integer is wanted of an operand. A2 at the operand that is none.
-fn integer(operand: Place, value: &Value) -> Result<u64, AmlError>
-    ensures { result ≡ integer (place_of operand) (view value.now) }
-{
-    match value {
-        Value::Int(number) => Ok(*number),
-        _ => Err(error_at(AmlCause::Kind, operand)),
-    }
 }
 
 /// What an Index of two operands leads to: a byte of a buffer or a string, or a copy of an element

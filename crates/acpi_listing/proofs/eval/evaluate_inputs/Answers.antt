@@ -6,7 +6,7 @@ use Rattle.acpi_listing.specs.declared.fault.Stop.TheVariants.{Fault as Faulty}
 use Rattle.aml_namespace.specs.Shows.{shown}
 use Rattle.aml_kinds.specs.Views as values
 use Rattle.aml_operators.specs.Tree.{view, trees}
-use Rattle.aml_plain.proofs.Methods.{are_statements}
+use Rattle.aml_bodies.proofs.Methods.{are_statements}
 use Rattle.acpi_listing.specs.Steps.{Obtains, Tells, Then}
 use Rattle.acpi_listing.specs.Inputs.{tables_of}
 use Rattle.acpi_listing.specs.Loading.{Loads, interfaces_of}

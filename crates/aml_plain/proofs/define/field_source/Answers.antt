@@ -1,6 +1,7 @@
 use Rattle.std.proofs.Common.{None}
 use Rattle.aml_meaning.proofs.Runs.{runs_give, runs_stop_with, runs_then}
-use Rattle.aml_plain.specs.Tells.{now, setting_of}
+use Rattle.aml_machine.specs.Views.{now}
+use Rattle.aml_plain.specs.Tells.{setting_of}
 use Rattle.aml_plain.proofs.OwnFields.{runs_found, source_elsewhere}
 use Rattle.aml_plain.proofs.define.field_source.Goals as goal
 

@@ -1,5 +1,5 @@
 use Rattle.std.proofs.lemmas.Result.{err_from_is_err_and}
-use Rattle.aml_plain.specs.Tells.{frame_of, names_of}
+use Rattle.aml_machine.specs.Views.{frame_of, names_of}
 use Rattle.aml_plain.proofs.field.read_value.Goals as goal
 
 pub returns-in_err-value-clause-means : goal.returns-in_err-value-clause-means

@@ -1,5 +1,6 @@
 use Rattle.aml_namespace.specs.Shows.{shown}
-use Rattle.aml_plain.proofs.Methods.{are_statements, there, evaluated_body}
+use Rattle.aml_bodies.proofs.Methods.{are_statements, there}
+use Rattle.aml_plain.proofs.Methods.{evaluated_body}
 use Rattle.aml_plain.proofs.Outcomes.{unread}
 use Rattle.aml_plain.proofs.method.evaluate_plain.Goals as goal
 

@@ -3,8 +3,9 @@ use Rattle.std.proofs.lemmas.Result.{err_from_is_err_and}
 use Rattle.aml_namespace.specs.OwnNamesSeen.{owns_seen}
 use Rattle.aml_namespace.specs.Shows.{shown}
 use Rattle.aml_operators.specs.Tree.{view}
-use Rattle.aml_plain.proofs.Bodies.{prepared_is, prepared_shaped}
-use Rattle.aml_plain.proofs.Methods.{stands, there}
+use Rattle.aml_bodies.proofs.Kept.{prepared_is, prepared_shaped}
+use Rattle.aml_bodies.proofs.Methods.{there}
+use Rattle.aml_plain.proofs.Methods.{stands}
 use Rattle.aml_plain.proofs.Outcomes.{unread}
 use Rattle.aml_plain.proofs.method.evaluate_tree.Goals as goal
 

@@ -1,7 +1,7 @@
 use Rattle.std.proofs.Common.{ap, ◌∙◌}
 use Rattle.aml_meaning.proofs.Mutexes.{runs_release, runs_release_stop}
-use Rattle.aml_plain.specs.Mutexes.{held_if}
-use Rattle.aml_plain.specs.Tells.{frame_of, names_of}
+use Rattle.aml_machine.specs.Mutexes.{held_if}
+use Rattle.aml_machine.specs.Views.{frame_of, names_of}
 use Rattle.aml_plain.proofs.mutex.give_back.Goals as goal
 
 pub returns-then-release-clause-means : goal.returns-then-release-clause-means

@@ -1,6 +1,6 @@
 use Rattle.std.proofs.Common.{sym, ◌∙◌}
 use Rattle.aml_meaning.proofs.Mutexes.{runs_none_held, runs_still_held}
-use Rattle.aml_plain.proofs.Rising.{none_there, some_there}
+use Rattle.aml_machine.proofs.Rising.{none_there, some_there}
 use Rattle.aml_plain.proofs.mutex.none_held.Goals as goal
 
 pub returns-then-is_empty : goal.returns-then-is_empty

@@ -1,7 +1,7 @@
 use Rattle.std.proofs.Common.{arith}
 use Rattle.std.proofs.lemmas.Result.{err_from_is_err_and}
 use Rattle.aml_meaning.proofs.Told.{runs_no_sleep}
-use Rattle.aml_plain.specs.Tells.{frame_of}
+use Rattle.aml_machine.specs.Views.{frame_of}
 use Rattle.aml_plain.proofs.Slept.{runs_refused_sleep, runs_slept}
 use Rattle.aml_plain.proofs.notice.sleep.Goals as goal
 

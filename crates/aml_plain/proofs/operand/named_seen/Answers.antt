@@ -1,7 +1,8 @@
 use Rattle.aml_meaning.proofs.Runs.{runs_get_name, runs_stop_with}
 use Rattle.aml_plain.proofs.Forms.{seen_elsewhere}
 use Rattle.aml_plain.proofs.Ruled.{runs_as}
-use Rattle.aml_plain.specs.Tells.{now, setting_of}
+use Rattle.aml_machine.specs.Views.{now}
+use Rattle.aml_plain.specs.Tells.{setting_of}
 use Rattle.aml_plain.proofs.operand.named_seen.Goals as goal
 
 pub returns-in-Data : goal.returns-in-Data

@@ -2,7 +2,7 @@ use Rattle.std.proofs.Common.{None}
 use Rattle.std.proofs.lemmas.Result.{err_from_is_err_and}
 use Rattle.aml_meaning.proofs.Owned.{runs_get_own}
 use Rattle.aml_meaning.proofs.Runs.{runs_give, runs_stop, runs_then}
-use Rattle.aml_plain.specs.Tells.{now}
+use Rattle.aml_machine.specs.Views.{now}
 use Rattle.aml_plain.proofs.OwnFields.{runs_found}
 use Rattle.aml_plain.proofs.Ruled.{runs_or_memory}
 use Rattle.aml_plain.proofs.own_name.own_held.Goals as goal

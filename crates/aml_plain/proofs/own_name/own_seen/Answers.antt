@@ -1,7 +1,7 @@
 use Rattle.std.proofs.Common.{None}
 use Rattle.aml_meaning.proofs.Owned.{runs_get_own}
 use Rattle.aml_meaning.proofs.Runs.{runs_stop_with, runs_then}
-use Rattle.aml_plain.specs.Tells.{now}
+use Rattle.aml_machine.specs.Views.{now}
 use Rattle.aml_plain.proofs.OwnFields.{runs_found}
 use Rattle.aml_plain.proofs.Ruled.{runs_as}
 use Rattle.aml_plain.proofs.own_name.own_seen.Goals as goal

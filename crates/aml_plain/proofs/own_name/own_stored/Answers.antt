@@ -1,6 +1,6 @@
 use Rattle.std.proofs.Common.{None}
 use Rattle.aml_meaning.proofs.Runs.{runs_then}
-use Rattle.aml_plain.specs.Tells.{now}
+use Rattle.aml_machine.specs.Views.{now}
 use Rattle.aml_plain.proofs.OwnFields.{runs_found}
 use Rattle.aml_plain.proofs.own_name.own_stored.Goals as goal
 

@@ -1,5 +1,5 @@
 use Rattle.aml_namespace.specs.Shows.{shown}
-use Rattle.aml_plain.proofs.Methods.{are_statements}
+use Rattle.aml_bodies.proofs.Methods.{are_statements}
 use Rattle.aml_plain_tests.proofs.plain.outcome_of_terms.Goals as goal
 
 -- the body was read

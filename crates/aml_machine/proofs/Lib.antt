@@ -1,0 +1,4 @@
+pub mod Firsts
+pub mod Grown
+pub mod InPlace
+pub mod Rising

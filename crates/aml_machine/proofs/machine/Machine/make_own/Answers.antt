@@ -1,0 +1,10 @@
+use Rattle.aml_namespace.specs.Widths.{bits_of}
+use Rattle.aml_meaning.proofs.Owned.{runs_make_own}
+use Rattle.aml_machine.specs.Views.{frame_of, names_of, value_of}
+use Rattle.aml_machine.proofs.Firsts.{first_of_program, kind_of_program}
+use Rattle.aml_machine.proofs.machine.Machine.make_own.Goals as goal
+
+pub returns-in-Ok-clause-means : goal.returns-in-Ok-clause-means
+returns-in-Ok-clause-means c = λ log.
+    rw (c.in_ok-push.ensures.held, c.in_ok-push.ensures.kinds, ← first_of_program c.args.width c.args.held, ← kind_of_program c.args.width c.args.held, c.in-Ok.ensures.items)
+    (runs_make_own (frame_of c.args.self.now.frame) (names_of c.args.self.now.names) c.args.self.now.steps log (bits_of c.args.width) (value_of c.args.held) c.args.field)

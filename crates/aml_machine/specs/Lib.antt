@@ -1,0 +1,4 @@
+pub mod Mutexes
+pub mod Views
+pub mod Elements
+pub mod Growth

@@ -1,0 +1,48 @@
+// What a running method has of its own.
+
+ghost use Rattle.std.specs.Prelude.{◌≡◌, map};
+ghost use Rattle.aml_kinds.specs.Views.{view};
+ghost use Rattle.aml_meaning.specs.State.{entered};
+ghost use Rattle.aml_machine.specs.Views.{frame_of};
+
+use crate::mutexes::Mutexes;
+use aml_kinds::{Names, Value};
+use aml_meaning::BufferPart;
+use std::alloc::Global;
+
+/// Locals and arguments, unset or with a value, and the names that the method has made so far, by their
+/// numbers in order of definition: what each holds, or the field of a buffer that it is; and the
+/// mutexes that it holds.
+#[derive(Drop)]
+pub struct Frame {
+    pub locals: [Option<Value>; 8],
+    pub args: [Option<Value>; 7],
+    pub owns: Names,
+    pub fields: Vec<Option<BufferPart>>,
+    pub mutexes: Mutexes,
+}
+
+impl Frame {
+    /// A method's frame as it begins, where its callers hold mutexes up to a level, with its arguments;
+    /// those behind the seventh are not looked at.
+    pub fn new(alloc: Global, outside: u8, arguments: Vec<Value>) -> Self
+        ensures { frame_of result ≡ entered outside (map view arguments.items) }
+    {
+        let mut given = arguments.into_iter();
+        Frame {
+            locals: [None, None, None, None, None, None, None, None],
+            args: [
+                given.next(),
+                given.next(),
+                given.next(),
+                given.next(),
+                given.next(),
+                given.next(),
+                given.next(),
+            ],
+            owns: Names::new(alloc),
+            fields: Vec::new(alloc),
+            mutexes: Mutexes::new(alloc, outside),
+        }
+    }
+}

@@ -1,0 +1,92 @@
+// Fields of buffers that are read and stored into where they stand (ACPI 6.5, 19.6, CreateField and
+// its kin).
+
+ghost use Rattle.std.specs.Prelude.{◌≡◌, ℕ, ◌<◌, ◌≤◌, ◌+◌, ◌*◌, ◌/◌, ◌^◌, nat_le, slice_index, List, Some};
+ghost use Rattle.std.specs.Option.{option_map};
+ghost use Rattle.aml_kinds.specs.Contents.{content_at, with_content};
+ghost use Rattle.aml_kinds.specs.Held.{contents, content_kinds};
+ghost use Rattle.aml_kinds.specs.Values.{Buf};
+ghost use Rattle.aml_kinds.specs.Views.{view};
+ghost use Rattle.aml_regions.specs.BufferFields.{stored};
+ghost use Rattle.aml_regions.specs.Events.{Event};
+ghost use Rattle.aml_meaning.specs.BufferFields.{IsLaidOut, first_bit};
+ghost use Rattle.aml_meaning.specs.Changes.{held_by};
+ghost use Rattle.aml_machine.specs.Views.{buffer_of, now};
+
+use aml_fields::{Bits, stored_byte};
+use aml_kinds::{Names, Value};
+use crate::machine::Machine;
+use aml_meaning::BufferPart;
+use aml_namespace::{Link, ObjectId};
+
+/// What the source of a field holds.
+pub fn held_by(machine: &Machine, source: Link) -> Option<&Value>
+    ensures { (log : List Event) → option_map (λ v. view v.now) result
+        ≡ held_by source (now machine.now log) }
+{
+    match source {
+        Link::Data(id) => machine.names.get(id),
+        Link::Own(number) => machine.frame.owns.get(ObjectId(number)),
+        _ => None,
+    }
+}
+
+/// In how many bytes a field has a bit, from the one on from which its first bit is counted.
+fn bytes_from(part: BufferPart) -> u64
+    requires { IsLaidOut part }
+    ensures { result ≡ (part.bit + part.bits + 7) / 8 }
+{
+    (u64::from(part.bit) + part.bits + 7) / 8
+}
+
+/// Whether all bits of a field lie in a buffer of so many bytes.
+pub fn lies_in(part: BufferPart, size: usize) -> bool
+    requires { IsLaidOut part }
+    ensures { result ≡ nat_le (first_bit part + part.bits) (8 * size) }
+{
+    part.byte <= size as u64 && bytes_from(part) <= size as u64 - part.byte
+}
+
+/// The bytes of a buffer; none of anything else.
+fn bytes_of<'a>(held: Option<&'a Value>) -> &'a [u8]
+    ensures { result.now ≡ buffer_of (option_map (λ v. view v.now) held.entry) }
+{
+    match held {
+        Some(Value::Buf(bytes)) => bytes.as_slice(),
+        _ => &[],
+    }
+}
+
+/// The byte that stands there; zero past the end.
+fn byte_at(bytes: &[u8], place: usize) -> u8
+    ensures { result ≡ slice_index bytes.now place }
+{
+    match bytes.get(place) {
+        Some(byte) => *byte,
+        None => 0,
+    }
+}
+
+/// The items of a list of bytes are bytes.
+fn are_bytes(bytes: &[u8])
+    ensures { (i : ℕ) → slice_index bytes.now i < 2 ^ 8 }
+{}
+
+/// Stores bits into a field of the buffer of so many bytes that the name with a number holds, a byte at
+/// a time and in place. It takes no memory.
+pub fn put_bits<B: Bits>(part: BufferPart, size: usize, value: &B, names: &mut Names, id: ObjectId)
+    requires laid_out { IsLaidOut part }
+    requires inside { first_bit part + part.bits ≤ 8 * size }
+    ensures put { (bytes : List ℕ) → content_at (contents names.old) id.0 ≡ Some (Buf bytes) →
+        contents names.new ≡ with_content (contents names.old) id.0
+        (Buf (stored (first_bit part) part.bits (B.bit value.now) bytes)) }
+    ensures kinds { content_kinds names.new ≡ content_kinds names.old }
+{
+    are_bytes(bytes_of(names.get(id)));
+    let first = part.byte as usize;
+    for place in first..first + bytes_from(part) as usize {
+        let old = byte_at(bytes_of(names.get(id)), place);
+        let byte = stored_byte(part, place as u64, old, value);
+        names.set_byte(id, place, byte);
+    }
+}

@@ -1,0 +1,134 @@
+// What a running evaluation changes.
+
+ghost use Rattle.std.specs.Prelude.{◌≡◌, map, IfOk, List, None, OnErr, Option, Some};
+ghost use Rattle.aml_kinds.specs.Views.{view};
+ghost use Rattle.aml_regions.specs.Events.{Event};
+ghost use Rattle.aml_namespace.specs.Widths.{bits_of};
+ghost use Rattle.aml_meaning.specs.Calls.{inside};
+ghost use Rattle.aml_meaning.specs.Owns.{define_field, define_own, field_at, make_own};
+ghost use Rattle.aml_meaning.specs.Parts.{with_arg, with_local};
+ghost use Rattle.aml_meaning.specs.Runs.{Runs};
+ghost use Rattle.aml_meaning.specs.State.{with_frame};
+ghost use Rattle.aml_machine.specs.Views.{frame_of, made, now, value_of};
+
+use crate::frame::Frame;
+use crate::slots::hold;
+use aml_kinds::{Names, Value};
+use aml_meaning::BufferPart;
+use aml_namespace::{NoMemory, Width};
+use std::alloc::Global;
+use std::mem;
+
+/// The running method's frame, what data names hold, and the steps that are left.
+#[derive(Drop)]
+pub struct Machine {
+    pub frame: Frame,
+    pub names: Names,
+    pub steps: u64,
+}
+
+impl Machine {
+    /// The machine of a method that is called with these arguments: what names hold, and the steps that
+    /// are left, go over to it, so that the caller's frame stays where it is. In a box, and by a call of
+    /// its own, so that neither lies on the stack of the call. Nothing goes over without memory.
+    #[inline(never)]
+    pub fn enter(&mut self, alloc: Global, arguments: Vec<Value>) -> Result<Box<Machine>, NoMemory>
+        ensures enters { (log : List Event) → IfOk result (λ inner.
+            now inner.value log ≡ inside (map view arguments.items) (now self.old log)) }
+        ensures frame { frame_of self.new.frame ≡ frame_of self.old.frame }
+        ensures steps { IfOk result (λ inner. inner.value.steps ≡ self.old.steps) }
+        ensures lost { OnErr result (self.new ≡ self.old) }
+    {
+        let begun = Machine {
+            frame: Frame::new(alloc, self.frame.mutexes.level(), arguments),
+            names: Names::new(alloc),
+            steps: self.steps,
+        };
+        let Ok(mut inner) = Box::new(alloc, begun) else {
+            return Err(NoMemory);
+        };
+        mem::swap(&mut self.names, &mut inner.names);
+        Ok(inner)
+    }
+
+    /// Takes names and steps back from the machine of a method that has ended.
+    pub fn take_back(&mut self, mut ended: Box<Machine>)
+        ensures back { (log : List Event) →
+            now self.new log ≡ with_frame (now ended.value log) (frame_of self.old.frame) }
+        ensures steps { self.new.steps ≡ ended.value.steps }
+    {
+        mem::swap(&mut self.names, &mut ended.names);
+        self.steps = ended.steps;
+    }
+
+    /// Puts a value into a local.
+    pub fn set_local(&mut self, k: u8, value: Value)
+        ensures holds { (log : List Event) →
+            now self.new log ≡ with_local (now self.old log) k (view value) }
+        ensures steps { self.new.steps ≡ self.old.steps }
+    {
+        hold(&mut self.frame.locals, k, value);
+    }
+
+    /// Puts a value into an argument.
+    pub fn set_argument(&mut self, k: u8, value: Value)
+        ensures holds { (log : List Event) →
+            now self.new log ≡ with_arg (now self.old log) k (view value) }
+        ensures steps { self.new.steps ≡ self.old.steps }
+    {
+        hold(&mut self.frame.args, k, value);
+    }
+
+    /// The field of a buffer that an own name is.
+    pub fn own_field(&self, number: usize) -> Option<BufferPart>
+        ensures { (log : List Event) →
+            result ≡ field_at (now self.now log).frame.fields number }
+    {
+        *self.frame.fields.get(number)?
+    }
+
+    /// Makes an own name more.
+    fn make_own(
+        &mut self,
+        alloc: Global,
+        width: Width,
+        held: Option<Value>,
+        field: Option<BufferPart>,
+    ) -> Result<(), NoMemory>
+        ensures means { (log : List Event) → Runs (made result)
+            (make_own (bits_of width) (value_of held) field)
+            (now self.old log) (now self.new log) }
+        ensures steps { self.new.steps ≡ self.old.steps }
+    {
+        self.frame.owns.push(alloc, width, held)?;
+        match self.frame.fields.push(field) {
+            Ok(()) => Ok(()),
+            Err(_) => Err(NoMemory),
+        }
+    }
+
+    /// Makes an own name more, which holds this value first.
+    pub fn define_own(&mut self, alloc: Global, width: Width, value: Value) -> Result<(), NoMemory>
+        ensures means { (log : List Event) → Runs (made result)
+            (define_own (bits_of width) (view value))
+            (now self.old log) (now self.new log) }
+        ensures steps { self.new.steps ≡ self.old.steps }
+    {
+        self.make_own(alloc, width, Some(value), None)
+    }
+
+    /// Makes an own name more, which is a field of a buffer.
+    pub fn define_field(
+        &mut self,
+        alloc: Global,
+        width: Width,
+        field: BufferPart,
+    ) -> Result<(), NoMemory>
+        ensures means { (log : List Event) → Runs (made result)
+            (define_field (bits_of width) field)
+            (now self.old log) (now self.new log) }
+        ensures steps { self.new.steps ≡ self.old.steps }
+    {
+        self.make_own(alloc, width, None, Some(field))
+    }
+}

@@ -1,6 +1,0 @@
-use Rattle.std.proofs.Common.{length}
-use Rattle.aml_plain.proofs.inner.+inner.Given as goal
-
--- a number less each time
-abbrev pub decreases-inner : goal.decreases-inner
-decreases-inner l = length l.path.now
