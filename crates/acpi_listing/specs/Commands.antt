@@ -9,7 +9,8 @@ use Rattle.aml_namespace.specs.declared.object.Method.{Method}
 use Rattle.aml_namespace.specs.Entries.{Entries}
 use Rattle.aml_namespace.specs.Load.{Shown}
 use Rattle.aml_namespace.specs.Names.{method_at, IsBodyOf, ReadsBodyOf}
-use Rattle.aml_namespace.specs.Printed.{path_text, printed_object}
+use Rattle.aml_paths.specs.Printed.{path_text}
+use Rattle.aml_namespace.specs.PrintedObjects.{printed_object}
 use Rattle.aml_kinds.specs.FirstKinds.{greatest_of}
 use Rattle.aml_kinds.specs.FirstContents.{first_contents, first_kinds}
 use Rattle.aml_kinds.specs.Values.{Value, Int}

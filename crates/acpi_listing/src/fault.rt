@@ -11,7 +11,8 @@ ghost use Rattle.acpi_listing.specs.declared.fault.Stop.TheVariants as stop;
 use crate::source::SourceFault;
 use acpi_tables::{TableCause, TableFault};
 use acpi_text::RunFault;
-use aml_namespace::{LoadCause, LoadFault, LoadRefusal, NoMemory};
+use aml_namespace::{LoadCause, LoadFault, LoadRefusal};
+use aml_paths::NoMemory;
 use aml_regions::RegistersFault;
 use std::alloc::{AllocError, AllocFailed};
 

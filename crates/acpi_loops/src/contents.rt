@@ -1,7 +1,8 @@
 // Contents of names, again and again.
 
 use aml_kinds::{Names, Value};
-use aml_namespace::{ObjectId, Width};
+use aml_namespace::Width;
+use aml_paths::ObjectId;
 use std::alloc::Global;
 
 /// Names of 64 bits, of which each holds an integer.

@@ -7,7 +7,7 @@ ghost use Rattle.aml_regions.specs.Events.{Read, Written};
 ghost use Rattle.acpi_loops.specs.Turns.{turns_of, with_first};
 
 use aml_kinds::Names;
-use aml_namespace::{NoMemory, ObjectId};
+use aml_paths::{NoMemory, ObjectId};
 use aml_regions::{Access, World};
 
 /// The unit that both have: 16 bits at the region's first address.

@@ -1,7 +1,7 @@
 // Tables whose Externals stand within an `If (Zero)`, as compilers write them.
 
 use acpi_samples::{changed, table_of};
-use aml_namespace::{is_dead_if, open_dead_externals};
+use aml_externals::{is_dead_if, open_dead_externals};
 use std::alloc::{AllocError, Global};
 use std::test::Fail;
 

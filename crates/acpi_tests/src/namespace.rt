@@ -10,9 +10,9 @@ mod within;
 use acpi_samples::{DSDT, HOST, table_of};
 use aml_lex::{NameSeg, name_string};
 use aml_namespace::{
-    Content, DataName, Entry, LoadFault, Method, Namespace, NoMemory, Object, ObjectId, Scope,
-    Source, Width,
+    Content, DataName, Entry, LoadFault, Method, Namespace, Object, Source, Width,
 };
+use aml_paths::{NoMemory, ObjectId, Scope};
 use aml_tree::Span;
 use std::alloc::{AllocError, Global};
 use std::test::Fail;

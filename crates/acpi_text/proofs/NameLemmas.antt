@@ -3,9 +3,9 @@ use Rattle.std.proofs.Common.{◌≡◌, ◌+◌, ◌<◌, ◌≤◌, ℕ, zero,
 use Rattle.std.proofs.lemmas.List.{length-take-le, map_push, take_more, length-map}
 use Rattle.std.specs.List.{flat_map}
 use Rattle.aml_lex.specs.declared.names.NameSeg.{NameSeg}
-use Rattle.aml_namespace.specs.Printed.{segments_text}
-use Rattle.aml_namespace.specs.Steps.{path_seen}
-use Rattle.aml_namespace.proofs.Positions.{drop_from}
+use Rattle.aml_paths.specs.Printed.{segments_text}
+use Rattle.aml_paths.specs.Steps.{path_seen}
+use Rattle.aml_paths.proofs.Positions.{drop_from}
 
 -- a segment behind others stands behind a `.`
 join_next : (pieces : List (List ℕ)) (piece : List ℕ) → 0 < length pieces

@@ -4,8 +4,8 @@ use Rattle.std.specs.List.{flat_map}
 use Rattle.acpi_text.specs.Text.{joined}
 use Rattle.aml_namespace.specs.Entries.{Entries, object_at, path_numbered}
 use Rattle.aml_namespace.specs.Load.{Shown}
-use Rattle.aml_namespace.specs.Paths.{Path, root}
-use Rattle.aml_namespace.specs.Printed.{path_text}
+use Rattle.aml_paths.specs.Paths.{Path, root}
+use Rattle.aml_paths.specs.Printed.{path_text}
 use Rattle.aml_namespace.specs.Widths.{bits_of, size_bits}
 use Rattle.aml_namespace.specs.declared.object.Content.{Content}
 use Rattle.aml_namespace.specs.declared.object.Content.TheVariants as content
@@ -13,7 +13,7 @@ use Rattle.aml_namespace.specs.declared.object.Entry.{Entry}
 use Rattle.aml_namespace.specs.declared.object.Entry.TheVariants.{Own, Alias}
 use Rattle.aml_namespace.specs.declared.object.Object.{Object}
 use Rattle.aml_namespace.specs.declared.object.Object.TheVariants as object
-use Rattle.aml_namespace.specs.declared.object.ObjectId.{ObjectId}
+use Rattle.aml_paths.specs.declared.scope.ObjectId.{ObjectId}
 
 -- the path with a number; the root's behind the last
 abbrev pub path_of : Entries → ℕ → Path

@@ -5,7 +5,7 @@ use Rattle.acpi_text.specs.Names.{object_text}
 use Rattle.acpi_text.specs.Text.{joined, hex, escaped}
 use Rattle.aml_kinds.specs.Values.{Value, Int, Buf, Str, Pkg, Element, Elements, Holds, Named, Unset, none, more}
 use Rattle.aml_namespace.specs.Entries.{Entries}
-use Rattle.aml_namespace.specs.declared.object.ObjectId.{ObjectId}
+use Rattle.aml_paths.specs.declared.scope.ObjectId.{ObjectId}
 
 -- these pieces with `, ` between each two
 abbrev pub listed : List (List ℕ) → List ℕ

@@ -9,7 +9,8 @@ ghost use Rattle.aml_regions.specs.EventViews.{event_of, events_of};
 
 use crate::path::push_object;
 use crate::writing::{RunFault, put};
-use aml_namespace::{Namespace, ObjectId};
+use aml_namespace::Namespace;
+use aml_paths::ObjectId;
 use aml_regions::{Access, Event};
 use std::alloc::{AllocError, Global};
 use std::io::Write;

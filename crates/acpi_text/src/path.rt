@@ -2,13 +2,14 @@
 
 ghost use Rattle.std.specs.Prelude.{◌≡◌, ◌++◌, OnOk};
 ghost use Rattle.acpi_text.specs.Names.{object_text, path_of};
-ghost use Rattle.aml_namespace.specs.Printed.{path_text};
+ghost use Rattle.aml_paths.specs.Printed.{path_text};
 ghost use Rattle.aml_namespace.specs.Shows.{shown};
-ghost use Rattle.aml_namespace.specs.Steps.{path_seen};
+ghost use Rattle.aml_paths.specs.Steps.{path_seen};
 
 use crate::writing::RunFault;
 use aml_lex::NameSeg;
-use aml_namespace::{Namespace, ObjectId};
+use aml_namespace::Namespace;
+use aml_paths::ObjectId;
 use std::alloc::{AllocError, Global};
 
 /// Adds the path with this number; the root's behind the last.

@@ -3,13 +3,14 @@
 ghost use Rattle.std.specs.Prelude.{◌≡◌, IfOk, string_bytes};
 ghost use Rattle.acpi_text.specs.Lists.{Lists};
 ghost use Rattle.acpi_text.specs.Names.{path_of};
-ghost use Rattle.aml_namespace.specs.Printed.{path_text};
+ghost use Rattle.aml_paths.specs.Printed.{path_text};
 ghost use Rattle.acpi_text.specs.Outcome.{refusal_line, refusal_part};
 ghost use Rattle.aml_namespace.specs.Shows.{shown};
 
 use crate::path::push_path;
 use crate::writing::{RunFault, put};
-use aml_namespace::{Namespace, ObjectId};
+use aml_namespace::Namespace;
+use aml_paths::ObjectId;
 use aml_tree::Refusal;
 use std::alloc::{AllocError, Global};
 use std::io::Write;

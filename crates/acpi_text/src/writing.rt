@@ -27,10 +27,10 @@ impl From<AllocError> for RunFault {
     }
 }
 
-impl From<aml_namespace::NoMemory> for RunFault {
+impl From<aml_paths::NoMemory> for RunFault {
     ghost from_gives = { λ _ fault. fault ≡ NoMemory };
 
-    fn from(_error: aml_namespace::NoMemory) -> RunFault {
+    fn from(_error: aml_paths::NoMemory) -> RunFault {
         RunFault::NoMemory
     }
 }

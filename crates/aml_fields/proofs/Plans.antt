@@ -1,6 +1,6 @@
 -- Fields, however their units are reached.
 use Rattle.std.proofs.Common.{◌≡◌, ℕ, ◌+◌, ◌-◌, List, Result, Ok, Err, refl, subst, arith}
-use Rattle.aml_namespace.specs.declared.memory.NoMemory.{NoMemory}
+use Rattle.aml_paths.specs.declared.memory.NoMemory.{NoMemory}
 use Rattle.aml_regions.specs.Events.{Event}
 use Rattle.aml_regions.specs.declared.field.AnyField.{AnyField}
 use Rattle.aml_regions.specs.declared.field.AnyField.TheVariants.{Plain, Banked, Indexed}

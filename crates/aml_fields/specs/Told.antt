@@ -3,7 +3,7 @@ use Rattle.std.specs.Prelude.{Option, Some, None, Result, Ok, Err}
 use Rattle.aml_kinds.specs.declared.value.Value as code
 use Rattle.aml_kinds.specs.Values.{Value}
 use Rattle.aml_kinds.specs.Views.{view}
-use Rattle.aml_namespace.specs.declared.memory.NoMemory.{NoMemory}
+use Rattle.aml_paths.specs.declared.memory.NoMemory.{NoMemory}
 use Rattle.aml_meaning.specs.Runs as runs
 
 -- an answer that may have met its limit

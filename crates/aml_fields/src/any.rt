@@ -4,7 +4,7 @@ ghost use Rattle.aml_regions.specs.Fields.{IsSoundField};
 ghost use Rattle.aml_meaning.specs.Fields.{plan_of};
 
 use crate::units::Units;
-use aml_namespace::NoMemory;
+use aml_paths::NoMemory;
 use aml_regions::{AnyField, FieldLayout, World};
 
 #[tactic(auto, unfolding(aml_meaning::specs::Fields::plan_of, aml_meaning::specs::Fields::region_plan, aml_meaning::specs::Fields::banked_plan, aml_meaning::specs::Fields::indexed_plan))]

@@ -5,7 +5,7 @@ ghost use Rattle.aml_meaning.specs.Fields.{banked_plan};
 
 use crate::units::Units;
 use crate::write::write_units;
-use aml_namespace::NoMemory;
+use aml_paths::NoMemory;
 use aml_regions::{BankedField, FieldLayout, World};
 
 #[tactic(auto, unfolding(aml_meaning::specs::Fields::banked_plan))]

@@ -6,7 +6,7 @@ ghost use Rattle.aml_meaning.specs.Fields.{indexed_plan};
 use crate::read::read_units;
 use crate::units::{Units, place_of};
 use crate::write::write_units;
-use aml_namespace::NoMemory;
+use aml_paths::NoMemory;
 use aml_regions::{FieldLayout, IndexedField, World};
 
 #[tactic(auto, unfolding(aml_meaning::specs::Fields::indexed_plan))]

@@ -13,9 +13,8 @@ use crate::kernel::byte_replaced;
 use crate::source::Bits;
 use aml_kinds::{Bytes, Value};
 use aml_meaning::BufferPart;
-use aml_namespace::{
-    BufferField, BufferFieldSize, Link, Namespace, NoMemory, Object, ObjectId, Width,
-};
+use aml_namespace::{BufferField, BufferFieldSize, Link, Namespace, Object, Width};
+use aml_paths::{NoMemory, ObjectId};
 use std::alloc::Global;
 
 // The byte at an index, which counts bits of a bit field and of one of so many bits, and else bytes.

@@ -8,7 +8,7 @@ ghost use Rattle.aml_meaning.specs.Runs.{Runs, state};
 
 use crate::kernel::{above, run};
 use crate::units::{Units, end_of, first_of};
-use aml_namespace::NoMemory;
+use aml_paths::NoMemory;
 use aml_regions::{AnyField, World};
 
 /// The integer of what has at most 64 bits, read unit by unit in rising order. None where more events

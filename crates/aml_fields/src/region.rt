@@ -5,7 +5,7 @@ ghost use Rattle.aml_regions.specs.Fields.{IsSound, access, end};
 ghost use Rattle.aml_meaning.specs.Fields.{region_plan};
 
 use crate::units::{Units, place_of};
-use aml_namespace::NoMemory;
+use aml_paths::NoMemory;
 use aml_regions::{Access, FieldLayout, RegionField, World};
 
 /// A unit's access.

@@ -6,7 +6,7 @@ ghost use Rattle.aml_regions.specs.Worlds.{CountsRefusal};
 ghost use Rattle.aml_meaning.specs.Fields.{Takes, UnitPlan, told, went};
 ghost use Rattle.aml_meaning.specs.Runs.{Runs, state};
 
-use aml_namespace::NoMemory;
+use aml_paths::NoMemory;
 use aml_regions::{FieldLayout, World};
 
 /// The first unit that a field touches.

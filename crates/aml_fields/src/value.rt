@@ -11,7 +11,8 @@ ghost use Rattle.aml_fields.specs.Told.{told_value};
 use crate::read::read_integer_field;
 use crate::wide::read_wide_field;
 use aml_kinds::{Bytes, Value};
-use aml_namespace::{NoMemory, Width};
+use aml_namespace::Width;
+use aml_paths::NoMemory;
 use aml_regions::{AnyField, World};
 use std::alloc::Global;
 

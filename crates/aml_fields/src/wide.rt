@@ -9,7 +9,7 @@ ghost use Rattle.aml_meaning.specs.Runs.{Runs, state};
 use crate::buffer::write_buffer_field;
 use crate::kernel::run;
 use crate::units::{Units, end_of, first_of};
-use aml_namespace::NoMemory;
+use aml_paths::NoMemory;
 use aml_regions::{AnyField, World};
 
 // Zeros in each byte.

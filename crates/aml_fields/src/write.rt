@@ -9,7 +9,7 @@ ghost use Rattle.aml_meaning.specs.Runs.{Runs, state};
 use crate::kernel::replaced;
 use crate::source::Bits;
 use crate::units::{Units, end_of, first_of};
-use aml_namespace::NoMemory;
+use aml_paths::NoMemory;
 use aml_regions::{AnyField, OtherBits, World};
 
 // What the bits of a unit that are not the field's are given; none are there where the unit is wholly

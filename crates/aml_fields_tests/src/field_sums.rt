@@ -11,7 +11,7 @@ use aml_fields::{
     BitBytes, read_count, read_integer_field, read_wide_field, sound, write_count, write_field,
 };
 use aml_kinds::Names;
-use aml_namespace::{NoMemory, ObjectId};
+use aml_paths::{NoMemory, ObjectId};
 use aml_regions::{Access, AnyField, Event, FieldLayout, OtherBits, RegionField, UnitWidth, World};
 use std::alloc::Global;
 use std::test::Fail;

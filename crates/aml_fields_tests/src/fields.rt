@@ -6,7 +6,7 @@ use aml_fields::{
     BitBytes, read_buffer_field, read_count, read_integer_field, read_wide_field, sound,
     write_buffer_field, write_count, write_field,
 };
-use aml_namespace::NoMemory;
+use aml_paths::NoMemory;
 use aml_regions::{
     AnyField, Event, FieldLayout, OtherBits, RegionField, RegisterFile, RegistersFault, UnitWidth,
 };

@@ -4,7 +4,7 @@
 
 use UnitWidth::{Byte, Word};
 use aml_fields::{read_count, read_integer_field, sound, write_count, write_field};
-use aml_namespace::NoMemory;
+use aml_paths::NoMemory;
 use aml_regions::{
     AnyField, BankedField, Event, FieldLayout, IndexedField, OtherBits, Refusing, RegionField,
     RegisterFile, RegistersFault, UnitWidth, World,

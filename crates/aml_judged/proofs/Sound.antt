@@ -37,7 +37,7 @@ use Rattle.aml_meaning.specs.declared.mutex.TakenMutex.{TakenMutex}
 use Rattle.aml_meaning.specs.declared.action.Pause.{Pause as PauseKind}
 use Rattle.aml_meaning.specs.declared.action.Pause.TheVariants as pause
 use Rattle.aml_regions.specs.Worlds.{behind_sleep}
-use Rattle.aml_namespace.specs.declared.object.ObjectId.{ObjectId}
+use Rattle.aml_paths.specs.declared.scope.ObjectId.{ObjectId}
 use Rattle.aml_operators.specs.declared.op.Op.{Op}
 use Rattle.aml_kinds.specs.BodyData.{computed_size}
 use Rattle.aml_kinds.specs.FirstKinds.{kind_by}

@@ -44,7 +44,7 @@ use Rattle.aml_meaning.specs.declared.part.BufferPart.{BufferPart}
 use Rattle.aml_regions.specs.declared.field.AnyField.{AnyField}
 use Rattle.aml_regions.specs.Fields.{layout_of}
 use Rattle.aml_kinds.specs.BodyData.{computed_size}
-use Rattle.aml_namespace.specs.declared.object.ObjectId.{ObjectId}
+use Rattle.aml_paths.specs.declared.scope.ObjectId.{ObjectId}
 use Rattle.aml_judged.specs.Events.{Costs}
 use Rattle.aml_judged.specs.Keeps.{IsKept, TermsKeepLocals}
 use Rattle.aml_judged.proofs.Events.{fields_cost}

@@ -7,9 +7,9 @@ use Rattle.aml_namespace.specs.declared.object.Content.{Content}
 use Rattle.aml_namespace.specs.declared.object.Content.TheVariants as content
 use Rattle.aml_namespace.specs.declared.object.Object.{Object}
 use Rattle.aml_namespace.specs.declared.object.Object.TheVariants as object
-use Rattle.aml_namespace.specs.declared.object.ObjectId.{ObjectId}
-use Rattle.aml_namespace.specs.declared.object.Scope.{Scope}
-use Rattle.aml_namespace.specs.declared.object.Scope.TheVariants.{Root}
+use Rattle.aml_paths.specs.declared.scope.ObjectId.{ObjectId}
+use Rattle.aml_paths.specs.declared.scope.Scope.{Scope}
+use Rattle.aml_paths.specs.declared.scope.Scope.TheVariants.{Root}
 use Rattle.aml_namespace.specs.declared.object.Source.{Source}
 use Rattle.aml_namespace.specs.declared.object.Source.TheVariants as source
 use Rattle.aml_namespace.specs.declared.width.Width.{Width}

@@ -10,13 +10,13 @@ use Rattle.aml_namespace.specs.declared.object.Content.TheVariants as content
 use Rattle.aml_namespace.specs.declared.object.Entry.{Entry}
 use Rattle.aml_namespace.specs.declared.object.Object.{Object}
 use Rattle.aml_namespace.specs.declared.object.Object.TheVariants as object
-use Rattle.aml_namespace.specs.declared.object.Scope.{Scope}
+use Rattle.aml_paths.specs.declared.scope.Scope.{Scope}
 use Rattle.aml_namespace.specs.declared.object.Source.{Source}
 use Rattle.aml_namespace.specs.declared.object.Source.TheVariants as source
 use Rattle.aml_namespace.specs.declared.width.Width.{Width}
 use Rattle.aml_namespace.specs.Entries.{Entries, object_at, own_object}
 use Rattle.aml_namespace.specs.Load.{Shown}
-use Rattle.aml_namespace.specs.Paths.{Path}
+use Rattle.aml_paths.specs.Paths.{Path}
 use Rattle.aml_namespace.specs.Widths.{bits_of}
 use Rattle.aml_kinds.specs.Contents.{Contents, ContentKinds}
 use Rattle.aml_kinds.specs.FirstContents.{filled, first_content, first_contents, first_kinds, value_from, value_in, value_told}

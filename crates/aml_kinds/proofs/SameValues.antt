@@ -1,7 +1,7 @@
 -- What is found to be the same is equal.
 use Rattle.std.proofs.Common.{◌≡◌, Bool, true, Option, Some, None, ap, refl, sym, subst, ◌∙◌, ◌&&◌, IsTrue, ◌↔◌}
 use Rattle.std.specs.Cmp.Lexicographic.{bytes_decides}
-use Rattle.aml_namespace.specs.declared.object.ObjectId.{ObjectId}
+use Rattle.aml_paths.specs.declared.scope.ObjectId.{ObjectId}
 use Rattle.aml_kinds.specs.Values.{Value, Int, Buf, Str, Pkg, Elements, none, more, Element, Holds, Named, Unset}
 use Rattle.aml_kinds.specs.SameValues.{same_value, same_elements, same_element, same_object}
 use Rattle.aml_kinds.proofs.SameKinds.{same_number, number_same, both_first, both_second}

@@ -5,7 +5,7 @@ use Rattle.aml_operators.specs.declared.op.Op.{Op}
 use Rattle.aml_operators.specs.declared.op.Op.TheVariants as op
 use Rattle.aml_operators.specs.Literal.{literal_of}
 use Rattle.aml_operators.specs.Tree.{Trees, Node, none, more}
-use Rattle.aml_namespace.specs.declared.object.Scope.TheVariants.{At}
+use Rattle.aml_paths.specs.declared.scope.Scope.TheVariants.{At}
 use Rattle.aml_namespace.specs.Load.{Shown}
 use Rattle.aml_namespace.specs.Made.{content_in}
 use Rattle.aml_kinds.specs.FirstContents.{value_of}

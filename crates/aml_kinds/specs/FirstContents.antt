@@ -13,8 +13,8 @@ use Rattle.aml_namespace.specs.declared.object.Content.TheVariants as content
 use Rattle.aml_namespace.specs.declared.object.Entry.{Entry}
 use Rattle.aml_namespace.specs.declared.object.Object.{Object}
 use Rattle.aml_namespace.specs.declared.object.Object.TheVariants as object
-use Rattle.aml_namespace.specs.declared.object.ObjectId.{ObjectId}
-use Rattle.aml_namespace.specs.declared.object.Scope.{Scope}
+use Rattle.aml_paths.specs.declared.scope.ObjectId.{ObjectId}
+use Rattle.aml_paths.specs.declared.scope.Scope.{Scope}
 use Rattle.aml_namespace.specs.declared.object.Source.{Source}
 use Rattle.aml_namespace.specs.declared.object.Source.TheVariants as source
 use Rattle.aml_namespace.specs.declared.width.Width.{Width}
@@ -22,7 +22,7 @@ use Rattle.aml_namespace.specs.Bodies.{bytes_of}
 use Rattle.aml_namespace.specs.Entries.{own_object}
 use Rattle.aml_namespace.specs.Load.{Shown}
 use Rattle.aml_namespace.specs.Made.{at_of, content_in}
-use Rattle.aml_namespace.specs.Paths.{Path}
+use Rattle.aml_paths.specs.Paths.{Path}
 use Rattle.aml_namespace.specs.Settled.{named_at}
 use Rattle.aml_namespace.specs.Widths.{bits_of}
 use Rattle.aml_kinds.specs.Contents.{Contents, ContentKinds}

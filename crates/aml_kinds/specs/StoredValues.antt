@@ -3,7 +3,7 @@ use Rattle.std.specs.Prelude.{◌≡◌, ℕ, List, [], ◌∷◌, Option, ◌�
 use Rattle.std.specs.Coded.{Coded, code_by, coded_ℕ, coded_list, coded_option, coded⊎}
 use Rattle.std.proofs.Common.{inl, inr, ap, ◌∙◌}
 use base.Stored.{coded_unit}
-use Rattle.aml_namespace.specs.declared.object.ObjectId.{ObjectId}
+use Rattle.aml_paths.specs.declared.scope.ObjectId.{ObjectId}
 use Rattle.aml_kinds.specs.Values.{Value, Int, Buf, Str, Pkg, Elements, none, more, Element, Holds, Named, Unset}
 
 -- the end of a package's elements, a package's beginning, an unset element

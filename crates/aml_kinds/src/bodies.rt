@@ -9,8 +9,9 @@ ghost use Rattle.aml_kinds.specs.Views.{view};
 use crate::first_data::{Site, value_of};
 use crate::told::content_in;
 use crate::value::Value;
-use aml_namespace::{Namespace, NoMemory, ObjectId, Scope};
+use aml_namespace::Namespace;
 use aml_operators::{Op, Term, literal_of};
+use aml_paths::{NoMemory, ObjectId, Scope};
 use std::alloc::Global;
 
 /// The value of a literal of data in a method's body, in a table, by its operator and its parts: a

@@ -4,7 +4,7 @@ ghost use Rattle.std.specs.Prelude.{◌≡◌, IfOk, map};
 ghost use Rattle.aml_kinds.specs.Views.{view, element};
 
 use crate::value::{Element, Value};
-use aml_namespace::NoMemory;
+use aml_paths::NoMemory;
 use std::alloc::{AllocError, Global};
 
 /// A copy of a value.

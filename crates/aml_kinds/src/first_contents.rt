@@ -11,8 +11,9 @@ ghost use Rattle.aml_kinds.specs.Views as seen;
 
 use crate::first_data::{Site, plain_value, value_in};
 use crate::value::Value;
-use aml_namespace::{Content, Namespace, Object, ObjectId, Source};
+use aml_namespace::{Content, Namespace, Object, Source};
 use aml_operators::{Op, Term};
+use aml_paths::ObjectId;
 use aml_tree::{Span, TreeFault, read_data};
 use std::alloc::{AllocError, Global};
 

@@ -13,8 +13,9 @@ use crate::first_kinds::modulo;
 use crate::package::Package;
 use crate::told::content_in;
 use crate::value::{Element, Value};
-use aml_namespace::{Content, NamePlace, Namespace, ObjectId, Scope, Width};
+use aml_namespace::{Content, Namespace, Width};
 use aml_operators::{Op, Term, behind_first, literal_in};
+use aml_paths::{NamePlace, ObjectId, Scope};
 use std::alloc::{AllocError, Global};
 
 /// Where data stands.

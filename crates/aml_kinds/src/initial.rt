@@ -7,7 +7,8 @@ ghost use Rattle.aml_kinds.specs.FirstContents.{first_contents, first_kinds};
 
 use crate::first_contents::first_content;
 use crate::names::Names;
-use aml_namespace::{Namespace, NoMemory, ObjectId};
+use aml_namespace::Namespace;
+use aml_paths::{NoMemory, ObjectId};
 use std::alloc::{AllocError, Global};
 
 impl Names {

@@ -7,7 +7,7 @@ ghost use Rattle.aml_kinds.specs.KindViews.{kind_of, element_kind};
 
 use crate::kind::{ElementKind, Kind};
 use crate::same_kinds::shapes_match;
-use aml_namespace::NoMemory;
+use aml_paths::NoMemory;
 use std::alloc::{AllocError, Global};
 
 /// What is known of a value that is of the one kind or of the other.

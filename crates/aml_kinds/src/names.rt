@@ -19,7 +19,8 @@ use crate::fitting::fits;
 use crate::kind::Kind;
 use crate::kind_copies::copied_kind;
 use crate::value::Value;
-use aml_namespace::{Content, Namespace, NoMemory, Object, ObjectId, Source, Width};
+use aml_namespace::{Content, Namespace, Object, Source, Width};
+use aml_paths::{NoMemory, ObjectId};
 use std::alloc::{AllocError, Global};
 
 /// What data names hold, by the numbers of their objects. Each content is of its name's kind.

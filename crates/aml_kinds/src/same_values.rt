@@ -5,7 +5,7 @@ ghost use Rattle.aml_kinds.specs.SameValues.{same_value, same_elements, same_ele
 ghost use Rattle.aml_kinds.specs.Views.{view, element, elements_of};
 
 use crate::value::{Element, Value};
-use aml_namespace::ObjectId;
+use aml_paths::ObjectId;
 
 /// Whether two values are the same.
 pub fn is_same_value(v: &Value, w: &Value) -> bool

@@ -2,7 +2,7 @@
 
 use crate::bytes::Bytes;
 use crate::package::Package;
-use aml_namespace::ObjectId;
+use aml_paths::ObjectId;
 
 /// A value (ACPI 6.5, 19.3.5).
 #[cycle(value)]

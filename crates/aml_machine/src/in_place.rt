@@ -13,11 +13,12 @@ ghost use Rattle.aml_meaning.specs.BufferFields.{IsLaidOut, first_bit};
 ghost use Rattle.aml_meaning.specs.Changes.{held_by};
 ghost use Rattle.aml_machine.specs.Views.{buffer_of, now};
 
+use crate::machine::Machine;
 use aml_fields::{Bits, stored_byte};
 use aml_kinds::{Names, Value};
-use crate::machine::Machine;
 use aml_meaning::BufferPart;
-use aml_namespace::{Link, ObjectId};
+use aml_namespace::Link;
+use aml_paths::ObjectId;
 
 /// What the source of a field holds.
 pub fn held_by(machine: &Machine, source: Link) -> Option<&Value>

@@ -15,7 +15,8 @@ use crate::frame::Frame;
 use crate::slots::hold;
 use aml_kinds::{Names, Value};
 use aml_meaning::BufferPart;
-use aml_namespace::{NoMemory, Width};
+use aml_namespace::Width;
+use aml_paths::NoMemory;
 use std::alloc::Global;
 use std::mem;
 

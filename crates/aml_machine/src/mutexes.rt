@@ -6,7 +6,7 @@ ghost use Rattle.aml_meaning.specs.State.{greatest_level};
 ghost use Rattle.aml_machine.specs.Mutexes.{are_rising, held_if, is_empty};
 
 use aml_meaning::TakenMutex;
-use aml_namespace::{NoMemory, ObjectId};
+use aml_paths::{NoMemory, ObjectId};
 use std::alloc::Global;
 
 /// The mutexes that a method has taken and not released, in order of taking, and the greatest level of

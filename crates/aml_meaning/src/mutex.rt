@@ -1,6 +1,6 @@
 //! Mutexes, as a running method holds them.
 
-use aml_namespace::ObjectId;
+use aml_paths::ObjectId;
 
 /// A mutex that a method took (ACPI 6.5, 19.6, Mutex, Acquire).
 #[derive(Clone, Copy, Debug, PartialEq, Eq)]

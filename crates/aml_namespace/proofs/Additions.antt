@@ -21,7 +21,7 @@ use Rattle.aml_namespace.specs.declared.object.Object.{Object}
 use Rattle.aml_namespace.specs.declared.object.Object.TheVariants as object
 use Rattle.aml_namespace.specs.declared.object.Through.{Through}
 use Rattle.aml_namespace.specs.declared.fields.Cursor.{Cursor}
-use Rattle.aml_namespace.specs.Paths.{Path}
+use Rattle.aml_paths.specs.Paths.{Path}
 use Rattle.aml_namespace.specs.Entries.{Entries}
 use Rattle.aml_namespace.specs.Enter.{Here, aliased, alias_of, entered, named_object, new_path, opened, scope_named, scope_of, told_at}
 use Rattle.aml_namespace.specs.Define.{alias, all_defined, bank_fields, defined, field_entered, fields_from, flat, holding, index_fields, object_entered, region_fields, reopening, where_named}

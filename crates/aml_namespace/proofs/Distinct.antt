@@ -18,9 +18,9 @@ use Rattle.aml_namespace.specs.declared.object.Object.{Object}
 use Rattle.aml_namespace.specs.declared.object.Object.TheVariants as object
 use Rattle.aml_namespace.specs.declared.object.Through.{Through}
 use Rattle.aml_namespace.specs.declared.fields.Cursor.{Cursor}
-use Rattle.aml_namespace.specs.Paths.{Path, root, path_number, AreDistinct}
+use Rattle.aml_paths.specs.Paths.{Path, root, path_number, AreDistinct}
 use Rattle.aml_namespace.specs.Entries.{Entries, number_of, paths_in, scope_opened}
-use Rattle.aml_namespace.specs.Resolve.{spelled}
+use Rattle.aml_paths.specs.Resolve.{spelled}
 use Rattle.aml_namespace.specs.Enter.{Here, aliased, alias_of, entered, greatest_count, made_path, named_object, new_path, opened, parent_of, scope_named, scope_of, scope_path, told_at}
 use Rattle.aml_namespace.specs.Define.{alias, all_defined, bank_fields, defined, field_entered, fields_from, flat, holding, index_fields, object_entered, region_fields, reopening, where_named}
 use Rattle.aml_namespace.specs.Fault.{◌>>=◌}
@@ -28,8 +28,8 @@ use Rattle.aml_namespace.specs.FieldLists.{behind, field_of}
 use Rattle.aml_namespace.specs.Load.{AllMake, at_root}
 use Rattle.aml_namespace.specs.Made.{Named, at_of, object_of}
 use Rattle.aml_namespace.specs.Predefined.{predefined_entries}
-use Rattle.aml_namespace.proofs.PathNumbers.{path_number_new, path_number_stays}
-use Rattle.aml_namespace.proofs.Positions.{slice_get_push}
+use Rattle.aml_paths.proofs.PathNumbers.{path_number_new, path_number_stays}
+use Rattle.aml_paths.proofs.Positions.{slice_get_push}
 
 -- one more path, which is new
 distinct_of : (paths : List Path) (new path : Path) (i : ℕ) → AreDistinct paths → path_number paths new ≡ None → (slice_get paths i ≡ Some path) ⊎ ((i ≡ length paths) × (path ≡ new)) → path_number (paths ++ new ∷ []) path ≡ Some i

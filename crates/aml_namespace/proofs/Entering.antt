@@ -7,13 +7,13 @@ use Rattle.std.proofs.lemmas.Option.{same_Some}
 use Rattle.aml_lex.specs.declared.names.NameSeg.{NameSeg}
 use Rattle.aml_namespace.specs.declared.fault.LoadCause.{LoadCause}
 use Rattle.aml_namespace.specs.declared.fault.LoadCause.TheVariants.{Duplicate, ScopeMissing, TooMany}
-use Rattle.aml_namespace.specs.declared.resolve.Lead.TheVariants.{Nowhere, At, Below}
-use Rattle.aml_namespace.specs.Paths.{Path, root, path_at, path_number, number_below, AreDistinct, AreClosed}
+use Rattle.aml_paths.specs.declared.resolve.Lead.TheVariants.{Nowhere, At, Below}
+use Rattle.aml_paths.specs.Paths.{Path, root, path_at, path_number, number_below, AreDistinct, AreClosed}
 use Rattle.aml_namespace.specs.Entries.{Entries, number_of, paths_in, scope_opened}
 use Rattle.aml_namespace.specs.Enter.{checked_path, greatest_count, made_path, parent_of}
 use Rattle.aml_namespace.specs.Kept.{Places, path_below}
-use Rattle.aml_namespace.specs.Steps.{LeadsTo}
-use Rattle.aml_namespace.proofs.PathNumbers.{path_at_there, path_number_there, number_below_at, no_longer_path}
+use Rattle.aml_paths.specs.Steps.{LeadsTo}
+use Rattle.aml_paths.proofs.PathNumbers.{path_at_there, path_number_there, number_below_at, no_longer_path}
 
 -- a path without its last segment
 parent-push : (path : Path) (segment : List ℕ) → parent_of (path ++ segment ∷ []) ≡ path

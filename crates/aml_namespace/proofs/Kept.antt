@@ -1,16 +1,16 @@
 -- What the program keeps, as pairs.
 use Rattle.std.proofs.Common.{◌≡◌, ℕ, zero, suc, ◌<◌, ◌≤◌, List, [], ◌∷◌, ◌++◌, length, drop, map, slice_get, Option, Some, None, refl, sym, ap, ◌∙◌, subst, arith, option_and_then}
 use Rattle.std.proofs.lemmas.List.{length-map}
-use Rattle.aml_namespace.proofs.PathNumbers.{path_at_there}
+use Rattle.aml_paths.proofs.PathNumbers.{path_at_there}
 use Rattle.std.specs.Option.{option_map}
 use Rattle.std.specs.List.{zip}
 use Rattle.std.proofs.lemmas.Option.{same_Some, slice_get_within}
 use Rattle.aml_namespace.specs.declared.object.Entry.{Entry}
 use Rattle.aml_namespace.specs.declared.object.Object.{Object}
 use Rattle.aml_namespace.specs.declared.objects.Objects.{Objects}
-use Rattle.aml_namespace.specs.Paths.{Path, root, path_at, path_number, number_below, AreDistinct, AreClosed}
-use Rattle.aml_namespace.specs.Resolve.{resolve, spelled}
-use Rattle.aml_namespace.specs.declared.resolve.Lead.{Lead}
+use Rattle.aml_paths.specs.Paths.{Path, root, path_at, path_number, number_below, AreDistinct, AreClosed}
+use Rattle.aml_paths.specs.Resolve.{resolve, spelled}
+use Rattle.aml_paths.specs.declared.resolve.Lead.{Lead}
 use Rattle.aml_lex.specs.NameStrings.{NameString}
 use Rattle.aml_namespace.specs.declared.object.Method.{Method}
 use Rattle.aml_namespace.specs.declared.object.Object.TheVariants as object
@@ -19,8 +19,8 @@ use Rattle.aml_namespace.specs.Names.{method_in}
 use Rattle.aml_namespace.specs.Entries.{Entries, entry_numbered, number_of, own_object, object_at, object_number, owner, path_numbered, paths_in}
 use Rattle.aml_namespace.specs.Kept.{entries_seen}
 use Rattle.aml_namespace.specs.LookUp.{owned_at}
-use Rattle.aml_namespace.specs.Steps.{LeadsTo, paths_seen}
-use Rattle.aml_namespace.proofs.Seen.{seen_closed, seen_distinct, seen_root}
+use Rattle.aml_paths.specs.Steps.{LeadsTo, paths_seen}
+use Rattle.aml_paths.proofs.Seen.{seen_closed, seen_distinct, seen_root}
 
 module _ {K X : Type 0} where
   zip_length : (ks : List K) (xs : List X) → length ks ≡ length xs → length (zip ks xs) ≡ length xs

@@ -2,7 +2,7 @@
 use Rattle.std.proofs.Common.{◌≡◌, ℕ, zero, suc, ◌+◌, ◌<◌, ◌≤◌, inl, inr, List, [], ◌∷◌, ◌++◌, length, get_or, drop, map, slice_get, Some, Err, refl, sym, ap, ◌∙◌, subst, arith}
 use Rattle.std.proofs.lemmas.List.{append_assoc, append-nil, drop_all}
 use Rattle.aml_operators.specs.Tree.{trees}
-use Rattle.aml_namespace.specs.declared.external.External.{External}
+use Rattle.aml_arities.specs.declared.external.External.{External}
 use Rattle.aml_namespace.specs.Externals.{all_declared}
 use Rattle.acpi_tables.specs.Bytes.{number_at}
 use Rattle.aml_namespace.specs.declared.fault.LoadFault.{LoadFault}
@@ -12,7 +12,7 @@ use Rattle.aml_namespace.specs.declared.fault.LoadRefusal.{LoadRefusal}
 use Rattle.aml_namespace.specs.Entries.{Entries}
 use Rattle.aml_namespace.specs.Load.{AllDeclare, AllFail, AllMake, Fails, Makes, at_root, first_width}
 use Rattle.aml_namespace.specs.Widths.{width_by}
-use Rattle.aml_namespace.proofs.Positions.{drop_from}
+use Rattle.aml_paths.proofs.Positions.{drop_from}
 
 -- behind the first tables: what the others make, all make, and where one of the others fails first, so do all
 pub record LeftToLoad (tables : List (List ℕ)) (before : Entries) (n : ℕ) (now : Entries) : Type 0 where

@@ -6,9 +6,9 @@ use Rattle.aml_namespace.specs.declared.fault.LoadCause.TheVariants.{Duplicate, 
 use Rattle.aml_namespace.specs.declared.fault.LoadRefusal.{LoadRefusal}
 use Rattle.aml_namespace.specs.declared.object.Entry.{Entry}
 use Rattle.aml_namespace.specs.declared.object.Entry.TheVariants.{Alias}
-use Rattle.aml_namespace.specs.declared.object.ObjectId.{ObjectId}
-use Rattle.aml_namespace.specs.Paths.{Path, path_at}
-use Rattle.aml_namespace.specs.Resolve.{resolve, spelled}
+use Rattle.aml_paths.specs.declared.scope.ObjectId.{ObjectId}
+use Rattle.aml_paths.specs.Paths.{Path, path_at}
+use Rattle.aml_paths.specs.Resolve.{resolve, spelled}
 use Rattle.aml_namespace.specs.Entries.{Entries, number_of, object_number, paths_in, scope_opened}
 use Rattle.aml_namespace.specs.Fault.{load_refusal, ◌>>=◌}
 

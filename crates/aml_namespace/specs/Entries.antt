@@ -5,7 +5,7 @@ use Rattle.aml_namespace.specs.declared.object.Entry.{Entry}
 use Rattle.aml_namespace.specs.declared.object.Entry.TheVariants.{Own, Alias}
 use Rattle.aml_namespace.specs.declared.object.Object.{Object}
 use Rattle.aml_namespace.specs.declared.object.Object.TheVariants as object
-use Rattle.aml_namespace.specs.Paths.{Path, root, path_number}
+use Rattle.aml_paths.specs.Paths.{Path, root, path_number}
 
 abbrev pub Entries : Type 0
 Entries = List (Path × Entry)

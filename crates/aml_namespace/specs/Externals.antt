@@ -6,7 +6,7 @@ use Rattle.aml_operators.specs.declared.op.Op.{Op}
 use Rattle.aml_operators.specs.declared.op.Op.TheVariants as op
 use Rattle.aml_operators.specs.Literal.{number_in}
 use Rattle.aml_operators.specs.Tree.{Tree, Trees, Node, none, more}
-use Rattle.aml_namespace.specs.declared.external.External.{External}
+use Rattle.aml_arities.specs.declared.external.External.{External}
 use Rattle.aml_namespace.specs.declared.fault.LoadRefusal.{LoadRefusal}
 use Rattle.aml_namespace.specs.declared.object.Entry.TheVariants.{Own}
 use Rattle.aml_namespace.specs.declared.object.Object.{Object}

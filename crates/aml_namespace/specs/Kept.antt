@@ -7,10 +7,10 @@ use Rattle.aml_namespace.specs.declared.fault.LoadFault.{LoadFault}
 use Rattle.aml_namespace.specs.declared.fault.LoadFault.TheVariants.{NoMemory, Refused}
 use Rattle.aml_namespace.specs.declared.fault.LoadRefusal.{LoadRefusal}
 use Rattle.aml_namespace.specs.declared.here.Here as program
-use Rattle.aml_namespace.specs.declared.object.ObjectId.{ObjectId}
+use Rattle.aml_paths.specs.declared.scope.ObjectId.{ObjectId}
 use Rattle.aml_namespace.specs.declared.objects.Objects.{Objects}
-use Rattle.aml_namespace.specs.Paths.{Path, path_at}
-use Rattle.aml_namespace.specs.Steps.{path_seen, paths_seen}
+use Rattle.aml_paths.specs.Paths.{Path, path_at}
+use Rattle.aml_paths.specs.Steps.{path_seen, paths_seen}
 use Rattle.aml_namespace.specs.Entries.{Entries, number_of, paths_in}
 use Rattle.aml_namespace.specs.Enter.{Here}
 

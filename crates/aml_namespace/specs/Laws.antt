@@ -1,13 +1,8 @@
 -- Laws of loading, and of own names.
-use Rattle.std.specs.Prelude.{◌≡◌, ◌<◌, ◌≤◌, ℕ, List, [], ◌++◌, length, map, reverse, slice_get, IfSome}
-use Rattle.aml_lex.specs.NameStrings.{NameString}
-use Rattle.aml_lex.specs.declared.names.NameSeg.{NameSeg}
-use Rattle.aml_operators.specs.Tree.{Tree}
-use Rattle.aml_tree.specs.Body.{AreStatements}
+use Rattle.std.specs.Prelude.{◌≡◌, ◌<◌, ◌≤◌, ℕ, List, ◌++◌, length, slice_get, IfSome}
 use Rattle.aml_namespace.specs.declared.fault.LoadRefusal.{LoadRefusal}
 use Rattle.aml_namespace.specs.Entries.{Entries, paths_in}
-use Rattle.aml_namespace.specs.OwnNames.{own_names}
-use Rattle.aml_namespace.specs.Paths.{AreDistinct}
+use Rattle.aml_paths.specs.Paths.{AreDistinct}
 use Rattle.aml_namespace.specs.Load.{AllMake, FaultyLoad, IsLoaded, Shown}
 
 -- a fault names one of these tables, and a place within its bytes or at their end
@@ -27,8 +22,3 @@ DefinitionsStay = (tables more : List (List ℕ)) (before after : Entries) → A
 -- of the pairs that a loaded namespace holds, no two have one path: a path has at most one object
 abbrev pub PathsDistinct : Type 0
 PathsDistinct = (tables : List (List ℕ)) (os : List ℕ) (ns : Shown) → IsLoaded tables os ns → AreDistinct (paths_in ns.entries)
-
--- the segments that take no arguments behind a body's statements, the last made first, are those of its own names
-abbrev pub OwnNamesAreTheGrammars : Type 0
-OwnNamesAreTheGrammars = (arity : NameString → ℕ → ℕ) (bytes : List ℕ) (from stop : ℕ) (body : List Tree) (last : List NameSeg) → AreStatements arity [] bytes from body stop last
-    → last ≡ reverse (map (λ own. own.segment) (own_names bytes body))

@@ -7,7 +7,7 @@ use Rattle.acpi_tables.specs.declared.fault.TableFault.{TableFault}
 use Rattle.aml_operators.specs.Tree.{Tree, trees}
 use Rattle.aml_tree.specs.declared.fault.Refusal.{Refusal}
 use Rattle.aml_tree.specs.Body.{IsModule, FaultyModule}
-use Rattle.aml_namespace.specs.declared.external.External.{External}
+use Rattle.aml_arities.specs.declared.external.External.{External}
 use Rattle.aml_namespace.specs.declared.fault.LoadRefusal.{LoadRefusal}
 use Rattle.aml_namespace.specs.Define.{all_defined}
 use Rattle.aml_namespace.specs.Enter.{Here}

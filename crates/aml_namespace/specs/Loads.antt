@@ -2,7 +2,7 @@
 use Rattle.std.specs.Prelude.{◌≡◌, ℕ, List, ◌++◌, Result, Ok, Err}
 use Rattle.acpi_tables.specs.Bytes.{number_at}
 use Rattle.aml_operators.specs.Tree.{trees}
-use Rattle.aml_namespace.specs.declared.external.External.{External}
+use Rattle.aml_arities.specs.declared.external.External.{External}
 use Rattle.aml_namespace.specs.declared.fault.LoadFault.{LoadFault}
 use Rattle.aml_namespace.specs.declared.fault.LoadFault.TheVariants.{NoMemory, Refused}
 use Rattle.aml_namespace.specs.declared.load.Loaded.{Loaded}

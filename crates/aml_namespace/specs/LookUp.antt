@@ -4,21 +4,16 @@ use Rattle.aml_lex.specs.NameStrings.{NameString}
 use Rattle.aml_namespace.specs.declared.object.Entry.{Entry}
 use Rattle.aml_namespace.specs.declared.object.Object.{Object}
 use Rattle.aml_namespace.specs.declared.object.Object.TheVariants as object
-use Rattle.aml_namespace.specs.declared.object.ObjectId.{ObjectId}
-use Rattle.aml_namespace.specs.declared.object.Scope.{Scope}
-use Rattle.aml_namespace.specs.declared.object.Scope.TheVariants.{Root, At}
+use Rattle.aml_paths.specs.declared.scope.ObjectId.{ObjectId}
+use Rattle.aml_paths.specs.declared.scope.Scope.{Scope}
 use Rattle.aml_namespace.specs.Entries.{Entries, number_of, object_at, object_number, owner, paths_in}
-use Rattle.aml_namespace.specs.Paths.{Path}
-use Rattle.aml_namespace.specs.Resolve.{resolve}
+use Rattle.aml_paths.specs.Paths.{Path}
+use Rattle.aml_paths.specs.Resolve.{resolve}
+use Rattle.aml_paths.specs.Scopes.{scope_number}
 
 -- the number of the object that a name names in a scope
 abbrev pub named_in : Entries → Path → NameString → Option ℕ
 named_in entries scope name = option_and_then (object_number entries) (resolve (number_of entries) scope name)
-
--- the number of a scope's path
-abbrev pub scope_number : Scope → ℕ
-scope_number Root = 0
-scope_number (At id) = suc id.0
 
 -- the path of a scope, where it is one
 abbrev pub scope_path : Entries → Scope → Option Path

@@ -6,10 +6,10 @@ use Rattle.aml_operators.specs.Tree.{Tree, Trees, Node, none, more, size_in, sto
 use Rattle.aml_operators.specs.Literal.{literal_of, number_in}
 use Rattle.aml_namespace.specs.declared.object.Object.{Object}
 use Rattle.aml_namespace.specs.declared.object.Object.TheVariants as object
-use Rattle.aml_namespace.specs.declared.object.NamePlace.{NamePlace}
+use Rattle.aml_paths.specs.declared.scope.NamePlace.{NamePlace}
 use Rattle.aml_namespace.specs.declared.object.Reference.{Reference}
-use Rattle.aml_namespace.specs.declared.object.Scope.{Scope}
-use Rattle.aml_namespace.specs.declared.object.Scope.TheVariants.{Root, At}
+use Rattle.aml_paths.specs.declared.scope.Scope.{Scope}
+use Rattle.aml_paths.specs.declared.scope.Scope.TheVariants.{Root, At}
 use Rattle.aml_namespace.specs.declared.object.Content.{Content}
 use Rattle.aml_namespace.specs.declared.object.Content.TheVariants as content
 use Rattle.aml_namespace.specs.declared.object.Source.TheVariants as source

@@ -7,7 +7,7 @@ use Rattle.aml_namespace.specs.declared.object.Object.{Object}
 use Rattle.aml_namespace.specs.declared.object.Object.TheVariants as object
 use Rattle.aml_namespace.specs.declared.object.Content.TheVariants as content
 use Rattle.aml_namespace.specs.declared.object.Source.TheVariants as source
-use Rattle.aml_namespace.specs.Paths.{Path}
+use Rattle.aml_paths.specs.Paths.{Path}
 use Rattle.aml_namespace.specs.Entries.{Entries}
 
 -- a segment of these characters, and its object

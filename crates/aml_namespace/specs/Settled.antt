@@ -4,16 +4,16 @@ use Rattle.std.specs.Option.{option_map}
 use Rattle.aml_lex.specs.Standing.{name_there}
 use Rattle.aml_namespace.specs.declared.object.Entry.{Entry}
 use Rattle.aml_namespace.specs.declared.object.Entry.TheVariants.{Own, Alias}
-use Rattle.aml_namespace.specs.declared.object.NamePlace.{NamePlace}
+use Rattle.aml_paths.specs.declared.scope.NamePlace.{NamePlace}
 use Rattle.aml_namespace.specs.declared.object.Object.{Object}
 use Rattle.aml_namespace.specs.declared.object.Object.TheVariants as object
-use Rattle.aml_namespace.specs.declared.object.ObjectId.{ObjectId}
+use Rattle.aml_paths.specs.declared.scope.ObjectId.{ObjectId}
 use Rattle.aml_namespace.specs.declared.object.Reference.{Reference}
 use Rattle.aml_namespace.specs.declared.object.Through.{Through}
 use Rattle.aml_namespace.specs.declared.object.Through.TheVariants as through
 use Rattle.aml_namespace.specs.Entries.{Entries}
 use Rattle.aml_namespace.specs.LookUp.{looked_up}
-use Rattle.aml_namespace.specs.Paths.{Path}
+use Rattle.aml_paths.specs.Paths.{Path}
 
 -- the object that the name at a place names, from the scope in which it stands
 abbrev pub named_at : List (List ℕ) → Entries → NamePlace → Option ObjectId

@@ -11,13 +11,13 @@ ghost use Rattle.aml_namespace.specs.Kept.{Makes, entries_seen, here_of};
 ghost use Rattle.aml_namespace.specs.Parts.{HasParts};
 
 use crate::enter::{enter, enter_alias, open};
-use crate::external::External;
 use crate::fault::LoadFault;
 use crate::fields::Cursor;
 use crate::here::Here;
 use crate::made::{name_place, object_of, reference};
 use crate::object::{Entry, Field, Object, Through};
 use crate::objects::Objects;
+use aml_arities::External;
 use aml_lex::name_there;
 use aml_operators::{Op, Term, first_and_rest, literal_of, number_in, three, two};
 

@@ -7,9 +7,10 @@ ghost use Rattle.aml_namespace.specs.Kept.{Answers, Makes, entries_seen, here_of
 
 use crate::fault::{LoadCause, LoadFault, refuse};
 use crate::here::Here;
-use crate::object::{Entry, ObjectId};
+use crate::object::Entry;
 use crate::objects::Objects;
 use aml_lex::NameRef;
+use aml_paths::ObjectId;
 
 /// Adds a path under the name that stands at a place.
 pub(crate) fn enter(

@@ -1,7 +1,6 @@
 // Laws of loading, and of own names. The functions do nothing: their contracts are the laws.
 
-ghost use Rattle.aml_namespace.specs.Laws.{DefinitionsStay, FaultsWithin, OwnNamesAreTheGrammars, PathsDistinct};
-ghost use Rattle.aml_namespace.specs.Printed.{PrintedIsRead};
+ghost use Rattle.aml_namespace.specs.Laws.{DefinitionsStay, FaultsWithin, PathsDistinct};
 
 /// Each fault of a load names one of the tables that were handed in, by its number, and a place of at
 /// most that table's number of bytes.
@@ -17,14 +16,4 @@ pub fn definitions_stay()
 /// A path has at most one object.
 pub fn paths_are_distinct()
     ensures { PathsDistinct }
-{}
-
-/// The own names of a body are just those that take no arguments where it is read.
-pub fn own_names_are_the_grammars()
-    ensures { OwnNamesAreTheGrammars }
-{}
-
-/// What is printed of a path prints that path.
-pub fn printed_paths_are_read()
-    ensures { PrintedIsRead }
 {}

@@ -1,6 +1,6 @@
 // What a name in a body means.
 
-use crate::object::ObjectId;
+use aml_paths::ObjectId;
 
 /// What the name at a place of a method's body means (ACPI 6.5, 5.3).
 #[derive(Clone, Copy, Debug, PartialEq, Eq)]

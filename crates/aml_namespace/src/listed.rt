@@ -3,9 +3,10 @@
 ghost use Rattle.std.specs.Prelude.{◌≡◌, ◌<◌, ◌∷◌, [], length, map, slice_get, IfOk};
 ghost use Rattle.aml_namespace.specs.LookUp.{is_method, methods_in, owned_at, owned_paths};
 
-use crate::object::{Object, ObjectId};
+use crate::object::Object;
 use crate::objects::{Objects, owner};
 use aml_lex::NameSeg;
+use aml_paths::ObjectId;
 use std::alloc::{AllocError, Global};
 
 /// A path's segments from the root on, with the number of its object.

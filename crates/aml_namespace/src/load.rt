@@ -6,12 +6,12 @@ ghost use Rattle.aml_namespace.specs.Load.{signature_of};
 ghost use Rattle.aml_namespace.specs.Loads.{DeclaresTable, LoadsAll, LoadsTable};
 
 use crate::define::define_all;
-use crate::external::External;
 use crate::fault::{LoadFault, table_fault, tree_fault};
 use crate::here::Here;
 use crate::objects::Objects;
-use crate::paths::ROOT;
 use acpi_tables::read_table;
+use aml_arities::External;
+use aml_paths::ROOT;
 use aml_tree::read_module;
 use std::alloc::Global;
 

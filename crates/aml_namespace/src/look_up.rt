@@ -5,10 +5,9 @@ ghost use Rattle.aml_lex.specs.Names.{name_of};
 ghost use Rattle.aml_namespace.specs.Entries.{paths_in};
 ghost use Rattle.aml_namespace.specs.LookUp.{looked_up, named_in};
 
-use crate::object::Scope;
 use crate::objects::Objects;
-use crate::paths::ROOT;
 use aml_lex::NameRef;
+use aml_paths::{ROOT, Scope};
 
 impl Objects {
     ghost use Rattle.aml_namespace.specs.Kept.{entries_seen};

@@ -1,20 +1,19 @@
 // The objects that definitions make (ACPI 6.5, 19.6).
 
-ghost use Rattle.std.specs.Prelude.{◌≡◌, ◌-◌, ◌^◌, length, min};
+ghost use Rattle.std.specs.Prelude.{◌≡◌, ◌-◌, length};
 ghost use Rattle.aml_operators.specs.declared.row.Code.TheVariants as code;
 ghost use Rattle.aml_operators.specs.Shape.{AreShaped, IsShaped};
 ghost use Rattle.aml_operators.specs.Tree.{view, views};
 ghost use Rattle.aml_namespace.specs.Parts.{HasParts};
 ghost use Rattle.aml_namespace.specs.Kept.{here_of};
-ghost use Rattle.aml_namespace.specs.LookUp.{scope_number};
 ghost use Rattle.aml_namespace.specs.Made.{buffer_content, buffer_field, content_of, data_of, literal, method_of, name_place, named, named_bits, named_buffer_field, named_data, named_method, named_mutex, named_region, object_of, package_content, reference, scope_numbered, sized_package_content, string_content};
 
 use crate::here::Here;
 use crate::object::{
-    BufferField, BufferFieldSize, Content, DataName, Method, NamePlace, Object, ObjectId,
-    Reference, Region, Scope, Source,
+    BufferField, BufferFieldSize, Content, DataName, Method, Object, Reference, Region, Source,
 };
 use aml_operators::{Op, Term, four, literal_of, number_in, one, size_in, three, two};
+use aml_paths::{NamePlace, ObjectId, Scope};
 use aml_tree::Span;
 
 /// An integer literal, which a module's sizes, counts and indices are.
@@ -31,16 +30,6 @@ pub(crate) fn scope_numbered(path: usize) -> Scope
     match path {
         0 => Scope::Root,
         _ => Scope::At(ObjectId(path - 1)),
-    }
-}
-
-/// The number of a scope's path. No namespace has so many paths that the number is cut.
-pub(crate) fn number_of_scope(scope: Scope) -> usize
-    ensures { result ≡ min (scope_number scope) (2 ^ 64 - 1) }
-{
-    match scope {
-        Scope::Root => 0,
-        Scope::At(id) => id.0.saturating_add(1),
     }
 }
 

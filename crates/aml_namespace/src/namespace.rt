@@ -4,26 +4,24 @@ ghost use Rattle.std.specs.Prelude.{◌≡◌, ◌<◌, ◌==◌, [], length, ma
 ghost use Rattle.std.specs.Option.{ForNone, ForSome};
 ghost use Rattle.aml_lex.specs.Names.{name_of};
 ghost use Rattle.aml_namespace.specs.Bodies.{BodiesWithin, bytes_of};
-ghost use Rattle.aml_namespace.specs.Counted.{TellsAll};
+ghost use Rattle.aml_arities.specs.Counted.{TellsAll};
 ghost use Rattle.aml_namespace.specs.Entries.{paths_in};
 ghost use Rattle.aml_namespace.specs.Kept.{entries_seen, owned_kept, path_kept};
 ghost use Rattle.aml_namespace.specs.LookUp.{methods_in, owned_paths};
 ghost use Rattle.aml_namespace.specs.Names.{args_of, link_of, method_in};
 ghost use Rattle.aml_namespace.specs.Shows.{IsTold, shown};
 
-use crate::answered::Answered;
-use crate::counted::Counted;
-use crate::external::External;
 use crate::fault::LoadFault;
 use crate::link::Link;
 use crate::load::load_tables;
-use crate::memory::NoMemory;
-use crate::object::{Entry, Method, NamePlace, Object, ObjectId, Scope};
+use crate::object::{Entry, Method, Object};
 use crate::objects::Objects;
-use crate::own_names::OwnNames;
 use crate::predefined::predefined;
 use crate::width::Width;
+use aml_arities::{Answered, Counted, External};
 use aml_lex::{NameRef, NameSeg, name_there};
+use aml_own_names::OwnNames;
+use aml_paths::{NamePlace, NoMemory, ObjectId, Scope};
 use aml_tree::{Arity, Term, TreeFault, read_body};
 use std::alloc::{AllocError, Global};
 
@@ -62,8 +60,8 @@ impl<'a> Namespace<'a> {
     ghost use Rattle.aml_namespace.specs.LookUp.{looked_up};
     ghost use Rattle.aml_namespace.specs.Names.{ReadsBodyOf, body_bytes, element_at, is_interface, link_at, link_with_owns, method_at};
     ghost use Rattle.aml_namespace.specs.Entries.{entry_numbered, object_at, path_numbered};
-    ghost use Rattle.aml_namespace.specs.OwnNamesSeen.{owns_seen};
-    ghost use Rattle.aml_namespace.specs.Printed.{printed_object};
+    ghost use Rattle.aml_own_names.specs.OwnNamesSeen.{owns_seen};
+    ghost use Rattle.aml_namespace.specs.PrintedObjects.{printed_object};
     ghost use Rattle.aml_namespace.specs.Settled.{named_at};
     ghost use Rattle.aml_namespace.specs.Shows.{Loads, bytes_in};
 
@@ -183,7 +181,7 @@ impl<'a> Namespace<'a> {
     }
 
     /// The number of the object whose path, or an alias's, a text prints: `\` and segments joined by `.`.
-    #[tactic(auto, using(crate::proofs::PrintedPaths::found_printed))]
+    #[tactic(auto, using(crate::proofs::PrintedObjects::found_printed))]
     pub fn find(&self, text: &[u8]) -> Option<ObjectId>
         ensures { option_map (λ id. id.0) result ≡ printed_object (shown self.now).entries text.now }
     {

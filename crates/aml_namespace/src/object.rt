@@ -1,27 +1,7 @@
 // What a namespace has (ACPI 6.5, 5.3 and 19.6): objects as plain data.
 
+use aml_paths::{NamePlace, ObjectId, Scope};
 use aml_tree::Span;
-
-/// The number of an object in its namespace: that of its first path, in order of definition.
-#[derive(Clone, Copy, Debug, PartialEq, Eq, PartialOrd, Ord, Hash)]
-pub struct ObjectId(pub usize);
-
-/// Where a name stands: at the root, or within an object.
-#[derive(Clone, Copy, Debug, PartialEq, Eq)]
-pub enum Scope {
-    Root,
-    At(ObjectId),
-}
-
-/// The place of a name string, and the scope in which it stands.
-#[derive(Clone, Copy, Debug, PartialEq, Eq)]
-pub struct NamePlace {
-    /// The number of its table, in the order of loading, from 0.
-    pub table: usize,
-    /// Its first byte, counted from the table's first.
-    pub at: usize,
-    pub scope: Scope,
-}
 
 /// What an object says of another by its name.
 #[derive(Clone, Copy, Debug, PartialEq, Eq)]

@@ -5,17 +5,15 @@ ghost use Rattle.std.specs.Option.{option_map};
 ghost use Rattle.aml_lex.specs.Names.{name_of};
 ghost use Rattle.aml_namespace.specs.Enter.{checked_path, made_path};
 ghost use Rattle.aml_namespace.specs.Entries.{entry_numbered, holds_names, number_of, object_at, object_number, opened_by, own_object, owner, path_numbered, paths_in, scope_opened};
-ghost use Rattle.aml_namespace.specs.Paths.{number_below, path_at};
-ghost use Rattle.aml_namespace.specs.Printed.{path_in};
-ghost use Rattle.aml_namespace.specs.Resolve.{resolve, spelled};
-ghost use Rattle.aml_namespace.specs.Steps.{paths_seen};
+ghost use Rattle.aml_paths.specs.Paths.{number_below, path_at};
+ghost use Rattle.aml_paths.specs.Printed.{path_in};
+ghost use Rattle.aml_paths.specs.Resolve.{resolve, spelled};
+ghost use Rattle.aml_paths.specs.Steps.{paths_seen};
 
 use crate::fault::LoadCause;
-use crate::memory::NoMemory;
 use crate::object::{Entry, Object};
-use crate::paths::{Paths, ROOT};
-use crate::resolve::Lead;
 use aml_lex::{NameRef, NameSeg};
+use aml_paths::{Lead, NoMemory, Paths, ROOT};
 use std::alloc::{AllocError, Global};
 
 /// The greatest number of paths, predefined ones among them.

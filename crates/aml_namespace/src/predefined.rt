@@ -6,8 +6,8 @@ ghost use Rattle.aml_namespace.specs.Predefined.{predefined_entries, predefined_
 
 use crate::object::{Content, DataName, Entry, Object, Source};
 use crate::objects::Objects;
-use crate::paths::ROOT;
 use aml_lex::NameSeg;
+use aml_paths::ROOT;
 use std::alloc::{AllocError, Global};
 
 /// A name at the root.

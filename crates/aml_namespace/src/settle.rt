@@ -4,9 +4,10 @@
 ghost use Rattle.std.specs.Prelude.{◌≡◌, map, OnOk};
 ghost use Rattle.aml_namespace.specs.Settled.{found, found_entry, found_object, found_through, named_at, settled};
 
-use crate::object::{BufferField, Entry, Field, NamePlace, Object, ObjectId, Reference, Through};
+use crate::object::{BufferField, Entry, Field, Object, Reference, Through};
 use crate::objects::Objects;
 use aml_lex::name_there;
+use aml_paths::{NamePlace, ObjectId};
 use std::alloc::{AllocError, Global};
 
 impl Objects {

@@ -15,11 +15,16 @@ use crate::halt::{Halt, Setting, fails};
 use aml_kinds::{Value, copy};
 use aml_machine::Machine;
 use aml_meaning::{AmlCause, BufferPart};
-use aml_namespace::{NoMemory, ObjectId};
+use aml_paths::{NoMemory, ObjectId};
 use std::alloc::Global;
 
 /// What a data name holds, where it stands. A1 at the term's place where it holds nothing.
-pub fn seen<'a>(here: Setting<'_>, at: usize, id: ObjectId, machine: &'a Machine) -> Result<&'a Value, Halt>
+pub fn seen<'a>(
+    here: Setting<'_>,
+    at: usize,
+    id: ObjectId,
+    machine: &'a Machine,
+) -> Result<&'a Value, Halt>
     ensures { (log : List Event) → told (λ v. view v.now) result
         ≡ content here.entry.scene.now.table at
         (Some (content_at (now machine.now log).names.contents id.0)) }
@@ -31,7 +36,13 @@ pub fn seen<'a>(here: Setting<'_>, at: usize, id: ObjectId, machine: &'a Machine
 }
 
 /// A copy of what a data name holds. A1 at the term's place where it holds nothing.
-pub fn content(alloc: Global, here: Setting<'_>, at: usize, id: ObjectId, machine: &Machine) -> Result<Value, Halt>
+pub fn content(
+    alloc: Global,
+    here: Setting<'_>,
+    at: usize,
+    id: ObjectId,
+    machine: &Machine,
+) -> Result<Value, Halt>
     ensures { (log : List Event) → IsOrNoMemory (told view result)
         (content here.entry.scene.now.table at
         (Some (content_at (now machine.now log).names.contents id.0))) }
@@ -47,7 +58,13 @@ pub fn content(alloc: Global, here: Setting<'_>, at: usize, id: ObjectId, machin
 
 /// Makes a data name hold a value of its kind, with a step. A2 at the target's place for a package
 /// and a value of another kind.
-pub fn set_name(here: Setting<'_>, at: usize, id: ObjectId, value: Value, machine: &mut Machine) -> Result<(), Halt>
+pub fn set_name(
+    here: Setting<'_>,
+    at: usize,
+    id: ObjectId,
+    value: Value,
+    machine: &mut Machine,
+) -> Result<(), Halt>
     ensures means { (log : List Event) → Runs (went result)
         (set_name here.entry.scene.now.table at id.0 (view value))
         (now machine.old log) (now machine.new log) }
@@ -68,7 +85,12 @@ pub fn set_name(here: Setting<'_>, at: usize, id: ObjectId, value: Value, machin
 }
 
 /// What an own name holds, where it stands. A1 at the term's place where it holds nothing.
-pub fn own_seen<'a>(here: Setting<'_>, at: usize, number: usize, machine: &'a Machine) -> Result<&'a Value, Halt>
+pub fn own_seen<'a>(
+    here: Setting<'_>,
+    at: usize,
+    number: usize,
+    machine: &'a Machine,
+) -> Result<&'a Value, Halt>
     ensures { (log : List Event) → told (λ v. view v.now) result
         ≡ content here.entry.scene.now.table at
         (Some (content_at (now machine.now log).frame.owns.contents number)) }
@@ -80,7 +102,13 @@ pub fn own_seen<'a>(here: Setting<'_>, at: usize, number: usize, machine: &'a Ma
 }
 
 /// A copy of what an own name holds. A1 at the term's place where it holds nothing.
-pub fn own_content(alloc: Global, here: Setting<'_>, at: usize, number: usize, machine: &Machine) -> Result<Value, Halt>
+pub fn own_content(
+    alloc: Global,
+    here: Setting<'_>,
+    at: usize,
+    number: usize,
+    machine: &Machine,
+) -> Result<Value, Halt>
     ensures { (log : List Event) → IsOrNoMemory (told view result)
         (content here.entry.scene.now.table at
         (Some (content_at (now machine.now log).frame.owns.contents number))) }
@@ -96,7 +124,13 @@ pub fn own_content(alloc: Global, here: Setting<'_>, at: usize, number: usize, m
 
 /// Makes an own name hold a value of its kind, with a step. A2 at the target's place for a package
 /// and a value of another kind.
-pub fn set_own(here: Setting<'_>, at: usize, number: usize, value: Value, machine: &mut Machine) -> Result<(), Halt>
+pub fn set_own(
+    here: Setting<'_>,
+    at: usize,
+    number: usize,
+    value: Value,
+    machine: &mut Machine,
+) -> Result<(), Halt>
     ensures means { (log : List Event) → Runs (went result)
         (set_own here.entry.scene.now.table at number (view value))
         (now machine.old log) (now machine.new log) }
@@ -117,7 +151,12 @@ pub fn set_own(here: Setting<'_>, at: usize, number: usize, value: Value, machin
 }
 
 /// Makes an own name more, which holds this value first.
-pub fn define_own(alloc: Global, here: Setting<'_>, value: Value, machine: &mut Machine) -> Result<(), Halt>
+pub fn define_own(
+    alloc: Global,
+    here: Setting<'_>,
+    value: Value,
+    machine: &mut Machine,
+) -> Result<(), Halt>
     ensures means { (log : List Event) → Runs (went result)
         (define_own (bits_of here.entry.scene.now.width) (view value))
         (now machine.old log) (now machine.new log) }
@@ -127,7 +166,12 @@ pub fn define_own(alloc: Global, here: Setting<'_>, value: Value, machine: &mut 
 }
 
 /// Makes an own name more, which is a field of a buffer.
-pub fn define_field(alloc: Global, here: Setting<'_>, field: BufferPart, machine: &mut Machine) -> Result<(), Halt>
+pub fn define_field(
+    alloc: Global,
+    here: Setting<'_>,
+    field: BufferPart,
+    machine: &mut Machine,
+) -> Result<(), Halt>
     ensures means { (log : List Event) → Runs (went result)
         (define_field (bits_of here.entry.scene.now.width) field)
         (now machine.old log) (now machine.new log) }

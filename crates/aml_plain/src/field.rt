@@ -20,7 +20,8 @@ use aml_fields::{BitBytes, Bits, field_in, read_count, read_field, write_count, 
 use aml_kinds::Value;
 use aml_machine::Machine;
 use aml_meaning::AmlCause;
-use aml_namespace::{Namespace, Object, ObjectId, Width};
+use aml_namespace::{Namespace, Object, Width};
+use aml_paths::ObjectId;
 use aml_regions::{AnyField, World};
 use std::alloc::Global;
 

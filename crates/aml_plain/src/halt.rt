@@ -13,7 +13,7 @@ ghost use Rattle.aml_plain.specs.Tells.{halted, setting_of, told, went};
 pub use crate::setting::{Scene, Setting};
 use aml_kinds::Value;
 use aml_meaning::{AmlCause, AmlError};
-use aml_namespace::NoMemory;
+use aml_paths::NoMemory;
 use std::alloc::AllocFailed;
 
 /// Why an evaluation ends before its end.

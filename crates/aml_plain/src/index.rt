@@ -25,8 +25,9 @@ use crate::steps::take_step;
 use aml_kinds::{Names, Value};
 use aml_machine::Machine;
 use aml_meaning::{Action, AmlCause, action_of};
-use aml_namespace::{Link, ObjectId};
+use aml_namespace::Link;
 use aml_operators::{Term, first_and_rest};
+use aml_paths::ObjectId;
 
 /// A target that errs before it evaluates anything: the step of its store, and then the error.
 fn refused(

@@ -17,8 +17,9 @@ use crate::steps::take_step;
 use aml_kinds::Value;
 use aml_machine::Machine;
 use aml_meaning::{Action, AmlCause, TakenMutex, action_of};
-use aml_namespace::{Link, Object, ObjectId};
+use aml_namespace::{Link, Object};
 use aml_operators::{Term, one, two};
+use aml_paths::ObjectId;
 
 /// The mutex that an object with a number is, named at a place. A2 there where it is none; A6 at the
 /// operator for the global lock.

@@ -1,7 +1,7 @@
 // What a world is told: Notify, Sleep and Stall (ACPI 6.5, 19.6).
 
 ghost use Rattle.std.specs.Prelude.{◌≡◌, ◌≤◌, List};
-ghost use Rattle.aml_namespace.specs.declared.object.ObjectId.{ObjectId};
+ghost use Rattle.aml_paths.specs.declared.scope.ObjectId.{ObjectId};
 ghost use Rattle.aml_regions.specs.Events.{Event, Notified, Stalled};
 ghost use Rattle.aml_meaning.specs.Meaning.{notified, notified_name};
 ghost use Rattle.aml_meaning.specs.Notices.{is_notifiable, notice, paused};
@@ -15,7 +15,8 @@ use crate::own::link_of;
 use crate::steps::take_step;
 use aml_machine::Machine;
 use aml_meaning::{Action, AmlCause, Pause};
-use aml_namespace::{Link, Object, ObjectId};
+use aml_namespace::{Link, Object};
+use aml_paths::ObjectId;
 use aml_regions::World;
 
 /// Whether an object can be notified.

@@ -24,7 +24,8 @@ use aml_fields::{BitBytes, part_numbered, part_value};
 use aml_kinds::{Names, Value};
 use aml_machine::{Machine, held_by, lies_in, put_bits};
 use aml_meaning::{AmlCause, BufferPart};
-use aml_namespace::{Link, ObjectId};
+use aml_namespace::Link;
+use aml_paths::ObjectId;
 use std::alloc::Global;
 
 /// The field of a buffer that an object is, where it is one that can be read and written.

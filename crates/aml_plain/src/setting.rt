@@ -1,13 +1,15 @@
 // Where a body stands.
 
 ghost use Rattle.aml_namespace.specs.Names.{link_with_owns};
-ghost use Rattle.aml_namespace.specs.OwnNamesSeen.{owns_seen};
+ghost use Rattle.aml_own_names.specs.OwnNamesSeen.{owns_seen};
 ghost use Rattle.aml_namespace.specs.Shows.{shown};
 ghost use Rattle.aml_bodies.specs.Prepared.{AreLinks, AreSound};
 ghost use Rattle.aml_bodies.specs.TreeSets.{body_props};
 
 use aml_bodies::{Bodies, Links};
-use aml_namespace::{Namespace, ObjectId, OwnNames, Width};
+use aml_namespace::{Namespace, Width};
+use aml_own_names::OwnNames;
+use aml_paths::ObjectId;
 
 /// What stays the same while a body is evaluated.
 #[derive(Clone, Copy)]

@@ -4,7 +4,8 @@
 use crate::outcomes::{Wanted, ends, first_names, outcome_in};
 use acpi_samples::{HOST, method_of, table_of};
 use aml_meaning::{AmlCause, Outcome};
-use aml_namespace::{LoadFault, Namespace, ObjectId};
+use aml_namespace::{LoadFault, Namespace};
+use aml_paths::ObjectId;
 use aml_regions::{Access, Event, RegisterFile, RegistersFault};
 use std::alloc::Global;
 use std::process::Abort;

@@ -1,6 +1,6 @@
 -- What others see of an evaluation: its calls on a world, in order.
 use Rattle.std.specs.Prelude.{◌≡◌, ℕ, ◌<◌, ◌^◌, ◌==◌, ◌&&◌, Bool, true, List, Option, Some, slice_get}
-use Rattle.aml_namespace.specs.declared.object.ObjectId.{ObjectId}
+use Rattle.aml_paths.specs.declared.scope.ObjectId.{ObjectId}
 use Rattle.aml_kinds.specs.Contents.{Contents, ContentKinds, are_fitting}
 use Rattle.aml_regions.specs.declared.access.Access.{Access}
 

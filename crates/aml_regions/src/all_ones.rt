@@ -11,7 +11,7 @@ use crate::event::Event;
 use crate::log::make;
 use crate::world::World;
 use aml_kinds::Names;
-use aml_namespace::{NoMemory, ObjectId};
+use aml_paths::{NoMemory, ObjectId};
 use std::alloc::Global;
 
 /// A world in which each bit of each unit is one, whatever is written. It keeps its log.

@@ -5,7 +5,7 @@ ghost use Rattle.aml_regions.specs.Bytes.{byte_of, unit_of, with_run, with_unit,
 ghost use Rattle.aml_regions.specs.Worlds.{IsUnit};
 
 use crate::access::Access;
-use aml_namespace::NoMemory;
+use aml_paths::NoMemory;
 use std::collections::BTreeMap;
 
 // The byte at a place, 0 where none is kept.

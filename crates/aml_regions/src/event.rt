@@ -2,7 +2,7 @@
 
 use crate::access::Access;
 use aml_kinds::Names;
-use aml_namespace::ObjectId;
+use aml_paths::ObjectId;
 
 /// What others see of an evaluation: one call on its world.
 #[derive(Drop)]

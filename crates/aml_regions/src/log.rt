@@ -5,7 +5,7 @@ ghost use Rattle.aml_regions.specs.EventViews.{event_of, events_of};
 ghost use Rattle.aml_regions.specs.Worlds.{CountsRefusal, MakesEvent, counted};
 
 use crate::event::Event;
-use aml_namespace::NoMemory;
+use aml_paths::NoMemory;
 
 /// Makes an event, or counts a refusal.
 #[tactic(auto, using(crate::proofs::EventViews::one_more))]

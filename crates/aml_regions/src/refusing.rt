@@ -9,7 +9,7 @@ use crate::access::Access;
 use crate::log::refuse;
 use crate::world::World;
 use aml_kinds::Names;
-use aml_namespace::{NoMemory, ObjectId};
+use aml_paths::{NoMemory, ObjectId};
 
 /// A world that passes so many calls on to another, and refuses each further one.
 #[derive(Drop)]

@@ -19,7 +19,7 @@ use crate::log::{make, refuse};
 use crate::text::{read_address, space_named, split_once, three_words};
 use crate::world::World;
 use aml_kinds::Names;
-use aml_namespace::{NoMemory, ObjectId};
+use aml_paths::{NoMemory, ObjectId};
 use hex::FromHexError;
 use std::alloc::Global;
 use std::collections::BTreeMap;

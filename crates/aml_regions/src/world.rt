@@ -7,7 +7,7 @@ ghost use Rattle.aml_regions.specs.Worlds.{IsUnit, MakesEvent, MakesSleep, Count
 
 use crate::access::Access;
 use aml_kinds::Names;
-use aml_namespace::{NoMemory, ObjectId};
+use aml_paths::{NoMemory, ObjectId};
 
 /// Who answers the accesses of operation regions, and keeps what happens. Each call adds its one
 /// event to the log; or it is refused for want of memory, which is counted, and changes nothing

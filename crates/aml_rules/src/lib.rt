@@ -15,9 +15,7 @@ mod integers;
 mod law;
 mod place;
 
-pub use arithmetic::{
-    Division, combined, compared, divided, integer, negated, transformed,
-};
+pub use arithmetic::{Division, combined, compared, divided, integer, negated, transformed};
 pub use buffers::{append, concatenated, size_of};
 pub use conversions::{to_buffer, to_integer};
 pub use elements::{ByteStore, byte_stored, element_at};

@@ -5,7 +5,7 @@ ghost use Rattle.aml_rules.specs.Tells.{error_at, place_of};
 ghost use Rattle.aml_rules.specs.declared.place.RuleFault.TheVariants as fault;
 
 use aml_meaning::{AmlCause, AmlError};
-use aml_namespace::NoMemory;
+use aml_paths::NoMemory;
 use std::alloc::AllocError;
 
 /// A byte's place in a table: an operand's, a target's or an operator's.

@@ -6,7 +6,8 @@ mod often;
 use crate::kinds::{Sample, value_of};
 use acpi_samples::{HOST, table_of};
 use aml_kinds::{Names, Value, is_same_value};
-use aml_namespace::{Namespace, NoMemory, ObjectId, Width};
+use aml_namespace::{Namespace, Width};
+use aml_paths::{NoMemory, ObjectId};
 use std::alloc::{AllocError, Global};
 use std::test::Fail;
 

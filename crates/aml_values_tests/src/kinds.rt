@@ -5,7 +5,7 @@ use aml_kinds::{
     fits_what_it_lies_within, is_same_kind, is_same_value, is_within, join, join_associates,
     join_commutes, join_elements, join_stays,
 };
-use aml_namespace::{NoMemory, ObjectId};
+use aml_paths::{NoMemory, ObjectId};
 use std::alloc::{AllocError, Global};
 use std::test::Fail;
 

@@ -1,15 +1,18 @@
 // Public calls by themselves: sources and streams that fail, and listings.
 
-use acpi_listing::{Source, SourceFault, Table, list_evaluation, list_tables, read_any_table, read_input, run, run_words};
+use super::TABLE_1;
+use acpi_listing::{
+    Source, SourceFault, Table, list_evaluation, list_tables, read_any_table, read_input, run,
+    run_words,
+};
 use acpi_tables::{TableCause, TableFault};
 use aml_kinds::Value;
 use aml_meaning::{AmlCause, AmlError, Outcome};
 use aml_namespace::{Host, Namespace};
 use hex;
-use super::TABLE_1;
 use std::alloc::Global;
-use std::io::{ErrorKind, Read};
 use std::io;
+use std::io::{ErrorKind, Read};
 use std::test::Fail;
 
 pub const LINE_1: &str = "table DSDT length 48 revision 2 oem \"ACPICK\" \"ROWS0001\" 0x1\n";

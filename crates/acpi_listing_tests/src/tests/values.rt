@@ -2,7 +2,8 @@
 
 use acpi_listing::{list_events, list_value};
 use aml_kinds::{Bytes, Element, Package, Value};
-use aml_namespace::{Host, Namespace, ObjectId};
+use aml_namespace::{Host, Namespace};
+use aml_paths::ObjectId;
 use aml_regions::{Access, Event};
 use hex;
 use std::alloc::{AllocError, Global};

@@ -4,9 +4,9 @@ use super::{dsdt_of, found};
 use acpi_samples::HOST;
 use aml_namespace::{
     AccessType, BufferField, BufferFieldSize, Content, DataName, Entry, Field, FieldRule, Link,
-    Method, NamePlace, Namespace, Object, ObjectId, Reference, Region, Scope, Source, Through,
-    UpdateRule,
+    Method, Namespace, Object, Reference, Region, Source, Through, UpdateRule,
 };
+use aml_paths::{NamePlace, ObjectId, Scope};
 use aml_tree::Span;
 use std::test::Fail;
 

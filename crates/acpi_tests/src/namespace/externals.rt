@@ -2,7 +2,8 @@
 
 use super::{dsdt_of, ssdt_of};
 use acpi_samples::HOST;
-use aml_namespace::{NamePlace, Namespace, Object, ObjectId, Reference, Scope, Through};
+use aml_namespace::{Namespace, Object, Reference, Through};
+use aml_paths::{NamePlace, ObjectId, Scope};
 use aml_tree::TreeFault;
 use std::alloc::{AllocError, Global};
 use std::test::Fail;

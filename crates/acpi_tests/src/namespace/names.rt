@@ -2,7 +2,8 @@
 
 use super::{dsdt_of, found, ssdt_of};
 use acpi_samples::HOST;
-use aml_namespace::{Namespace, ObjectId, Scope};
+use aml_namespace::Namespace;
+use aml_paths::{ObjectId, Scope};
 use aml_tree::{Op, Term, TreeFault};
 use std::alloc::{AllocError, Global};
 use std::test::Fail;

@@ -3,7 +3,9 @@
 use super::dsdt_of;
 use acpi_samples::HOST;
 use aml_lex::NameSeg;
-use aml_namespace::{Link, LoadFault, Namespace, NoMemory, ObjectId, OwnName, OwnNames};
+use aml_namespace::{Link, LoadFault, Namespace};
+use aml_own_names::{OwnName, OwnNames};
+use aml_paths::{NoMemory, ObjectId};
 use aml_tree::TreeFault;
 use std::alloc::{AllocError, Global};
 use std::test::Fail;

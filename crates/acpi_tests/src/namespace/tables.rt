@@ -3,7 +3,8 @@
 use super::{dsdt_of, found, ssdt_of};
 use acpi_samples::HOST;
 use aml_lex::NameSeg;
-use aml_namespace::{Namespace, ObjectId, Scope};
+use aml_namespace::Namespace;
+use aml_paths::{ObjectId, Scope};
 use std::test::Fail;
 
 /// Scope (\_SB) { Device (DEV0) { Scope (^) { Name (ABCD, One) } } }, Alias (\_SB.DEV0, ALS0),

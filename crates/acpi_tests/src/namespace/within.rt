@@ -3,9 +3,10 @@
 use super::{dsdt_of, found};
 use acpi_samples::HOST;
 use aml_namespace::{
-    AccessType, BufferField, BufferFieldSize, Content, DataName, Field, FieldRule, NamePlace,
-    Namespace, Object, ObjectId, Reference, Region, Scope, Source, Through, UpdateRule,
+    AccessType, BufferField, BufferFieldSize, Content, DataName, Field, FieldRule, Namespace,
+    Object, Reference, Region, Source, Through, UpdateRule,
 };
+use aml_paths::{NamePlace, ObjectId, Scope};
 use aml_tree::Span;
 use std::test::Fail;
 

@@ -3,7 +3,8 @@
 
 use acpi_samples::{HOST, table_of};
 use aml_kinds::{Bytes, Element, Names, Package, Value};
-use aml_namespace::{NamePlace, Namespace, ObjectId, Scope, Width};
+use aml_namespace::{Namespace, Width};
+use aml_paths::{NamePlace, ObjectId, Scope};
 use std::alloc::{AllocError, Global};
 use std::test::Fail;
 

@@ -1,7 +1,8 @@
 // A name that is set and looked at a million times, which `bench/names.py` measures.
 
 use aml_kinds::{Names, Value};
-use aml_namespace::{ObjectId, Width};
+use aml_namespace::Width;
+use aml_paths::ObjectId;
 use std::test::Fail;
 
 /// Sets an integer's name to another integer, and gives what it holds then.

@@ -1,6 +1,6 @@
 use Rattle.std.proofs.Common.{◌≡◌, ◌++◌, take}
-use Rattle.aml_namespace.specs.Printed.{segments_text}
-use Rattle.aml_namespace.specs.Steps.{path_seen}
+use Rattle.aml_paths.specs.Printed.{segments_text}
+use Rattle.aml_paths.specs.Steps.{path_seen}
 use Rattle.acpi_text.proofs.path.push_segments.Given as goal
 
 -- the segments before were added, with a `.` between each two

@@ -4,7 +4,7 @@ use Rattle.std.proofs.lemmas.Bool.{le-leb, lt-leb}
 use Rattle.aml_namespace.specs.Enter.{greatest_count}
 use Rattle.aml_namespace.specs.Entries.{paths_in, scope_opened}
 use Rattle.aml_namespace.specs.Kept.{entries_seen}
-use Rattle.aml_namespace.specs.Paths.{number_below}
+use Rattle.aml_paths.specs.Paths.{number_below}
 use Rattle.aml_namespace.proofs.Entering.{checked_is, number_is}
 use Rattle.aml_namespace.proofs.Kept.{kept_closed, kept_distinct, kept_there}
 use Rattle.aml_namespace.proofs.objects.Objects.checked.Goals as goal

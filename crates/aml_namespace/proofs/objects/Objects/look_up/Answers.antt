@@ -3,7 +3,7 @@ use Rattle.aml_lex.specs.Names.{name_of}
 use Rattle.aml_namespace.specs.Entries.{paths_in}
 use Rattle.aml_namespace.specs.Kept.{entries_seen}
 use Rattle.aml_namespace.specs.LookUp.{looked_up, named_in}
-use Rattle.aml_namespace.specs.Paths.{Path}
+use Rattle.aml_paths.specs.Paths.{Path}
 use Rattle.aml_namespace.proofs.objects.Objects.look_up.Goals as goal
 
 pub returns-in-At : goal.returns-in-At

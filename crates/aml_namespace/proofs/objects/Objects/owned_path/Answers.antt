@@ -1,7 +1,7 @@
 use Rattle.std.proofs.Common.{◌≡◌, ◌+◌, suc, ◌∷◌, [], get_or, slice_get, sym, ap, ◌∙◌, arith}
 use Rattle.std.proofs.lemmas.Option.{slice_get-get_or}
 use Rattle.aml_namespace.specs.Entries.{owner}
-use Rattle.aml_namespace.specs.Steps.{path_seen, paths_seen}
+use Rattle.aml_paths.specs.Steps.{path_seen, paths_seen}
 use Rattle.aml_namespace.proofs.Kept.{kept_count, kept_length, kept_owned}
 use Rattle.aml_namespace.proofs.objects.Objects.owned_path.Goals as goal
 

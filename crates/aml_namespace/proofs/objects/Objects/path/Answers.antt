@@ -1,5 +1,5 @@
 use Rattle.std.proofs.Common.{◌≡◌, suc, ◌+◌, slice_get, sym, ap, ◌∙◌, arith}
-use Rattle.aml_namespace.specs.Steps.{paths_seen}
+use Rattle.aml_paths.specs.Steps.{paths_seen}
 use Rattle.aml_namespace.proofs.Kept.{kept_count, kept_path}
 use Rattle.aml_namespace.proofs.objects.Objects.path.Goals as goal
 

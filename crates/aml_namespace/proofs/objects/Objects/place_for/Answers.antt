@@ -1,10 +1,10 @@
 use Rattle.std.proofs.Common.{Err, sym, ap, ◌∙◌, arith}
 use Rattle.aml_lex.specs.Names.{name_of}
-use Rattle.aml_namespace.specs.declared.resolve.Lead.TheVariants.{Nowhere, At, Below}
+use Rattle.aml_paths.specs.declared.resolve.Lead.TheVariants.{Nowhere, At, Below}
 use Rattle.aml_namespace.specs.Entries.{paths_in}
 use Rattle.aml_namespace.specs.Kept.{entries_seen}
-use Rattle.aml_namespace.specs.Paths.{path_at}
-use Rattle.aml_namespace.specs.Resolve.{spelled}
+use Rattle.aml_paths.specs.Paths.{path_at}
+use Rattle.aml_paths.specs.Resolve.{spelled}
 use Rattle.aml_namespace.proofs.Entering.{places_at, places_below, places_nowhere}
 use Rattle.aml_namespace.proofs.Kept.{kept_closed, kept_count, kept_distinct, kept_leads}
 use Rattle.aml_namespace.proofs.objects.Objects.place_for.Goals as goal

@@ -4,7 +4,7 @@ use Rattle.std.specs.List.{zip}
 use Rattle.std.proofs.lemmas.List.{take_all}
 use Rattle.aml_namespace.specs.Kept.{entries_seen}
 use Rattle.aml_namespace.specs.Settled.{found_entry, named_at}
-use Rattle.aml_namespace.specs.Steps.{paths_seen}
+use Rattle.aml_paths.specs.Steps.{paths_seen}
 use Rattle.aml_namespace.proofs.Kept.{as_many, zip_map}
 use Rattle.aml_namespace.proofs.objects.Objects.settle.Goals as goal
 

@@ -1,6 +1,0 @@
-use Rattle.std.proofs.Common.{◌≡◌}
-use Rattle.aml_namespace.proofs.answered.Answered.of.Given as goal
-
--- what declarations tell stays
-abbrev pub invariant-loop-number : goal.invariant-loop-number
-invariant-loop-number l = l.answered.counted ≡ l.initial.answered.counted

@@ -1,5 +1,0 @@
-use Rattle.aml_namespace.proofs.PrintedPaths.{printed_read}
-use Rattle.aml_namespace.proofs.law.printed_paths_are_read.Goals as goal
-
-pub returns : goal.returns
-returns c = printed_read

@@ -1,6 +1,0 @@
-use Rattle.std.proofs.Common.{arith}
-use Rattle.aml_namespace.proofs.Tries.{length-paths_of}
-use Rattle.aml_namespace.proofs.paths.Paths.len.Goals as goal
-
-pub returns : goal.returns
-returns c = let all = length-paths_of c.args.self.now.steps.items in omega (arith, all)

@@ -1,0 +1,2 @@
+pub mod OwnFirsts
+pub mod OwnsRead

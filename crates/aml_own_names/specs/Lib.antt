@@ -1,0 +1,3 @@
+pub mod OwnNames
+pub mod OwnNamesSeen
+pub mod Laws

@@ -1,0 +1,16 @@
+pub mod Positions
+pub mod PathNumbers
+pub mod Tries
+pub mod Chained
+pub mod RootAlone
+pub mod Added
+pub mod Ways
+pub mod Scopes
+pub mod Seen
+pub mod Upward
+pub mod Nearest
+pub mod Places
+pub mod Spelled
+pub mod PrintedPaths
+pub mod Copies
+pub mod Options

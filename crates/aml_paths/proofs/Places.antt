@@ -1,0 +1,112 @@
+-- The places of one segment on one chain, which stand together in the order of places.
+use Rattle.std.proofs.Common.{◌≡◌, ℕ, ◌≤◌, List, [], ◌∷◌, ◌++◌, Option, Some, None, true, false, refl, sym, ap, ◌∙◌, arith}
+use Rattle.std.specs.declared.cmp.Ordering.{Ordering}
+use Rattle.std.specs.declared.cmp.Ordering.TheVariants.{Less, Equal, Greater}
+use Rattle.std.specs.declared.ops.Bound.TheVariants.{Included}
+use Rattle.std.specs.Ordering.{is_eq, is_gt, is_lt, nat_cmp, ordering_reverse, ordering_then}
+use Rattle.std.specs.Prelude.{IsSome}
+use Rattle.std.specs.BTreeMap.{BTreeMap, get}
+use Rattle.std.specs.BTreeMap.Range.{IsLeBy, IsRangeOf}
+use Rattle.std.specs.Cmp.Lexicographic.{bytes_decides, texts_ties}
+use Rattle.std.proofs.lemmas.Bool.Decides.{nat_tests}
+use Rattle.std.proofs.lemmas.Cmp.{nat_cmp_total, nat_list_cmp_total, tied_itself}
+use Rattle.aml_lex.specs.declared.names.NameSeg.{NameSeg}
+use Rattle.aml_tree.specs.Owns.{segment_order}
+use Rattle.aml_paths.specs.declared.paths.Place.{Place}
+use Rattle.aml_paths.specs.declared.paths.Step.{Step}
+use Rattle.aml_paths.specs.Chains.{number_below_chain, spots_of}
+use Rattle.aml_paths.specs.Paths.{Path}
+use Rattle.aml_paths.specs.Resolve.{greatest}
+use Rattle.aml_paths.specs.Trie.{HasPlaceNumbers, place_order}
+use Rattle.aml_paths.proofs.Upward.{greatest_last, greatest_none, greatest_same}
+
+abbrev pub place_at : NameSeg → ℕ → ℕ → Place
+place_at segment top depth = record { segment = segment; top = top; depth = depth }
+
+-- places of one segment on one chain stand in the order of their depths
+places_ordered : (s : NameSeg) (t a b : ℕ) → place_order (place_at s t a) (place_at s t b) ≡ nat_cmp a b
+places_ordered s t a b =
+    ap (λ (o : Ordering). ordering_then o (ordering_then (nat_cmp t t) (nat_cmp a b))) (tied_itself nat_list_cmp_total s.bytes)
+    ∙ ap (λ (o : Ordering). ordering_then o (nat_cmp a b)) (tied_itself nat_cmp_total t)
+
+pub places_forward : (s : NameSeg) (t a b : ℕ) → a ≤ b → IsLeBy place_order (place_at s t a) (place_at s t b)
+places_forward s t a b le = ap is_gt (places_ordered s t a b) ∙ grind (arith, nat_tests)
+
+alike_by : (o u p q : Ordering) → o ≡ ordering_reverse u → is_gt (ordering_then o p) ≡ false → is_gt (ordering_then u q) ≡ false → o ≡ Equal
+alike_by Equal u p q e first last = refl
+alike_by Greater u p q e first last = absurd cc
+alike_by Less Less p q e first last = absurd cc
+alike_by Less Equal p q e first last = absurd cc
+alike_by Less Greater p q e first last = absurd cc
+
+tied : (a b : ℕ) → is_eq (nat_cmp a b) ≡ true → a ≡ b
+tied a b e = grind (arith, nat_tests)
+
+-- what is between two places of one segment on one chain is of that segment and on that chain
+module _ (s : NameSeg) (t a b : ℕ) (place : Place) (first : IsLeBy place_order (place_at s t a) place) (last : IsLeBy place_order place (place_at s t b)) where
+  abbrev on : ℕ → ℕ → ℕ → ℕ → Ordering
+  on x y d e = ordering_then (nat_cmp x y) (nat_cmp d e)
+
+  segments : segment_order s place.segment ≡ Equal
+  segments = alike_by (segment_order s place.segment) (segment_order place.segment s) (on t place.top a place.depth) (on place.top t place.depth b)
+      (nat_list_cmp_total.antisymm s.bytes place.segment.bytes) first last
+
+  segments_back : segment_order place.segment s ≡ Equal
+  segments_back = alike_by (segment_order place.segment s) (segment_order s place.segment) (on place.top t place.depth b) (on t place.top a place.depth)
+      (nat_list_cmp_total.antisymm place.segment.bytes s.bytes) last first
+
+  one_segment : s ≡ place.segment
+  one_segment =
+      let bytes = (bytes_decides s.bytes place.segment.bytes).0 (texts_ties s.bytes place.segment.bytes ∙ ap is_eq segments) in
+      λ i. record { bytes = bytes i }
+
+  one_chain : t ≡ place.top
+  one_chain =
+      let up = sym (ap (λ (o : Ordering). is_gt (ordering_then o (on t place.top a place.depth))) segments) ∙ first in
+      let down = sym (ap (λ (o : Ordering). is_gt (ordering_then o (on place.top t place.depth b))) segments_back) ∙ last in
+      let equal = alike_by (nat_cmp t place.top) (nat_cmp place.top t) (nat_cmp a place.depth) (nat_cmp place.depth b) (nat_cmp_total.antisymm t place.top) up down in
+      tied t place.top (ap is_eq equal)
+
+  pub one_place : place ≡ place_at s t place.depth
+  one_place = λ i. record { segment = sym one_segment i; top = sym one_chain i; depth = place.depth }
+
+-- what the map has on a chain
+pub known_on_chain : (numbers : BTreeMap Place ℕ) (steps : List Step) (paths : List Path) → HasPlaceNumbers numbers steps paths → (segment : NameSeg) (top last : ℕ) → greatest (λ depth. get place_order numbers (place_at segment top depth)) last ≡ greatest (number_below_chain paths (spots_of steps) top segment.bytes) last
+known_on_chain numbers steps paths known segment top last =
+    greatest_same (λ (depth : ℕ). get place_order numbers (place_at segment top depth)) (number_below_chain paths (spots_of steps) top segment.bytes) last (λ depth le. known segment top depth)
+
+up_to : (a b : ℕ) → is_gt (nat_cmp a b) ≡ false → a ≤ b
+up_to a b e = grind (arith, nat_tests)
+
+not_below : (a b : ℕ) → is_lt (nat_cmp a b) ≡ false → b ≤ a
+not_below a b e = grind (arith, nat_tests)
+
+module _ (numbers : BTreeMap Place ℕ) (segment : NameSeg) (top last : ℕ) where
+  abbrev find : ℕ → Option ℕ
+  find depth = get place_order numbers (place_at segment top depth)
+
+  abbrev Range : List (Place × ℕ) → Type 0
+  Range found = IsRangeOf place_order (Included (place_at segment top 0)) (Included (place_at segment top last)) numbers found
+
+  within : (n : ℕ) → n ≤ last → IsLeBy place_order (place_at segment top 0) (place_at segment top n) × IsLeBy place_order (place_at segment top n) (place_at segment top last)
+  within n le = (places_forward segment top 0 n (omega arith), places_forward segment top n last le)
+
+  -- no place is found
+  pub none_found : (found : List (Place × ℕ)) → Range found → found ≡ [] → greatest find last ≡ None
+  none_found found range is = greatest_none find last (λ n le. range.5 is (place_at segment top n) (within n le))
+
+  absent_by : (n : ℕ) (o : Option ℕ) → find n ≡ o → (IsSome o → ⊥) → o ≡ None
+  absent_by n None is none = refl
+  absent_by n (Some x) is none = absurd (none refl)
+
+  -- the last that is found
+  pub last_found : (found rest : List (Place × ℕ)) (place : Place) (number : ℕ) → Range found → found ≡ rest ++ (place, number) ∷ [] → greatest find last ≡ Some number
+  last_found found rest place number range is =
+      let there = range.3 (place, number) rest is in
+      let one = one_place segment top 0 last place there.0.0 there.0.1 in
+      let up : place.depth ≤ last = up_to place.depth last (sym (ap is_gt (ap (λ (p : Place). place_order p (place_at segment top last)) one ∙ places_ordered segment top place.depth last)) ∙ there.0.1) in
+      greatest_last find place.depth last number up (sym (ap (get place_order numbers) one) ∙ there.1)
+      (λ n after le. absent_by n (find n) refl (λ some.
+      let past = range.4 (place, number) rest is (place_at segment top n) (within n le) some in
+      let before = not_below place.depth n (sym (ap is_lt (ap (λ (p : Place). place_order p (place_at segment top n)) one ∙ places_ordered segment top place.depth n)) ∙ past) in
+      omega (arith, before, after)))
