@@ -7,4 +7,6 @@ mod dead_externals;
 #[cfg(test)]
 mod namespace;
 #[cfg(test)]
+mod paths;
+#[cfg(test)]
 mod tables;
