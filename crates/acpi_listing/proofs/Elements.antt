@@ -2,10 +2,10 @@
 use Rattle.std.proofs.Common.{◌≡◌, ◌≢◌, ◌⊎◌, ℕ, ◌<◌, List, [], ◌∷◌, ◌++◌, Option, Some, None, Result, Ok, Err, ap, ◌∙◌, sym, refl, get_or, length, zero, suc, drop, map, inl, inr, codes, arith, Bor}
 use Rattle.std.specs.Prelude.{IsErrAnd, MatchOption, Vec, vec_items}
 use Rattle.std.proofs.lemmas.Bool.{ne_eqb}
-use Rattle.aml_kinds.specs.Values.{Int, Buf, Str, Pkg, none, more}
-use Rattle.aml_kinds.specs.Views.{view}
-use Rattle.aml_kinds.specs.declared.value.Value as program
-use Rattle.aml_kinds.specs.declared.value.Value.TheVariants as value
+use Rattle.aml_values.specs.Values.{Int, Buf, Str, Pkg, none, more}
+use Rattle.aml_values.specs.Views.{view}
+use Rattle.aml_values.specs.declared.value.Value as program
+use Rattle.aml_values.specs.declared.value.Value.TheVariants as value
 use Rattle.aml_regions.specs.Text.{begun_with}
 use Rattle.acpi_listing.specs.Arguments.{AreArguments, IsArgument, IsInteger, IsNoArgument, ListsNoValues, ListsValues, elements}
 use Rattle.acpi_listing.specs.Faults.{nowhere}

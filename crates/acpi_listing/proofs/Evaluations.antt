@@ -6,7 +6,7 @@ use Rattle.aml_namespace.specs.Load.{Shown}
 use Rattle.aml_namespace.specs.Names.{IsBodyOf}
 use Rattle.aml_namespace.specs.Shows.{bytes_in}
 use Rattle.aml_operators.specs.Tree.{Tree, trees}
-use Rattle.aml_kinds.specs.Values.{Value}
+use Rattle.aml_values.specs.Values.{Value}
 use Rattle.aml_meaning.specs.declared.outcome.Outcome.{Outcome}
 use Rattle.aml_regions.specs.Events.{Event}
 use Rattle.aml_tree.specs.declared.fault.Refusal.{Refusal}

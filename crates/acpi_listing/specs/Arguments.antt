@@ -1,7 +1,7 @@
 -- The text of `--args`: values, between commas.
 use Rattle.std.specs.Prelude.{◌≡◌, ◌<◌, ◌≤◌, ◌^◌, ◌⊎◌, ℕ, List, [], ◌∷◌, ◌++◌, ⊤, All, Option, Some, None, Ok, codes, length}
 use Rattle.std.specs.Str.Parse.{IsNumeral, digits_value}
-use Rattle.aml_kinds.specs.Values.{Value, Int, Buf, Str, Pkg, none, more}
+use Rattle.aml_values.specs.Values.{Value, Int, Buf, Str, Pkg, none, more}
 use Rattle.aml_regions.specs.Text.{parts_at}
 use Rattle.hex.specs.Hex.{decode_of}
 

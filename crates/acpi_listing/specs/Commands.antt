@@ -11,9 +11,9 @@ use Rattle.aml_namespace.specs.Load.{Shown}
 use Rattle.aml_namespace.specs.Names.{method_at, IsBodyOf, ReadsBodyOf}
 use Rattle.aml_paths.specs.Printed.{path_text}
 use Rattle.aml_namespace.specs.PrintedObjects.{printed_object}
-use Rattle.aml_kinds.specs.FirstKinds.{greatest_of}
-use Rattle.aml_kinds.specs.FirstContents.{first_contents, first_kinds}
-use Rattle.aml_kinds.specs.Values.{Value, Int}
+use Rattle.aml_values.specs.Values.{Value, Int}
+use Rattle.aml_contents.specs.FirstKinds.{greatest_of}
+use Rattle.aml_contents.specs.FirstContents.{first_contents, first_kinds}
 use Rattle.aml_meaning.specs.State as State
 use Rattle.aml_regions.specs.Events.{Event}
 use Rattle.aml_plain.specs.Methods.{Evaluates}

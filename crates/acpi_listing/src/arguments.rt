@@ -3,15 +3,15 @@
 ghost use Rattle.std.specs.Prelude.{◌≡◌, ◌↔◌, ◌∷◌, ◌≤◌, ◌<◌, ◌^◌, IsTrue};
 ghost use Rattle.std.specs.Prelude.{ℕ, List, MatchOption, map, vec_items};
 ghost use Rattle.std.specs.Str.Parse.{IsNumeral, digits_value};
-ghost use Rattle.aml_kinds.specs.Values.{Int, none};
-ghost use Rattle.aml_kinds.specs.Views.{view};
+ghost use Rattle.aml_values.specs.Values.{Int, none};
+ghost use Rattle.aml_values.specs.Views.{view};
 ghost use Rattle.acpi_listing.specs.Arguments.{AreBytes, AreCharacters, IsArgument, IsInteger, IsNoArgument, ListsNoValues, ListsValues};
 ghost use Rattle.acpi_listing.specs.Faults.{nowhere};
 ghost use Rattle.acpi_listing.specs.Steps.{Tries};
 ghost use Rattle.acpi_listing.specs.declared.fault.FaultCause.TheVariants as cause;
 
 use crate::fault::{Fault, FaultCause};
-use aml_kinds::{Bytes, Package, Value};
+use aml_values::{Bytes, Package, Value};
 use hex::FromHexError;
 use std::alloc::Global;
 

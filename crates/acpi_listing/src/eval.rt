@@ -3,7 +3,7 @@
 ghost use Rattle.std.specs.Prelude.{◌≡◌, ◌≤◌, ◌↔◌, [], IsSome, Some, true};
 ghost use Rattle.std.specs.Prelude.{IfOk, IfErr, map, option_map, vec_items};
 ghost use Rattle.acpi_listing.specs.Arguments.{ListsArguments, ListsBadArguments};
-ghost use Rattle.aml_kinds.specs.Views.{view};
+ghost use Rattle.aml_values.specs.Views.{view};
 ghost use Rattle.aml_namespace.specs.Names.{method_at};
 ghost use Rattle.aml_namespace.specs.Shows.{bytes_in, shown};
 ghost use Rattle.acpi_listing.specs.Commands.{EvaluatesFiles, EvaluatesTables, IsMethodAt, IsNoMethodAt, printed_path};
@@ -28,7 +28,7 @@ use crate::regs::read_registers;
 use crate::source::Source;
 use crate::words::EvalRequest;
 use acpi_text::{RunFault, list_evaluation, list_events, list_refusal};
-use aml_kinds::{Names, Value};
+use aml_contents::Names;
 use aml_meaning::Outcome;
 use aml_namespace::{Method, Namespace, Width};
 use aml_operators::Term;
@@ -36,6 +36,7 @@ use aml_paths::ObjectId;
 use aml_plain::evaluate_tree;
 use aml_regions::{Event, RegisterFile};
 use aml_tree::{Refusal, TreeFault};
+use aml_values::Value;
 use std::alloc::Global;
 use std::io::Write;
 

@@ -1,8 +1,9 @@
 // Contents of names, again and again.
 
-use aml_kinds::{Names, Value};
+use aml_contents::Names;
 use aml_namespace::Width;
 use aml_paths::ObjectId;
+use aml_values::Value;
 use std::alloc::Global;
 
 /// Names of 64 bits, of which each holds an integer.

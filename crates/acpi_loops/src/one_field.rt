@@ -6,7 +6,7 @@ ghost use Rattle.std.specs.Prelude.{◌<◌, [], ◌∷◌};
 ghost use Rattle.aml_regions.specs.Events.{Read, Written};
 ghost use Rattle.acpi_loops.specs.Turns.{turns_of, with_first};
 
-use aml_kinds::Names;
+use aml_contents::Names;
 use aml_paths::{NoMemory, ObjectId};
 use aml_regions::{Access, World};
 

@@ -1,11 +1,9 @@
 -- Laws of values, as they are printed.
-use Rattle.std.proofs.Common.{◌≡◌, ◌+◌, ◌<◌, ◌≤◌, ℕ, zero, suc, List, [], ◌∷◌, ◌++◌, get_or, length, take, refl, sym, ap, ◌∙◌, append_assoc, arith, codes, map}
+use Rattle.std.proofs.Common.{◌≡◌, ◌+◌, ◌<◌, ◌≤◌, ℕ, List, [], ◌∷◌, ◌++◌, get_or, length, take, refl, sym, ap, ◌∙◌, append_assoc, arith, codes, map}
 use Rattle.std.proofs.lemmas.List.{length-take-le, map_push, take_more, length-map}
-use Rattle.std.proofs.Math.Nat.{le_trans, le-max_left, le-max_right}
 use Rattle.acpi_text.specs.Values.{element_text, element_texts, listed}
-use Rattle.aml_kinds.specs.Values.{element_depth, greatest_depth}
-use Rattle.aml_kinds.specs.Views.{element, elements_of}
-use Rattle.aml_kinds.specs.declared.value.Element as program
+use Rattle.aml_values.specs.Views.{element, elements_of}
+use Rattle.aml_values.specs.declared.value.Element as program
 use Rattle.aml_namespace.specs.Entries.{Entries}
 
 -- the texts of a list's elements
@@ -55,10 +53,3 @@ pub next_element : (entries : Entries) (es : List program.Element) (i : ℕ) (d 
 next_element entries es i d within later =
     ap listed (one_more entries es i d within)
     ∙ listed_next (element_texts entries (elements_of (take i es))) (element_text entries (element (get_or es i d))) (omega (arith, counted entries es i within))
-
--- no element is deeper than the deepest
-pub element_le : (es : List program.Element) (i : ℕ) (d : program.Element) → i < length es → element_depth (element (get_or es i d)) ≤ greatest_depth (elements_of es)
-element_le [] i d within = absurd (omega arith)
-element_le (e ∷ es) zero d within = le-max_left (element_depth (element e)) (greatest_depth (elements_of es))
-element_le (e ∷ es) (suc i) d within =
-    le_trans (element_le es i d (omega arith)) (le-max_right (element_depth (element e)) (greatest_depth (elements_of es)))

@@ -5,8 +5,8 @@ use Rattle.aml_meaning.specs.declared.error.AmlError.{AmlError}
 use Rattle.aml_tree.specs.Causes.{tree_cause_text}
 use Rattle.acpi_text.specs.Text.{joined}
 use Rattle.acpi_text.specs.Values.{value_text}
-use Rattle.aml_kinds.specs.Values.{Value}
-use Rattle.aml_kinds.specs.Views.{view}
+use Rattle.aml_values.specs.Values.{Value}
+use Rattle.aml_values.specs.Views.{view}
 use Rattle.aml_namespace.specs.Entries.{Entries}
 use Rattle.aml_tree.specs.declared.fault.Refusal.{Refusal}
 use Rattle.aml_meaning.specs.declared.outcome.Outcome.{Outcome}

@@ -3,7 +3,7 @@ use Rattle.std.specs.Prelude.{ℕ, List, [], ◌∷◌, ◌++◌, Option, Some, 
 use Rattle.hex.specs.Hex.{encode_lower}
 use Rattle.acpi_text.specs.Names.{object_text}
 use Rattle.acpi_text.specs.Text.{joined, hex, escaped}
-use Rattle.aml_kinds.specs.Values.{Value, Int, Buf, Str, Pkg, Element, Elements, Holds, Named, Unset, none, more}
+use Rattle.aml_values.specs.Values.{Value, Int, Buf, Str, Pkg, Element, Elements, Holds, Named, Unset, none, more}
 use Rattle.aml_namespace.specs.Entries.{Entries}
 use Rattle.aml_paths.specs.declared.scope.ObjectId.{ObjectId}
 

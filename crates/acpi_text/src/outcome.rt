@@ -3,14 +3,14 @@
 ghost use Rattle.std.specs.Prelude.{◌≡◌, IfOk, string_bytes};
 ghost use Rattle.acpi_text.specs.Lists.{Lists};
 ghost use Rattle.acpi_text.specs.Outcome.{error_line, outcome_line, result_line};
-ghost use Rattle.aml_kinds.specs.Views.{view};
+ghost use Rattle.aml_values.specs.Views.{view};
 ghost use Rattle.aml_namespace.specs.Shows.{shown};
 
 use crate::values::push_value;
 use crate::writing::{RunFault, put};
-use aml_kinds::Value;
 use aml_meaning::{AmlError, Outcome};
 use aml_namespace::Namespace;
+use aml_values::Value;
 use std::alloc::{AllocError, Global};
 use std::io::Write;
 

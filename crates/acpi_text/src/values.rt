@@ -4,15 +4,15 @@ ghost use Rattle.std.specs.Prelude.{◌≡◌, ◌++◌, ◌∷◌, [], OnOk, co
 ghost use Rattle.acpi_text.specs.Lists.{Lists};
 ghost use Rattle.acpi_text.specs.Text.{escaped, hex, joined};
 ghost use Rattle.acpi_text.specs.Values.{bytes_text, element_text, element_texts, listed, named_text, value_text};
-ghost use Rattle.aml_kinds.specs.Views.{element, elements_of, view};
+ghost use Rattle.aml_values.specs.Views.{element, elements_of, view};
 ghost use Rattle.aml_namespace.specs.Shows.{shown};
 
 use crate::escaped::escaped_text;
 use crate::path::push_object;
 use crate::writing::{RunFault, put};
-use aml_kinds::{Element, Value};
 use aml_namespace::Namespace;
 use aml_paths::ObjectId;
+use aml_values::{Element, Value};
 use hex;
 use std::alloc::{AllocError, Global};
 use std::io::Write;

@@ -2,7 +2,7 @@
 use Rattle.std.proofs.Common.{◌≡◌, ℕ, ◌≤◌, ◌<◌, true, false, List, Result, Ok, Err, sym, subst, arith}
 use Rattle.std.proofs.lemmas.Bool.Decides.{nat_tests}
 use Rattle.std.specs.Prelude.{nat_le}
-use Rattle.aml_kinds.specs.Values.{Value, Int, Buf}
+use Rattle.aml_values.specs.Values.{Value, Int, Buf}
 use Rattle.aml_regions.specs.declared.field.AnyField.{AnyField}
 use Rattle.aml_regions.specs.Fields.{layout_of}
 use Rattle.aml_meaning.specs.Fields.{read_bytes, read_integer, read_value, value_read}

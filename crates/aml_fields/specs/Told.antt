@@ -1,8 +1,8 @@
 -- What an answer with a value tells.
 use Rattle.std.specs.Prelude.{Option, Some, None, Result, Ok, Err}
-use Rattle.aml_kinds.specs.declared.value.Value as code
-use Rattle.aml_kinds.specs.Values.{Value}
-use Rattle.aml_kinds.specs.Views.{view}
+use Rattle.aml_values.specs.declared.value.Value as code
+use Rattle.aml_values.specs.Values.{Value}
+use Rattle.aml_values.specs.Views.{view}
 use Rattle.aml_paths.specs.declared.memory.NoMemory.{NoMemory}
 use Rattle.aml_meaning.specs.Runs as runs
 

@@ -1,7 +1,7 @@
 // The fields of buffers of a namespace (ACPI 6.5, 19.6, CreateField and its kin).
 
 ghost use Rattle.std.specs.Prelude.{◌≡◌, ◌<◌, ◌≤◌, ◌+◌, ◌*◌, ◌^◌, length, IfOk, IfSome, IsOk, IsTrue};
-ghost use Rattle.aml_kinds.specs.Views.{view};
+ghost use Rattle.aml_values.specs.Views.{view};
 ghost use Rattle.aml_namespace.specs.Shows.{shown};
 ghost use Rattle.aml_namespace.specs.Widths.{bits_of};
 ghost use Rattle.aml_regions.specs.BufferFields.{in_bytes};
@@ -11,10 +11,10 @@ ghost use Rattle.aml_meaning.specs.BufferFields.{IsLaidOut, bit_in_byte, buffer_
 use crate::buffer::{read_buffer_field, read_wide_buffer_field};
 use crate::kernel::byte_replaced;
 use crate::source::Bits;
-use aml_kinds::{Bytes, Value};
 use aml_meaning::BufferPart;
 use aml_namespace::{BufferField, BufferFieldSize, Link, Namespace, Object, Width};
 use aml_paths::{NoMemory, ObjectId};
+use aml_values::{Bytes, Value};
 use std::alloc::Global;
 
 // The byte at an index, which counts bits of a bit field and of one of so many bits, and else bytes.

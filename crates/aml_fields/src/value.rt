@@ -10,10 +10,10 @@ ghost use Rattle.aml_fields.specs.Told.{told_value};
 
 use crate::read::read_integer_field;
 use crate::wide::read_wide_field;
-use aml_kinds::{Bytes, Value};
 use aml_namespace::Width;
 use aml_paths::NoMemory;
 use aml_regions::{AnyField, World};
+use aml_values::{Bytes, Value};
 use std::alloc::Global;
 
 /// A field's value, by at most `limit` events: an integer, where the field has no more bits than integers

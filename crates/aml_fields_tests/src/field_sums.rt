@@ -7,10 +7,10 @@ ghost use Rattle.aml_regions.specs.Worlds.{CountsRefusal, IsUnit, MakesEvent};
 
 use OtherBits::{Ones, Preserve, Zeros};
 use UnitWidth::{Byte, DWord, QWord, Word};
+use aml_contents::Names;
 use aml_fields::{
     BitBytes, read_count, read_integer_field, read_wide_field, sound, write_count, write_field,
 };
-use aml_kinds::Names;
 use aml_paths::{NoMemory, ObjectId};
 use aml_regions::{Access, AnyField, Event, FieldLayout, OtherBits, RegionField, UnitWidth, World};
 use std::alloc::Global;

@@ -4,7 +4,7 @@
 ghost use Rattle.std.specs.Prelude.{◌<◌, ◌^◌, []};
 ghost use Rattle.aml_regions.specs.Worlds.{IsUnit};
 
-use aml_kinds::Names;
+use aml_contents::Names;
 use aml_paths::{NoMemory, ObjectId};
 use aml_regions::{Access, AllOnes, Event, RegisterFile, RegistersFault, World};
 use std::alloc::Global;

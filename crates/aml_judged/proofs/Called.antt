@@ -6,9 +6,9 @@ use Rattle.aml_operators.specs.Tree.{Tree, Trees, Node, none, more}
 use Rattle.aml_namespace.specs.declared.width.Width.{Width}
 use Rattle.aml_namespace.specs.declared.width.Width.TheVariants as width_of
 use Rattle.aml_namespace.specs.Widths.{bits_of}
-use Rattle.aml_kinds.specs.Values.{Value}
+use Rattle.aml_values.specs.Values.{Value}
 use Rattle.aml_kinds.specs.Kinds.{Kind}
-use Rattle.aml_kinds.specs.Contents.{ContentKinds}
+use Rattle.aml_contents.specs.Contents.{ContentKinds}
 use Rattle.aml_regions.specs.Events.{Event}
 use Rattle.aml_meaning.specs.declared.definition.Definition.{Definition}
 use Rattle.aml_meaning.specs.declared.definition.Definition.TheVariants as makes

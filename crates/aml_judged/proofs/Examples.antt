@@ -6,7 +6,7 @@ use Rattle.aml_operators.specs.declared.op.Op.TheVariants as op
 use Rattle.aml_operators.specs.Tree.{Tree, Trees, Node, none, more}
 use Rattle.aml_namespace.specs.declared.link.Link.{Link}
 use Rattle.aml_namespace.specs.declared.link.Link.TheVariants as link
-use Rattle.aml_kinds.specs.Values.{Buf}
+use Rattle.aml_values.specs.Values.{Buf}
 use Rattle.aml_kinds.specs.Kinds.{Kind, IntUpTo}
 use Rattle.aml_judged.specs.Causes as cause
 use Rattle.aml_judged.specs.Causes.{Cause, Refusal}

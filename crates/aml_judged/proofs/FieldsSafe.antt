@@ -2,7 +2,7 @@
 use Rattle.std.proofs.Common.{◌≡◌, ℕ, ◌+◌, ◌/◌, List, [], length, Option, Some, None, Result, Ok, Err, sym, subst, arith}
 use Rattle.std.specs.Prelude.{Bool, true, false, ◌==◌, ◌&&◌, if◌then◌else◌, nat_lt}
 use Rattle.std.proofs.lemmas.Bool.{eqb-true}
-use Rattle.aml_kinds.specs.Values.{Value, Int, Buf, Str, Pkg}
+use Rattle.aml_values.specs.Values.{Value, Int, Buf, Str, Pkg}
 use Rattle.aml_kinds.specs.Kinds.{Kind, IntUpTo, BufOf}
 use Rattle.aml_regions.specs.Events.{Event}
 use Rattle.aml_regions.specs.Fields.{layout_of}

@@ -5,18 +5,18 @@ use Rattle.std.proofs.lemmas.Bool.Decides.{nat_tests}
 use Rattle.std.proofs.lemmas.Nat.{pow_pos}
 use Rattle.std.proofs.Math.Nat.{mod-lt}
 use Rattle.std.specs.Prelude.{slice_get, slice_set, Bool, true, false, nat_le, ◌==◌, ◌&&◌, if◌then◌else◌}
-use Rattle.aml_kinds.specs.Values.{Value, Int, Buf, Str, Pkg, Elements, Element, Holds, Named, Unset, count}
-use Rattle.aml_kinds.specs.Values as values_of
-use Rattle.aml_kinds.specs.FirstKinds.{kind_by, shape_by, place_by}
-use Rattle.aml_kinds.proofs.SameKinds.{number_same}
+use Rattle.aml_values.specs.Values.{Value, Int, Buf, Str, Pkg, Elements, Element, Holds, Named, Unset, count}
+use Rattle.aml_values.specs.Values as values_of
+use Rattle.aml_values.proofs.Same.{number_same}
 use Rattle.aml_kinds.specs.Kinds.{Kind, IntUpTo, BufOf, StrOf, PkgOf, AnyPkg, Mixed}
 use Rattle.aml_kinds.specs.Fits.{fits, fits_shape, fits_place, most_elements}
 use Rattle.aml_kinds.specs.SameKinds.{same_shape}
 use Rattle.aml_kinds.specs.Joins.{join, if_same}
-use Rattle.aml_kinds.specs.Contents.{Contents, ContentKinds, content_at, kind_at, are_fitting, is_fitting, may_hold, with_content}
 use Rattle.aml_kinds.proofs.SameKinds.{same_kind-equal}
 use Rattle.aml_kinds.proofs.JoinLaws.{join_comm}
-use Rattle.aml_kinds.proofs.ContentLaws.{given_are_fitting}
+use Rattle.aml_contents.specs.FirstKinds.{kind_by, shape_by, place_by}
+use Rattle.aml_contents.specs.Contents.{Contents, ContentKinds, content_at, kind_at, are_fitting, is_fitting, may_hold, with_content}
+use Rattle.aml_contents.proofs.ContentLaws.{given_are_fitting}
 use Rattle.aml_meaning.specs.State.{Names, slots}
 use Rattle.aml_meaning.specs.Parts.{may_store, named_content}
 use Rattle.aml_judged.specs.Known.{Slot, join_slot, join_slots, within, slot_within, slots_within, greatest, widened_slot, widened, lower_slot, lower}

@@ -7,9 +7,9 @@ use Rattle.std.proofs.Math.Nat.{mod-lt}
 use Rattle.aml_operators.specs.Tree.{Tree, Trees, Node, more}
 use Rattle.aml_namespace.specs.declared.link.Link.{Link}
 use Rattle.aml_namespace.specs.declared.link.Link.TheVariants as link
-use Rattle.aml_kinds.specs.Values.{Value, Int, Buf, Str, Pkg}
+use Rattle.aml_values.specs.Values.{Value, Int, Buf, Str, Pkg}
 use Rattle.aml_kinds.specs.Kinds.{Kind, IntUpTo, BufOf, StrOf, PkgOf, AnyPkg, Mixed}
-use Rattle.aml_kinds.specs.Contents.{ContentKinds, fits_kind, kind_at, with_byte}
+use Rattle.aml_contents.specs.Contents.{ContentKinds, fits_kind, kind_at, with_byte}
 use Rattle.aml_regions.specs.Events.{Event}
 use Rattle.aml_meaning.specs.declared.action.Action.{Action}
 use Rattle.aml_meaning.specs.declared.action.Action.TheVariants.{Name, NoTarget, Invoke}

@@ -9,8 +9,8 @@ use Rattle.std.proofs.lemmas.Bool.Decides.{nat_tests}
 use Rattle.std.proofs.lemmas.Nat.{pow_pos, pow-add, mul-le, le-div, or_lt, xor_lt, and_le_l, and_le_r}
 use Rattle.std.proofs.lemmas.Nat.Bits.{bit_at_above, bit_at-trailing_zeros}
 use Rattle.std.proofs.Math.Nat.{mod-lt, mod-le, pow-le-pow_right, div-le_self, div-mul-le_self}
-use Rattle.aml_kinds.specs.Values.{Value, Int, Buf, Str, Pkg, Elements, Element, Holds, Named, Unset, count}
-use Rattle.aml_kinds.specs.Values as elements
+use Rattle.aml_values.specs.Values.{Value, Int, Buf, Str, Pkg, Elements, Element, Holds, Named, Unset, count}
+use Rattle.aml_values.specs.Values as elements
 use Rattle.aml_kinds.specs.Kinds.{Kind, IntUpTo, BufOf, StrOf, PkgOf, AnyPkg, Mixed, Shape, bare, with, places, ElementKind, ValueOf, AnyName, Anything}
 use Rattle.aml_kinds.specs.Fits.{fits_shape, fits_place}
 use Rattle.aml_kinds.specs.Joins.{join_elements}

@@ -5,12 +5,12 @@ use Rattle.std.specs.Prelude.{Bool, true, false, if◌then◌else◌, unwrap_or}
 use Rattle.aml_operators.specs.declared.op.Op.{Op}
 use Rattle.aml_operators.specs.Literal.{literal_in}
 use Rattle.aml_operators.specs.Tree.{Tree, Trees, Node, none, more}
-use Rattle.aml_kinds.specs.Values.{Value, Int, Buf, Str, Pkg}
+use Rattle.aml_values.specs.Values.{Value, Int, Buf, Str, Pkg}
 use Rattle.aml_kinds.specs.Kinds.{Kind, IntUpTo}
 use Rattle.aml_kinds.specs.Fits.{fits}
-use Rattle.aml_kinds.specs.FirstKinds.{name_kind}
-use Rattle.aml_kinds.specs.BodyData.{computed_size}
-use Rattle.aml_kinds.specs.Contents.{Contents, ContentKinds, content_at, are_fitting, is_fitting}
+use Rattle.aml_contents.specs.FirstKinds.{name_kind}
+use Rattle.aml_contents.specs.BodyData.{computed_size}
+use Rattle.aml_contents.specs.Contents.{Contents, ContentKinds, content_at, are_fitting, is_fitting}
 use Rattle.aml_regions.specs.Events.{Event}
 use Rattle.aml_meaning.specs.declared.action.Action.{Action}
 use Rattle.aml_meaning.specs.declared.action.Action.TheVariants.{Literal, Data}

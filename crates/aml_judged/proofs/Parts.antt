@@ -2,9 +2,9 @@
 use Rattle.std.proofs.Common.{◌≡◌, ℕ, zero, suc, ◌+◌, ◌≤◌, ◌<◌, Option, Some, None, refl, arith}
 use Rattle.std.specs.Prelude.{Bool, true, false, if◌then◌else◌}
 use Rattle.std.proofs.lemmas.Bool.{and_parts}
+use Rattle.aml_values.specs.Values.{Value}
 use Rattle.aml_kinds.specs.Kinds.{Kind}
 use Rattle.aml_kinds.specs.Joins.{join}
-use Rattle.aml_kinds.specs.Values.{Value}
 use Rattle.aml_meaning.specs.State as state
 use Rattle.aml_meaning.specs.State.{State, with_steps, Stop, Error, Returned, Broke, Continued, Out, Halts, NoAnswer, Spent}
 use Rattle.aml_meaning.specs.Parts.{then_do, take_step}

@@ -5,7 +5,7 @@ use Rattle.std.specs.Int.{bit_at}
 use Rattle.std.proofs.lemmas.Bool.{leb-true}
 use Rattle.std.proofs.lemmas.Nat.Bits.{bit_at-lt}
 use Rattle.std.proofs.Math.Nat.{pow-le-pow_right}
-use Rattle.aml_kinds.specs.Values.{Value, Int, Buf, Str, Pkg}
+use Rattle.aml_values.specs.Values.{Value, Int, Buf, Str, Pkg}
 use Rattle.aml_kinds.specs.Kinds.{Kind, IntUpTo, BufOf}
 use Rattle.aml_regions.specs.Events.{Event}
 use Rattle.aml_regions.specs.Bits.{number}

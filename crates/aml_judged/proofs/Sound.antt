@@ -9,9 +9,9 @@ use Rattle.aml_operators.specs.Literal.{literal_in}
 use Rattle.aml_operators.specs.Tree.{Tree, Trees, Node, none, more}
 use Rattle.aml_namespace.specs.declared.link.Link.{Link}
 use Rattle.aml_namespace.specs.declared.link.Link.TheVariants as link
-use Rattle.aml_kinds.specs.Values.{Value, Int}
+use Rattle.aml_values.specs.Values.{Value, Int}
 use Rattle.aml_kinds.specs.Kinds.{Kind, IntUpTo}
-use Rattle.aml_kinds.specs.Contents.{Contents, content_at, kind_at}
+use Rattle.aml_contents.specs.Contents.{Contents, content_at, kind_at}
 use Rattle.aml_regions.specs.Events.{Event, Read, Written, Notified, Slept, Stalled}
 use Rattle.aml_meaning.specs.declared.error.AmlError.{AmlError}
 use Rattle.aml_meaning.specs.declared.action.Action.{Action}
@@ -39,8 +39,8 @@ use Rattle.aml_meaning.specs.declared.action.Pause.TheVariants as pause
 use Rattle.aml_regions.specs.Worlds.{behind_sleep}
 use Rattle.aml_paths.specs.declared.scope.ObjectId.{ObjectId}
 use Rattle.aml_operators.specs.declared.op.Op.{Op}
-use Rattle.aml_kinds.specs.BodyData.{computed_size}
-use Rattle.aml_kinds.specs.FirstKinds.{kind_by}
+use Rattle.aml_contents.specs.BodyData.{computed_size}
+use Rattle.aml_contents.specs.FirstKinds.{kind_by}
 use Rattle.aml_meaning.specs.Meaning.{indexed, data_unless, own_measured, own_seen, named_seen, seen, size, asked, condition, is_there, notified_name, notified, untargeted, interface_asked, dereferenced, led, place_at, own_changed, own_held, own_read, own_stored, Setting, at_of, act, mean, value, values, mean_all, block, otherwise, is_else, want, store, stored, named, named_target, invoked, held, tested, gives_value, takes_operand, changed_in_place, operator_action, place, outside}
 use Rattle.aml_judged.specs.Causes as causes
 use Rattle.aml_judged.specs.Causes.{Refusal}

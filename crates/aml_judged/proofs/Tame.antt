@@ -9,8 +9,8 @@ use Rattle.aml_operators.specs.Shape.{operator_of}
 use Rattle.aml_operators.specs.Tree.{Tree, Trees, Node, none, more}
 use Rattle.aml_namespace.specs.declared.link.Link.{Link}
 use Rattle.aml_namespace.specs.declared.link.Link.TheVariants as link
-use Rattle.aml_kinds.specs.Values.{Value}
-use Rattle.aml_kinds.specs.Contents.{Contents, content_at}
+use Rattle.aml_values.specs.Values.{Value}
+use Rattle.aml_contents.specs.Contents.{Contents, content_at}
 use Rattle.aml_regions.specs.Events.{Event, Read, Written, Notified, Slept, Stalled}
 use Rattle.aml_meaning.specs.declared.error.AmlError.{AmlError}
 use Rattle.aml_meaning.specs.declared.error.AmlCause.{AmlCause}
@@ -43,7 +43,7 @@ use Rattle.aml_meaning.specs.Interfaces.{answered}
 use Rattle.aml_meaning.specs.declared.part.BufferPart.{BufferPart}
 use Rattle.aml_regions.specs.declared.field.AnyField.{AnyField}
 use Rattle.aml_regions.specs.Fields.{layout_of}
-use Rattle.aml_kinds.specs.BodyData.{computed_size}
+use Rattle.aml_contents.specs.BodyData.{computed_size}
 use Rattle.aml_paths.specs.declared.scope.ObjectId.{ObjectId}
 use Rattle.aml_judged.specs.Events.{Costs}
 use Rattle.aml_judged.specs.Keeps.{IsKept, TermsKeepLocals}

@@ -4,7 +4,7 @@ use Rattle.std.specs.Prelude.{Bool, true, false, ◌&&◌, ◌||◌, not, if◌t
 use Rattle.std.proofs.lemmas.Bool.{and_parts, eqb-true}
 use Rattle.aml_operators.specs.Literal.{literal_in}
 use Rattle.aml_operators.specs.Tree.{Tree, Trees, Node, none, more}
-use Rattle.aml_kinds.specs.Values.{Value, Int}
+use Rattle.aml_values.specs.Values.{Value, Int}
 use Rattle.aml_regions.specs.Events.{Event}
 use Rattle.aml_meaning.specs.declared.action.Action.{Action}
 use Rattle.aml_meaning.specs.declared.action.Action.TheVariants.{Argument, Literal, Local, Binary, Unary, ByOne, Divide, Convert, Concatenate, Store, Return, Break}

@@ -1,14 +1,14 @@
 -- A method's body: its own names, and its statements one by one.
 use Rattle.std.specs.Prelude.{◌++◌, ◌&&◌, not, ℕ, zero, suc, List, [], ◌∷◌, Option, Some, None, true, false, if◌then◌else◌}
 use Rattle.aml_operators.specs.Tree.{Tree, Trees, Node, none, more}
-use Rattle.aml_kinds.specs.BodyData.{computed_size}
-use Rattle.aml_kinds.specs.FirstKinds.{name_kind}
+use Rattle.aml_contents.specs.BodyData.{computed_size}
+use Rattle.aml_contents.specs.FirstKinds.{name_kind}
 use Rattle.aml_meaning.specs.declared.action.Action.{Action}
 use Rattle.aml_meaning.specs.declared.action.Action.TheVariants.{Literal, Data}
 use Rattle.aml_meaning.specs.Actions.{action}
 use Rattle.aml_meaning.specs.Meaning.{at_of}
 use Rattle.aml_kinds.specs.Kinds.{Kind, IntUpTo}
-use Rattle.aml_kinds.specs.Contents.{ContentKinds}
+use Rattle.aml_contents.specs.Contents.{ContentKinds}
 use Rattle.aml_meaning.specs.declared.definition.Definition.{Definition}
 use Rattle.aml_meaning.specs.Definitions.{definition, is_own}
 use Rattle.aml_judged.specs.Known.{greatest, Slot, Env}

@@ -1,6 +1,6 @@
 -- What an evaluator without errors needs of a verdict: nothing of kinds, only that the meaning goes on from where it stands.
 use Rattle.std.specs.Prelude.{◌≡◌, ℕ, suc, List}
-use Rattle.aml_kinds.specs.Contents.{ContentKinds}
+use Rattle.aml_contents.specs.Contents.{ContentKinds}
 use Rattle.aml_regions.specs.Events.{Event, AreWords}
 use Rattle.aml_meaning.specs.declared.error.AmlError.{AmlError}
 use Rattle.aml_meaning.specs.State as state

@@ -5,9 +5,9 @@ use Rattle.aml_operators.specs.Literal.{literal_in}
 use Rattle.aml_operators.specs.Tree.{Tree, Trees, Node, none, more}
 use Rattle.aml_namespace.specs.declared.link.Link.{Link}
 use Rattle.aml_kinds.specs.Kinds.{Kind, IntUpTo}
-use Rattle.aml_kinds.specs.Contents.{kind_at}
-use Rattle.aml_kinds.specs.FirstKinds.{kind_by}
-use Rattle.aml_kinds.specs.BodyData.{computed_size}
+use Rattle.aml_contents.specs.Contents.{kind_at}
+use Rattle.aml_contents.specs.FirstKinds.{kind_by}
+use Rattle.aml_contents.specs.BodyData.{computed_size}
 use Rattle.aml_meaning.specs.declared.action.Action.{Action}
 use Rattle.aml_meaning.specs.declared.action.Action.TheVariants.{Data, Unary, LNot, Divide, Convert, Concatenate, SizeOf, CondRefOf, Index, Debug, Notify, Pause, Literal, Local, Argument, Name, Binary, ByOne, Compare, Store, Return, If, While, Break, Continue, Nothing, Invoke, NoTarget, Dereference}
 use Rattle.aml_meaning.specs.Notices.{is_notifiable}

@@ -4,12 +4,12 @@ use Rattle.aml_operators.specs.declared.op.Op.{Op}
 use Rattle.aml_operators.specs.Tree.{Trees}
 use Rattle.aml_namespace.specs.declared.link.Link.{Link}
 use Rattle.aml_namespace.specs.declared.object.Object.{Object}
-use Rattle.aml_kinds.specs.Values.{Value}
+use Rattle.aml_values.specs.Values.{Value}
 use Rattle.aml_regions.specs.declared.field.AnyField.{AnyField}
 use Rattle.aml_meaning.specs.declared.part.BufferPart.{BufferPart}
 use Rattle.aml_kinds.specs.Kinds.{Kind}
 use Rattle.aml_kinds.specs.Joins.{join}
-use Rattle.aml_kinds.specs.Contents.{ContentKinds}
+use Rattle.aml_contents.specs.Contents.{ContentKinds}
 use Rattle.aml_meaning.specs.Rules.{Place}
 use Rattle.aml_judged.specs.Causes.{Cause, Refusal}
 use Rattle.aml_judged.specs.Known.{Env, join_env}

@@ -3,9 +3,9 @@ use Rattle.std.specs.Prelude.{◌==◌, ◌≡◌, ℕ, ◌≤◌, List, [], ◌
 use Rattle.aml_operators.specs.Tree.{Trees}
 use Rattle.aml_namespace.specs.declared.width.Width.{Width}
 use Rattle.aml_namespace.specs.Widths.{bits_of}
-use Rattle.aml_kinds.specs.Values.{Value}
+use Rattle.aml_values.specs.Values.{Value}
 use Rattle.aml_operators.specs.declared.op.Op.{Op}
-use Rattle.aml_kinds.specs.Contents.{ContentKinds}
+use Rattle.aml_contents.specs.Contents.{ContentKinds}
 use Rattle.aml_regions.specs.Events.{Event}
 use Rattle.aml_meaning.specs.State.{State, Out, Halts, NoAnswer, Spent}
 use Rattle.aml_meaning.specs.Within.{Callee, call_within, most_within, setting_for}

@@ -1,10 +1,10 @@
 -- What a body that is judged fine never meets.
 use Rattle.std.specs.Prelude.{◌≡◌, ℕ, ◌+◌, ◌≤◌, ◌<◌, ◌^◌, List, [], ◌∷◌, Option, Some, None, slice_get, true}
-use Rattle.aml_kinds.specs.Values.{Value, Int, Buf, Str, Pkg, Elements, Element, Holds, Named, Unset, count}
-use Rattle.aml_kinds.specs.Values as elements
+use Rattle.aml_values.specs.Values.{Value, Int, Buf, Str, Pkg, Elements, Element, Holds, Named, Unset, count}
+use Rattle.aml_values.specs.Values as elements
 use Rattle.aml_kinds.specs.Kinds.{Kind}
 use Rattle.aml_kinds.specs.Fits.{fits, most_elements}
-use Rattle.aml_kinds.specs.Contents.{Contents, ContentKinds, content_at, are_fitting}
+use Rattle.aml_contents.specs.Contents.{Contents, ContentKinds, content_at, are_fitting}
 use Rattle.aml_regions.specs.Events.{Event, Slept}
 use Rattle.aml_meaning.specs.State as state
 use Rattle.aml_meaning.specs.State.{State, Frame, Names, Stop, Error, Returned, Broke, Continued, Out, Halts, NoAnswer, Spent}

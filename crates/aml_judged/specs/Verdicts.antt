@@ -1,7 +1,7 @@
 -- A method's verdict, by those of the methods that it calls, and how long chains of calls are.
 use Rattle.std.specs.Prelude.{◌&&◌, Result, Ok, Err, not, ◌==◌, ◌||◌, ◌≡◌, ℕ, zero, suc, ◌^◌, List, [], ◌∷◌, Option, Some, None, nat_lt, Bool, true, false, if◌then◌else◌}
 use Rattle.aml_kinds.specs.Kinds.{Kind}
-use Rattle.aml_kinds.specs.Contents.{ContentKinds}
+use Rattle.aml_contents.specs.Contents.{ContentKinds}
 use Rattle.aml_meaning.specs.Within.{Callee, Methods}
 use Rattle.aml_judged.specs.Causes.{Refusal}
 use Rattle.aml_judged.specs.Known.{Env}

@@ -9,7 +9,7 @@
 #![tactic(auto)]
 
 ghost use Rattle.std.specs.Prelude.{Option};
-ghost use Rattle.aml_kinds.specs.Values.{Value};
+ghost use Rattle.aml_values.specs.Values.{Value};
 ghost use Rattle.aml_judged.specs.Chains.{ChainsAreCounted};
 ghost use Rattle.aml_judged.specs.Events.{FieldsCost};
 ghost use Rattle.aml_judged.specs.Fine.{FineParts};

@@ -1,9 +1,10 @@
 -- Joins of kinds: their order makes no difference.
 use Rattle.std.proofs.Common.{◌≡◌, ℕ, ◌==◌, max, Bool, true, false, ap, refl, sym, ◌∙◌, subst, arith}
+use Rattle.aml_values.proofs.Same.{same_number, number_same}
 use Rattle.aml_kinds.specs.Kinds.{Kind, IntUpTo, BufOf, StrOf, PkgOf, AnyPkg, Mixed, Shape}
 use Rattle.aml_kinds.specs.SameKinds.{same_shape}
 use Rattle.aml_kinds.specs.Joins.{join, if_same}
-use Rattle.aml_kinds.proofs.SameKinds.{same_number, number_same, same_shape-equal, shape_same}
+use Rattle.aml_kinds.proofs.SameKinds.{same_shape-equal, shape_same}
 
 -- of two choices that are made together, for one kind
 either_way : (a b : Bool) (j k other : Kind) → (a ≡ true → b ≡ true) → (b ≡ true → a ≡ true) → (a ≡ true → j ≡ k) → if_same a j other ≡ if_same b k other

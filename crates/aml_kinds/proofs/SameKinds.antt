@@ -1,22 +1,8 @@
 -- What is found to be the same is equal.
-use Rattle.std.proofs.Common.{◌≡◌, ℕ, ◌==◌, ◌&&◌, Bool, true, false, ap, refl, ◌∙◌, arith, sym, subst, IsTrue, ◌↔◌}
-use Rattle.std.proofs.lemmas.Bool.Decides.{nat_tests}
+use Rattle.std.proofs.Common.{◌≡◌, ◌&&◌, Bool, true, ap, refl, ◌∙◌, arith, sym, subst, IsTrue, ◌↔◌}
 use Rattle.aml_kinds.specs.Kinds.{Kind, IntUpTo, BufOf, StrOf, PkgOf, AnyPkg, Mixed, Shape, bare, with, ElementKind, ValueOf, AnyName, Anything}
 use Rattle.aml_kinds.specs.SameKinds.{same_kind, same_shape, same_element_kind}
-
-pub same_number : (m n : ℕ) → (m == n) ≡ true → m ≡ n
-same_number m n e = grind (arith, nat_tests)
-
-pub number_same : (n : ℕ) → (n == n) ≡ true
-number_same n = grind (arith, nat_tests)
-
-pub both_first : (a b : Bool) → (a && b) ≡ true → a ≡ true
-both_first true b e = refl
-both_first false b e = e
-
-pub both_second : (a b : Bool) → (a && b) ≡ true → b ≡ true
-both_second true b e = e
-both_second false b e = cc
+use Rattle.aml_values.proofs.Same.{same_number, number_same, both_first, both_second}
 
 mutual
   pub same_kind-equal : (j k : Kind) → same_kind j k ≡ true → j ≡ k

@@ -1,7 +1,7 @@
 -- What fits a kind fits each kind that it lies within.
 use Rattle.std.proofs.Common.{◌≡◌, ◌≤◌, ℕ, suc, nat_le, ◌&&◌, max, Bool, true, false, ap, refl, sym, subst, arith}
 use Rattle.std.proofs.lemmas.Bool.Decides.{nat_tests}
-use Rattle.aml_kinds.specs.Values.{Value, Int, Buf, Str, Pkg, Elements, none, more, count}
+use Rattle.aml_values.specs.Values.{Value, Int, Buf, Str, Pkg, Elements, none, more, count}
 use Rattle.aml_kinds.specs.Kinds.{Kind, IntUpTo, BufOf, StrOf, PkgOf, AnyPkg, Mixed, Shape, bare, with, places}
 use Rattle.aml_kinds.specs.Fits.{fits, fits_shape, fits_place, most_elements}
 use Rattle.aml_kinds.specs.Joins.{if_same, IsWithin}

@@ -1,6 +1,6 @@
 -- Which values are of a kind.
 use Rattle.std.specs.Prelude.{ℕ, ◌==◌, ◌&&◌, nat_le, length, Bool, true, false}
-use Rattle.aml_kinds.specs.Values.{Value, Int, Buf, Str, Pkg, Elements, none, more, Element, Holds, Named, count}
+use Rattle.aml_values.specs.Values.{Value, Int, Buf, Str, Pkg, Elements, none, more, Element, Holds, Named, count}
 use Rattle.aml_kinds.specs.Kinds.{Kind, IntUpTo, BufOf, StrOf, PkgOf, AnyPkg, Mixed, Shape, bare, with, ElementKind, ValueOf, AnyName, Anything}
 
 -- as many elements as a package may have

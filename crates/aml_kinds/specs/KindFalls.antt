@@ -3,12 +3,12 @@ use Rattle.std.specs.Prelude.{suc, ◌≤◌, List, [], ◌∷◌, max}
 use Rattle.std.proofs.Common.{lit≤, zero-le}
 use Rattle.std.proofs.Math.Nat.{max-le}
 use denote.Param.Weighed.{most}
+use Rattle.aml_values.specs.Falls.{one_deeper, beside}
 use Rattle.aml_kinds.specs.declared.kind.Kind as program
 use Rattle.aml_kinds.specs.declared.kind.Kind.TheVariants as kind
 use Rattle.aml_kinds.specs.declared.kind.ElementKind as program_element
 use Rattle.aml_kinds.specs.declared.kind.ElementKind.TheVariants as held
 use Rattle.aml_kinds.specs.declared.shape.Shape.TheDeep.{deep-ElementKind, deep-Kind}
-use Rattle.aml_kinds.specs.Falls.{one_deeper, beside}
 use Rattle.aml_kinds.specs.Kinds.{kind_depth, element_kind_depth, shape_depth, inner_depth}
 use Rattle.aml_kinds.specs.KindViews.{kind_of, element_kind, shape_of}
 

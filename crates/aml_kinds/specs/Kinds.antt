@@ -1,6 +1,6 @@
 -- Kinds: what is known of a value before evaluation.
 use Rattle.std.specs.Prelude.{◌≡◌, ◌≤◌, ℕ, suc, max, List, [], ◌∷◌}
-use Rattle.aml_kinds.specs.Values.{most_nested}
+use Rattle.aml_values.specs.Values.{most_nested}
 
 mutual
   -- a kind: integers up to the greatest, buffers and strings of a size, packages of a shape,

@@ -1,6 +1,6 @@
 -- What holds of kinds.
 use Rattle.std.specs.Prelude.{◌≡◌, ◌≤◌, IsTrue}
-use Rattle.aml_kinds.specs.Values.{Value}
+use Rattle.aml_values.specs.Values.{Value}
 use Rattle.aml_kinds.specs.Kinds.{Kind, PkgOf, Shape, bare, with, ValueOf, AnyName, Anything, places}
 use Rattle.aml_kinds.specs.Fits.{fits, most_elements}
 use Rattle.aml_kinds.specs.Joins.{join, IsWithin}

@@ -1,13 +1,13 @@
 // Whether values are of a kind.
 
 ghost use Rattle.std.specs.Prelude.{◌≡◌};
+ghost use Rattle.aml_values.specs.Views.{view, element, elements_of};
 ghost use Rattle.aml_kinds.specs.Fits as spec;
 ghost use Rattle.aml_kinds.specs.Fits.{fits_shape, fits_place};
-ghost use Rattle.aml_kinds.specs.Views.{view, element, elements_of};
 ghost use Rattle.aml_kinds.specs.KindViews.{kind_of, element_kind, shape_of};
 
 use crate::kind::{ElementKind, Kind};
-use crate::value::{Element, Value};
+use aml_values::{Element, Value};
 
 /// As many elements as a package may have.
 const MOST_ELEMENTS: usize = 65_535;
@@ -22,7 +22,7 @@ pub fn fits(value: &Value, kind: &Kind) -> bool
         (Value::Int(number), Kind::Int(greatest)) => number <= greatest,
         (Value::Buf(bytes), Kind::Buf(size)) => bytes.len() as u64 == *size,
         (Value::Str(characters), Kind::Str(size)) => characters.len() as u64 == *size,
-        (Value::Pkg(elements), Kind::Pkg(shape)) => fit(&elements.elements, &shape.places),
+        (Value::Pkg(elements), Kind::Pkg(shape)) => fit(elements.elements(), &shape.places),
         (Value::Pkg(elements), Kind::AnyPkg) => elements.len() <= MOST_ELEMENTS,
         _ => false,
     }
@@ -30,6 +30,7 @@ pub fn fits(value: &Value, kind: &Kind) -> bool
 
 /// Whether there are as many elements as places, each of its kind.
 #[cycle(fits)]
+#[tactic(auto, using(aml_values::proofs::Depths::element_item))]
 fn fit(elements: &[Element], places: &[ElementKind]) -> bool
     ensures { result ≡ fits_shape (elements_of elements.now) (shape_of places.now) }
 {

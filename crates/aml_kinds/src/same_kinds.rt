@@ -47,7 +47,7 @@ pub(crate) fn shapes_match(s: &[ElementKind], t: &[ElementKind]) -> bool
 
 /// Whether the kinds of two elements are the same.
 #[cycle(same_kind)]
-pub(crate) fn element_kinds_match(d: &ElementKind, e: &ElementKind) -> bool
+pub fn element_kinds_match(d: &ElementKind, e: &ElementKind) -> bool
     ensures { result ≡ same_element_kind (element_kind d.now) (element_kind e.now) }
 {
     match (d, e) {

@@ -1,13 +1,13 @@
 // Shapes of packages, no deeper than packages are.
 
 ghost use Rattle.std.specs.Prelude.{◌≡◌, ◌≤◌, ◌↔◌, IfOk, IfErr, IsOk};
-ghost use Rattle.aml_kinds.specs.Values.{most_nested};
+ghost use Rattle.aml_values.specs.Values.{most_nested};
 ghost use Rattle.aml_kinds.specs.Kinds.{places, shape_depth, inner_depth, element_kind_depth};
 ghost use Rattle.aml_kinds.specs.KindViews.{element_kind, shape_of};
 
 use crate::kind::{ElementKind, Kind};
 use crate::kind_copies::copied_places;
-use crate::package::MOST_NESTED;
+use aml_values::MOST_NESTED;
 use std::alloc::{AllocError, Global};
 use std::marker::Model;
 

@@ -2,11 +2,11 @@
 use Rattle.std.proofs.Common.{◌≡◌, refl, ap}
 use Rattle.std.specs.Option.{option_map}
 use Rattle.std.specs.Prelude.{◌-◌, ◌^◌, Option, Some, None}
-use Rattle.aml_kinds.specs.ContentViews.{content}
-use Rattle.aml_kinds.specs.FirstKinds.{first_kind, greatest_of, held_first, name_kind, within_width}
-use Rattle.aml_kinds.specs.Views.{view as value_view}
-use Rattle.aml_kinds.specs.declared.value.Value as program_value
-use Rattle.aml_kinds.specs.Values.{Value, Int, Buf, Str, Pkg}
+use Rattle.aml_values.specs.Views.{view as value_view}
+use Rattle.aml_values.specs.declared.value.Value as program_value
+use Rattle.aml_values.specs.Values.{Value, Int, Buf, Str, Pkg}
+use Rattle.aml_contents.specs.ContentViews.{content}
+use Rattle.aml_contents.specs.FirstKinds.{first_kind, greatest_of, held_first, name_kind, within_width}
 use Rattle.aml_namespace.specs.declared.width.Width.{Width}
 use Rattle.aml_namespace.specs.Widths.{bits_of}
 use Rattle.aml_meaning.specs.Owns.{first_held}

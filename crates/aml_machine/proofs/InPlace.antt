@@ -3,8 +3,8 @@ use Rattle.std.proofs.Common.{◌≡◌, ℕ, suc, zero, ◌+◌, ◌*◌, ◌^�
 use Rattle.std.proofs.lemmas.Bool.{cases_lt}
 use Rattle.std.proofs.lemmas.List.FromFn.{fill_by_all}
 use Rattle.std.specs.Prelude.{slice_index, slice_set}
-use Rattle.aml_kinds.specs.Contents.{Contents, changed_byte, content_at, with_byte, with_content}
-use Rattle.aml_kinds.specs.Values.{Value, Buf}
+use Rattle.aml_values.specs.Values.{Value, Buf}
+use Rattle.aml_contents.specs.Contents.{Contents, changed_byte, content_at, with_byte, with_content}
 use Rattle.aml_regions.specs.BufferFields.{in_bytes, stored}
 use Rattle.aml_regions.specs.Fields.{mixed}
 use Rattle.aml_meaning.specs.declared.part.BufferPart.{BufferPart}

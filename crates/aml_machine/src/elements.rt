@@ -2,10 +2,10 @@
 
 ghost use Rattle.std.specs.Prelude.{◌≡◌, Some, slice_get};
 ghost use Rattle.std.specs.Option.{option_map};
-ghost use Rattle.aml_kinds.specs.Views.{element, view};
+ghost use Rattle.aml_values.specs.Views.{element, view};
 ghost use Rattle.aml_machine.specs.Elements.{element_held, element_in, inner};
 
-use aml_kinds::{Element, Value};
+use aml_values::{Element, Value};
 
 /// The value that one of some elements holds, by its number.
 fn element_there(elements: &[Element], i: usize) -> Option<&Value>

@@ -1,13 +1,14 @@
 // What a running method has of its own.
 
 ghost use Rattle.std.specs.Prelude.{◌≡◌, map};
-ghost use Rattle.aml_kinds.specs.Views.{view};
+ghost use Rattle.aml_values.specs.Views.{view};
 ghost use Rattle.aml_meaning.specs.State.{entered};
 ghost use Rattle.aml_machine.specs.Views.{frame_of};
 
 use crate::mutexes::Mutexes;
-use aml_kinds::{Names, Value};
+use aml_contents::Names;
 use aml_meaning::BufferPart;
+use aml_values::Value;
 use std::alloc::Global;
 
 /// Locals and arguments, unset or with a value, and the names that the method has made so far, by their

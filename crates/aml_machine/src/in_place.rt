@@ -3,10 +3,10 @@
 
 ghost use Rattle.std.specs.Prelude.{◌≡◌, ℕ, ◌<◌, ◌≤◌, ◌+◌, ◌*◌, ◌/◌, ◌^◌, nat_le, slice_index, List, Some};
 ghost use Rattle.std.specs.Option.{option_map};
-ghost use Rattle.aml_kinds.specs.Contents.{content_at, with_content};
-ghost use Rattle.aml_kinds.specs.Held.{contents, content_kinds};
-ghost use Rattle.aml_kinds.specs.Values.{Buf};
-ghost use Rattle.aml_kinds.specs.Views.{view};
+ghost use Rattle.aml_values.specs.Values.{Buf};
+ghost use Rattle.aml_values.specs.Views.{view};
+ghost use Rattle.aml_contents.specs.Contents.{content_at, with_content};
+ghost use Rattle.aml_contents.specs.Held.{contents, content_kinds};
 ghost use Rattle.aml_regions.specs.BufferFields.{stored};
 ghost use Rattle.aml_regions.specs.Events.{Event};
 ghost use Rattle.aml_meaning.specs.BufferFields.{IsLaidOut, first_bit};
@@ -14,11 +14,12 @@ ghost use Rattle.aml_meaning.specs.Changes.{held_by};
 ghost use Rattle.aml_machine.specs.Views.{buffer_of, now};
 
 use crate::machine::Machine;
+use aml_contents::Names;
 use aml_fields::{Bits, stored_byte};
-use aml_kinds::{Names, Value};
 use aml_meaning::BufferPart;
 use aml_namespace::Link;
 use aml_paths::ObjectId;
+use aml_values::Value;
 
 /// What the source of a field holds.
 pub fn held_by(machine: &Machine, source: Link) -> Option<&Value>

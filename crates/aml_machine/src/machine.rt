@@ -1,7 +1,7 @@
 // What a running evaluation changes.
 
 ghost use Rattle.std.specs.Prelude.{◌≡◌, map, IfOk, List, None, OnErr, Option, Some};
-ghost use Rattle.aml_kinds.specs.Views.{view};
+ghost use Rattle.aml_values.specs.Views.{view};
 ghost use Rattle.aml_regions.specs.Events.{Event};
 ghost use Rattle.aml_namespace.specs.Widths.{bits_of};
 ghost use Rattle.aml_meaning.specs.Calls.{inside};
@@ -13,10 +13,11 @@ ghost use Rattle.aml_machine.specs.Views.{frame_of, made, now, value_of};
 
 use crate::frame::Frame;
 use crate::slots::hold;
-use aml_kinds::{Names, Value};
+use aml_contents::Names;
 use aml_meaning::BufferPart;
 use aml_namespace::Width;
 use aml_paths::NoMemory;
+use aml_values::Value;
 use std::alloc::Global;
 use std::mem;
 

@@ -4,7 +4,7 @@ use Rattle.std.specs.Prelude.{nat_le, if◌then◌else◌}
 use Rattle.aml_operators.specs.declared.op.Op.{Op}
 use Rattle.aml_operators.specs.declared.op.Op.TheVariants.{Index, Return, Add, Subtract, Arg0, One, NullName, Local0, Timer, Store, Invocation, NameString, While, Decrement, Break, If, Else, Sleep, Notify, Name}
 use Rattle.aml_operators.specs.Tree.{Tree, Trees, Node, none, more}
-use Rattle.aml_kinds.specs.Values.{Buf, Int}
+use Rattle.aml_values.specs.Values.{Buf, Int}
 use Rattle.aml_namespace.specs.declared.link.Link.TheVariants.{Data, Missing, Own}
 use Rattle.aml_meaning.specs.declared.error.AmlCause.TheVariants as cause
 use Rattle.aml_meaning.specs.State.{State, Goes, Halts, NoAnswer, Spent, error}

@@ -1,7 +1,7 @@
 -- Lists in order, steps of terms, and frames behind calls.
 use Rattle.std.proofs.Common.{◌≡◌, ◌<◌, ℕ, zero, suc, List, refl, Option, Some, None, arith}
 use Rattle.aml_operators.specs.Tree.{Node, none, more, joined}
-use Rattle.aml_kinds.specs.Values.{Value}
+use Rattle.aml_values.specs.Values.{Value}
 use Rattle.aml_regions.specs.Events.{Event}
 use Rattle.aml_meaning.specs.State.{State, Frame, Out, Goes, Halts, NoAnswer, Spent, Error, Returned, Broke, Continued, state_of, with_steps}
 use Rattle.aml_meaning.specs.Parts.{M, ◌>>=◌, then_do, give, stop_with, tick, paid, take_step}

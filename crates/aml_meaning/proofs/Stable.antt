@@ -1,7 +1,7 @@
 -- With more steps a method goes just so.
 use Rattle.std.proofs.Common.{ℕ, ◌+◌, List, subst}
 use Rattle.aml_operators.specs.Tree.{Trees}
-use Rattle.aml_kinds.specs.Values.{Value}
+use Rattle.aml_values.specs.Values.{Value}
 use Rattle.aml_regions.specs.Events.{Event}
 use Rattle.aml_meaning.specs.State.{State, with_steps}
 use Rattle.aml_meaning.specs.Parts.{Stays}

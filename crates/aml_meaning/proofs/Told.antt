@@ -2,7 +2,7 @@
 use Rattle.std.proofs.Common.{◌≡◌, ℕ, zero, suc, ◌≤◌, List, [], ◌∷◌, ◌++◌, Option, Some, None, Ok, Err, refl, sym, ap, ◌∙◌, subst, length, ◌⊎◌, inl, inr, Bool, true}
 use Rattle.std.specs.Prelude.{slice_get, cond, ◌==◌}
 use Rattle.std.specs.Cmp.{unsigned_Decides}
-use Rattle.aml_kinds.specs.Contents.{Contents, ContentKinds, are_fitting}
+use Rattle.aml_contents.specs.Contents.{Contents, ContentKinds, are_fitting}
 use Rattle.aml_regions.specs.Events.{Event, Read, Slept, AreWords, IsWord}
 use Rattle.aml_regions.specs.Worlds.{behind_sleep}
 use Rattle.aml_meaning.specs.State.{State, Frame, Names, Goes, NoAnswer}

@@ -3,7 +3,7 @@ use Rattle.std.proofs.Common.{◌≡◌, ◌==◌, ◌&&◌, ℕ, Bool, true, fa
 use Rattle.std.specs.Cmp.{unsigned_Decides, first_so, second_so}
 use Rattle.aml_regions.specs.declared.access.Access.{Access}
 use Rattle.aml_regions.specs.Events.{Event, Read, Written, Notified, Slept, Stalled, same_access}
-use Rattle.aml_kinds.specs.Contents.{Contents}
+use Rattle.aml_contents.specs.Contents.{Contents}
 use Rattle.aml_meaning.specs.State.{State, NoAnswer, with_steps}
 use Rattle.aml_meaning.specs.Parts.{paid, read_unit, sleep, woken}
 use Rattle.aml_meaning.specs.Whole.{ReadIsAnswered, OtherAnswerIsNone, SleepIsAnswered, OtherIsNoSleep}

@@ -1,7 +1,7 @@
 -- Laws of the meaning: what can be said of any term, any list and any call (ACPI 6.5, 5.5.2 and 19.6).
 use Rattle.std.specs.Prelude.{◌≡◌, ◌<◌, ℕ, List}
 use Rattle.aml_operators.specs.Tree.{Tree, Trees, joined}
-use Rattle.aml_kinds.specs.Values.{Value}
+use Rattle.aml_values.specs.Values.{Value}
 use Rattle.aml_regions.specs.Events.{Event}
 use Rattle.aml_meaning.specs.State.{State, Spent, state_of}
 use Rattle.aml_meaning.specs.Parts.{then_do}

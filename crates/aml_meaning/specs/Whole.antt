@@ -2,8 +2,8 @@
 use Rattle.std.specs.Int.{bit_at}
 use Rattle.std.specs.Prelude.{◌≡◌, ◌<◌, ◌≤◌, ◌^◌, ℕ, suc, ◌+◌, List, [], length, slice_get, Option, Some}
 use Rattle.aml_operators.specs.Tree.{Trees}
-use Rattle.aml_kinds.specs.Contents.{Contents}
-use Rattle.aml_kinds.specs.Values.{Value}
+use Rattle.aml_values.specs.Values.{Value}
+use Rattle.aml_contents.specs.Contents.{Contents}
 use Rattle.aml_regions.specs.declared.access.Access.{Access}
 use Rattle.aml_regions.specs.Events.{Event, Read, Slept}
 use Rattle.aml_meaning.specs.declared.error.AmlError.{AmlError}

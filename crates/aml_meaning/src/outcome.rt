@@ -1,7 +1,7 @@
 // How an evaluation ends.
 
 use crate::error::AmlError;
-use aml_kinds::Value;
+use aml_values::Value;
 
 /// How an evaluation ends.
 #[derive(Drop)]

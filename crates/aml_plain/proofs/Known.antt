@@ -1,7 +1,7 @@
 -- What `_OSI` answers of the values of its arguments.
 use Rattle.std.proofs.Common.{◌≡◌, ◌<◌, ◌≤◌, ℕ, List, [], ◌∷◌, map, length, get_or, arith, refl, ap, sym}
-use Rattle.aml_kinds.specs.declared.value.Value as program
-use Rattle.aml_kinds.specs.Views.{view}
+use Rattle.aml_values.specs.declared.value.Value as program
+use Rattle.aml_values.specs.Views.{view}
 use Rattle.aml_meaning.specs.Meaning.{Setting, interface_asked, outside}
 
 -- a value that is the only one

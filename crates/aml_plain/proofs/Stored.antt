@@ -1,10 +1,10 @@
 -- What fields take.
 use Rattle.std.proofs.Common.{◌≡◌, ℕ, true, false, List, refl, ap}
-use Rattle.aml_kinds.specs.Values.{Buf}
-use Rattle.aml_kinds.specs.Views.{view}
-use Rattle.aml_kinds.specs.declared.value.Value as program_value
-use Rattle.aml_kinds.specs.declared.value.Value.TheVariants as program
-use Rattle.aml_kinds.specs.declared.bytes.Bytes.{Bytes}
+use Rattle.aml_values.specs.Values.{Buf}
+use Rattle.aml_values.specs.Views.{view}
+use Rattle.aml_values.specs.declared.value.Value as program_value
+use Rattle.aml_values.specs.declared.value.Value.TheVariants as program
+use Rattle.aml_values.specs.declared.bytes.Bytes.{Bytes}
 use Rattle.aml_regions.specs.Bits.{byte_bit}
 use Rattle.aml_regions.specs.Fields.{layout_of}
 use Rattle.aml_regions.specs.declared.field.AnyField.{AnyField}

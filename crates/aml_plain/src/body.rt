@@ -1,7 +1,7 @@
 // A method's body, from its beginning to its end.
 
 ghost use Rattle.std.specs.Prelude.{◌≡◌, map};
-ghost use Rattle.aml_kinds.specs.Views as values;
+ghost use Rattle.aml_values.specs.Views as values;
 ghost use Rattle.aml_operators.specs.declared.row.Code.TheVariants as code;
 ghost use Rattle.aml_operators.specs.Shape.{AreShaped};
 ghost use Rattle.aml_operators.specs.Tree.{views};
@@ -10,12 +10,13 @@ ghost use Rattle.aml_plain.specs.Tells.{EvaluatesBody, outcome_of, setting_of};
 
 use crate::eval::eval_body;
 use crate::halt::{Halt, Setting};
-use aml_kinds::{Names, Value};
+use aml_contents::Names;
 use aml_machine::{Frame, Machine};
 use aml_meaning::{AmlCause, AmlError, Outcome};
 use aml_operators::Term;
 use aml_paths::NoMemory;
 use aml_regions::World;
+use aml_values::Value;
 use std::alloc::Global;
 use std::mem;
 

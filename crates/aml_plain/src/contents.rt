@@ -1,8 +1,8 @@
 // What names hold: read, stored and made, each with its error.
 
 ghost use Rattle.std.specs.Prelude.{◌≡◌, ◌≤◌, List, None, Some};
-ghost use Rattle.aml_kinds.specs.Contents.{content_at};
-ghost use Rattle.aml_kinds.specs.Views.{view};
+ghost use Rattle.aml_values.specs.Views.{view};
+ghost use Rattle.aml_contents.specs.Contents.{content_at};
 ghost use Rattle.aml_regions.specs.Events.{Event};
 ghost use Rattle.aml_namespace.specs.Widths.{bits_of};
 ghost use Rattle.aml_meaning.specs.Owns.{define_field, define_own, set_own};
@@ -12,10 +12,10 @@ ghost use Rattle.aml_machine.specs.Views.{made, now};
 ghost use Rattle.aml_plain.specs.Tells.{IsOrNoMemory, is_package, told, went};
 
 use crate::halt::{Halt, Setting, fails};
-use aml_kinds::{Value, copy};
 use aml_machine::Machine;
 use aml_meaning::{AmlCause, BufferPart};
 use aml_paths::{NoMemory, ObjectId};
+use aml_values::{Value, copy};
 use std::alloc::Global;
 
 /// What a data name holds, where it stands. A1 at the term's place where it holds nothing.

@@ -1,6 +1,6 @@
 // Literals of strings, buffers and packages.
 
-ghost use Rattle.aml_kinds.specs.BodyData.{body_data, computed_size};
+ghost use Rattle.aml_contents.specs.BodyData.{body_data, computed_size};
 ghost use Rattle.aml_operators.specs.Tree.{views};
 ghost use Rattle.aml_meaning.specs.declared.action.Action.TheVariants as does;
 ghost use Rattle.aml_meaning.specs.Meaning.{act};
@@ -9,9 +9,10 @@ ghost use Rattle.aml_machine.specs.Views.{value_of};
 ghost use Rattle.aml_plain.specs.Tells.{setting_of, told};
 
 use crate::halt::{Halt, Setting, fails};
-use aml_kinds::{Value, body_data, computed_size};
+use aml_contents::{body_data, computed_size};
 use aml_meaning::AmlCause;
 use aml_operators::{Op, Term};
+use aml_values::Value;
 use std::alloc::Global;
 
 /// The value of a literal of a string, a buffer or a package. A6 at the first buffer or package in it

@@ -1,8 +1,8 @@
 // Fields of regions behind names.
 
 ghost use Rattle.std.specs.Prelude.{◌≡◌, ◌≤◌, IfOk, IfSome};
-ghost use Rattle.aml_kinds.specs.Values.{Buf};
-ghost use Rattle.aml_kinds.specs.Views.{view};
+ghost use Rattle.aml_values.specs.Values.{Buf};
+ghost use Rattle.aml_values.specs.Views.{view};
 ghost use Rattle.aml_namespace.specs.Shows.{shown};
 ghost use Rattle.aml_namespace.specs.Widths.{bits_of};
 ghost use Rattle.aml_regions.specs.Fields.{IsSoundField};
@@ -17,12 +17,12 @@ ghost use Rattle.aml_plain.specs.Tells.{itself, place_in, setting_of, told, went
 use crate::halt::{Halt, Setting, fails};
 use crate::steps::take_step;
 use aml_fields::{BitBytes, Bits, field_in, read_count, read_field, write_count, write_field};
-use aml_kinds::Value;
 use aml_machine::Machine;
 use aml_meaning::AmlCause;
 use aml_namespace::{Namespace, Object, Width};
 use aml_paths::ObjectId;
 use aml_regions::{AnyField, World};
+use aml_values::Value;
 use std::alloc::Global;
 
 /// The field that an object is, where it is one that can be read and written.

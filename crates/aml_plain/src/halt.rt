@@ -2,7 +2,7 @@
 
 ghost use Rattle.std.specs.Prelude.{◌≡◌};
 ghost use Rattle.aml_meaning.specs.declared.error.AmlCause.TheVariants as cause;
-ghost use Rattle.aml_kinds.specs.Views.{view};
+ghost use Rattle.aml_values.specs.Views.{view};
 ghost use Rattle.aml_meaning.specs.Meaning.{want};
 ghost use Rattle.aml_meaning.specs.Runs.{By, Runs, method_result};
 ghost use Rattle.aml_meaning.specs.State.{error};
@@ -11,9 +11,9 @@ ghost use Rattle.aml_machine.specs.Views.{value_of};
 ghost use Rattle.aml_plain.specs.Tells.{halted, setting_of, told, went};
 
 pub use crate::setting::{Scene, Setting};
-use aml_kinds::Value;
 use aml_meaning::{AmlCause, AmlError};
 use aml_paths::NoMemory;
+use aml_values::Value;
 use std::alloc::AllocFailed;
 
 /// Why an evaluation ends before its end.

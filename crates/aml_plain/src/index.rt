@@ -1,9 +1,9 @@
 // A store into an Index: the name that it is of, and the byte that is written.
 
 ghost use Rattle.std.specs.Prelude.{◌≤◌, List};
-ghost use Rattle.aml_kinds.specs.Contents.{content_at};
-ghost use Rattle.aml_kinds.specs.Held.{contents};
-ghost use Rattle.aml_kinds.specs.Views as values;
+ghost use Rattle.aml_values.specs.Views as values;
+ghost use Rattle.aml_contents.specs.Contents.{content_at};
+ghost use Rattle.aml_contents.specs.Held.{contents};
 ghost use Rattle.aml_operators.specs.declared.row.Code.TheVariants as code;
 ghost use Rattle.aml_operators.specs.Shape.{IsShaped};
 ghost use Rattle.aml_operators.specs.Tree.{view};
@@ -22,12 +22,13 @@ use crate::halt::{Halt, Setting, fails};
 use crate::own::link_of;
 use crate::rules::byte_stored;
 use crate::steps::take_step;
-use aml_kinds::{Names, Value};
+use aml_contents::Names;
 use aml_machine::Machine;
 use aml_meaning::{Action, AmlCause, action_of};
 use aml_namespace::Link;
 use aml_operators::{Term, first_and_rest};
 use aml_paths::ObjectId;
+use aml_values::Value;
 
 /// A target that errs before it evaluates anything: the step of its store, and then the error.
 fn refused(

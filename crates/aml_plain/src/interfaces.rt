@@ -1,8 +1,8 @@
 // What `_OSI` answers (ACPI 6.5, 5.7.2).
 
 ghost use Rattle.std.specs.Prelude.{◌≡◌, map, unwrap_or};
-ghost use Rattle.aml_kinds.specs.Values.{Int};
-ghost use Rattle.aml_kinds.specs.Views.{view};
+ghost use Rattle.aml_values.specs.Values.{Int};
+ghost use Rattle.aml_values.specs.Views.{view};
 ghost use Rattle.aml_operators.specs.Tree.{views};
 ghost use Rattle.aml_operators.specs.Tree.{first_at};
 ghost use Rattle.aml_meaning.specs.Interfaces.{answered};
@@ -15,10 +15,10 @@ ghost use Rattle.aml_machine.specs.Views.{value_of};
 ghost use Rattle.aml_plain.specs.Tells.{place_in, setting_of, told};
 
 use crate::halt::{Halt, Setting, fails};
-use aml_kinds::Value;
 use aml_meaning::AmlCause;
 use aml_operators::Term;
 use aml_rules::truth;
+use aml_values::Value;
 
 /// The place of the first of some arguments, or this one where there is none.
 #[tactic(auto, using(aml_operators::proofs::Views::view_out))]

@@ -1,7 +1,7 @@
 // A method's evaluation, from the bytes of its table.
 
 ghost use Rattle.std.specs.Prelude.{◌≡◌, List, Some, IsSome, map};
-ghost use Rattle.aml_kinds.specs.Views as values;
+ghost use Rattle.aml_values.specs.Views as values;
 ghost use Rattle.aml_operators.specs.Tree.{Tree, trees, view, views};
 ghost use Rattle.aml_namespace.specs.declared.object.Method.{Method};
 ghost use Rattle.aml_namespace.specs.Shows.{shown};
@@ -13,12 +13,13 @@ ghost use Rattle.aml_machine.specs.Views.{names_of};
 use crate::body::evaluate_body;
 use crate::halt::{Scene, Setting};
 use aml_bodies::{Bodies, prepare_body};
-use aml_kinds::{Names, Value};
+use aml_contents::Names;
 use aml_meaning::Outcome;
 use aml_namespace::Namespace;
 use aml_paths::{NoMemory, ObjectId};
 use aml_regions::World;
 use aml_tree::{Term, TreeFault};
+use aml_values::Value;
 use std::alloc::Global;
 
 /// How many methods may be active within the first.

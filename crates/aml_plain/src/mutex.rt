@@ -14,12 +14,12 @@ ghost use Rattle.aml_plain.specs.Tells.{itself, setting_of, told, went};
 use crate::halt::{Halt, Setting, fails};
 use crate::own::link_of;
 use crate::steps::take_step;
-use aml_kinds::Value;
 use aml_machine::Machine;
 use aml_meaning::{Action, AmlCause, TakenMutex, action_of};
 use aml_namespace::{Link, Object};
 use aml_operators::{Term, one, two};
 use aml_paths::ObjectId;
+use aml_values::Value;
 
 /// The mutex that an object with a number is, named at a place. A2 there where it is none; A6 at the
 /// operator for the global lock.

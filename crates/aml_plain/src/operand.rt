@@ -1,7 +1,7 @@
 // Terms whose value asks for no other term's.
 
 ghost use Rattle.std.specs.Prelude.{◌≡◌, ◌≤◌, IsSome, List};
-ghost use Rattle.aml_kinds.specs.Views.{view};
+ghost use Rattle.aml_values.specs.Views.{view};
 ghost use Rattle.aml_operators.specs.Literal.{literal_in};
 ghost use Rattle.aml_operators.specs.Tree.{views};
 ghost use Rattle.aml_regions.specs.Events.{Event};
@@ -20,12 +20,12 @@ use crate::own_name::own_seen;
 use crate::rules::sized;
 use crate::slots::{held, seen};
 use crate::steps::take_step;
-use aml_kinds::Value;
 use aml_machine::Machine;
 use aml_meaning::{Action, AmlCause, action_of};
 use aml_namespace::Link;
 use aml_operators::{Op, Term, one, two};
 use aml_rules::truth;
+use aml_values::Value;
 use std::alloc::Global;
 
 /// A literal's value.

@@ -1,7 +1,7 @@
 // Own names: what they hold, or the fields of buffers that they are.
 
 ghost use Rattle.std.specs.Prelude.{◌≤◌, List};
-ghost use Rattle.aml_kinds.specs.Views.{view};
+ghost use Rattle.aml_values.specs.Views.{view};
 ghost use Rattle.aml_regions.specs.Events.{Event};
 ghost use Rattle.aml_meaning.specs.Meaning.{own_held, own_seen, own_stored};
 ghost use Rattle.aml_meaning.specs.Runs.{Runs};
@@ -12,9 +12,9 @@ use crate::contents;
 use crate::halt::{Halt, Setting, fails};
 use crate::part::{part_read, part_stored};
 use aml_fields::usable_part;
-use aml_kinds::Value;
 use aml_machine::Machine;
 use aml_meaning::AmlCause;
+use aml_values::Value;
 use std::alloc::Global;
 
 /// What an own name means where it is read.

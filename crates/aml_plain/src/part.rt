@@ -2,10 +2,10 @@
 
 ghost use Rattle.std.specs.Prelude.{◌≡◌, ◌<◌, ◌≤◌, ◌+◌, ◌*◌, length, List, Some, IfOk, IfSome};
 ghost use Rattle.std.specs.Option.{option_map};
-ghost use Rattle.aml_kinds.specs.Contents.{content_at};
-ghost use Rattle.aml_kinds.specs.Held.{contents};
-ghost use Rattle.aml_kinds.specs.Values.{Buf};
-ghost use Rattle.aml_kinds.specs.Views.{view};
+ghost use Rattle.aml_values.specs.Values.{Buf};
+ghost use Rattle.aml_values.specs.Views.{view};
+ghost use Rattle.aml_contents.specs.Contents.{content_at};
+ghost use Rattle.aml_contents.specs.Held.{contents};
 ghost use Rattle.aml_namespace.specs.Shows.{shown};
 ghost use Rattle.aml_namespace.specs.Widths.{bits_of};
 ghost use Rattle.aml_regions.specs.BufferFields.{stored};
@@ -20,12 +20,13 @@ ghost use Rattle.aml_plain.specs.Tells.{IsChanged, IsOrNoMemory, itself, place_i
 use crate::field::takes_buffer;
 use crate::halt::{Halt, Setting, fails};
 use crate::steps::take_step;
+use aml_contents::Names;
 use aml_fields::{BitBytes, part_numbered, part_value};
-use aml_kinds::{Names, Value};
 use aml_machine::{Machine, held_by, lies_in, put_bits};
 use aml_meaning::{AmlCause, BufferPart};
 use aml_namespace::Link;
 use aml_paths::ObjectId;
+use aml_values::Value;
 use std::alloc::Global;
 
 /// The field of a buffer that an object is, where it is one that can be read and written.

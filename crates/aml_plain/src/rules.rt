@@ -1,8 +1,8 @@
 // What operators make of values, each at its term's place.
 
 ghost use Rattle.std.specs.Prelude.{◌≡◌, Result};
-ghost use Rattle.aml_kinds.specs.Values.{Int};
-ghost use Rattle.aml_kinds.specs.Views.{view};
+ghost use Rattle.aml_values.specs.Values.{Int};
+ghost use Rattle.aml_values.specs.Views.{view};
 ghost use Rattle.aml_meaning.specs.Rules.{Place, combined, compared, divided, integer, negated, second, transformed};
 ghost use Rattle.aml_meaning.specs.Runs.{ruled};
 ghost use Rattle.aml_namespace.specs.Widths.{bits_of};
@@ -16,9 +16,9 @@ ghost use Rattle.aml_rules.specs.Tells as rules;
 ghost use Rattle.aml_plain.specs.Tells.{IsOrNoMemory, itself, place_in, told};
 
 use crate::halt::{Halt, Setting};
-use aml_kinds::Value;
 use aml_meaning::{AmlError, Arithmetic, Bitwise, Comparison};
 use aml_rules::{ByteStore, Division, Place, RuleFault};
+use aml_values::Value;
 use std::alloc::Global;
 
 /// The number that a rule gives.

@@ -1,14 +1,14 @@
 // What locals and arguments hold.
 
 ghost use Rattle.std.specs.Prelude.{◌≡◌, map, slice_get, Some};
-ghost use Rattle.aml_kinds.specs.Views.{view};
+ghost use Rattle.aml_values.specs.Views.{view};
 ghost use Rattle.aml_meaning.specs.Runs.{content};
 ghost use Rattle.aml_machine.specs.Views.{value_of};
 ghost use Rattle.aml_plain.specs.Tells.{IsOrNoMemory, told};
 
 use crate::halt::{Halt, Setting, fails};
-use aml_kinds::{Value, copy};
 use aml_meaning::AmlCause;
+use aml_values::{Value, copy};
 use std::alloc::Global;
 
 /// What a local or an argument holds, where it stands. A1 at the term's place where it is unset.

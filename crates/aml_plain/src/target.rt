@@ -1,7 +1,7 @@
 // Names and targets: what is read by a name alone, and what a store does.
 
 ghost use Rattle.std.specs.Prelude.{◌≡◌, ◌≤◌};
-ghost use Rattle.aml_kinds.specs.Views as values;
+ghost use Rattle.aml_values.specs.Views as values;
 ghost use Rattle.aml_meaning.specs.Meaning.{named, named_target, put, unwritable};
 ghost use Rattle.aml_meaning.specs.Runs.{Runs};
 ghost use Rattle.aml_machine.specs.Views.{now, value_of};
@@ -14,11 +14,11 @@ use crate::own::link_of;
 use crate::own_name::{own_held, own_stored};
 use crate::part::{named_part, part_read, part_stored};
 use crate::steps::take_step;
-use aml_kinds::Value;
 use aml_machine::Machine;
 use aml_meaning::{Action, AmlCause};
 use aml_namespace::Link;
 use aml_regions::World;
+use aml_values::Value;
 use std::alloc::Global;
 
 /// Why a name alone cannot be read or written.

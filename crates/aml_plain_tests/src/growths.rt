@@ -4,7 +4,7 @@
 
 use crate::outcomes::{Wanted, ends, first_names, gives, outcome_in};
 use acpi_samples::{HOST, table_of};
-use aml_kinds::Names;
+use aml_contents::Names;
 use aml_meaning::AmlCause;
 use aml_namespace::{LoadFault, Namespace};
 use aml_paths::ObjectId;

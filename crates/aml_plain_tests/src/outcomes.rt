@@ -6,12 +6,13 @@ ghost use Rattle.aml_namespace.specs.Shows.{shown};
 ghost use Rattle.aml_plain.specs.Methods.{Parses};
 
 use crate::plain::refused;
-use aml_kinds::{Names, Value};
+use aml_contents::Names;
 use aml_meaning::{AmlCause, Outcome};
 use aml_namespace::{LoadFault, Namespace};
 use aml_paths::{NoMemory, ObjectId};
 use aml_plain::evaluate_plain;
 use aml_regions::World;
+use aml_values::Value;
 use std::alloc::Global;
 
 /// What is wanted of an evaluation.

@@ -6,13 +6,14 @@ ghost use Rattle.aml_namespace.specs.Shows.{shown};
 ghost use Rattle.aml_plain.specs.Methods.{Parses};
 
 use acpi_samples::{DSDT, HOST, changed, table_of};
-use aml_kinds::{Bytes, Names, Package, Value};
+use aml_contents::Names;
 use aml_meaning::{AmlCause, AmlError, Outcome};
 use aml_namespace::{Content, LoadCause, LoadFault, LoadRefusal, Namespace, Object};
 use aml_paths::{NoMemory, ObjectId};
 use aml_plain::{evaluate_plain, evaluate_tree};
 use aml_regions::RegisterFile;
 use aml_tree::TreeFault;
+use aml_values::{Bytes, Package, Value};
 use std::alloc::{AllocError, Global};
 use std::process::Abort;
 use std::test::Fail;

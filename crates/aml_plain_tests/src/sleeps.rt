@@ -2,16 +2,17 @@
 // were worked out by hand.
 
 ghost use Rattle.std.specs.Prelude.{◌≡◌, IfOk};
-ghost use Rattle.aml_kinds.specs.Held.{content_kinds};
+ghost use Rattle.aml_contents.specs.Held.{content_kinds};
 ghost use Rattle.aml_regions.specs.EventViews.{events_of};
 ghost use Rattle.aml_regions.specs.Worlds.{counted};
 
 use crate::outcomes::{Wanted, ends, first_names, gives, outcome_in};
 use acpi_samples::{HOST, method_of, table_of};
-use aml_kinds::{Bytes, Element, Names, Package, Value};
+use aml_contents::Names;
 use aml_namespace::{LoadFault, Namespace};
 use aml_paths::{NoMemory, ObjectId};
 use aml_regions::{Access, Event, RegisterFile, World};
+use aml_values::{Bytes, Element, Package, Value};
 use std::alloc::{AllocError, Global};
 use std::process::Abort;
 use std::test::Fail;

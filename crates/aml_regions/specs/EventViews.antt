@@ -1,7 +1,7 @@
 -- Events of the program as events.
 use Rattle.std.specs.Prelude.{List, map}
 use Rattle.std.specs.Option.{option_map}
-use Rattle.aml_kinds.specs.Held.{contents}
+use Rattle.aml_contents.specs.Held.{contents}
 use Rattle.aml_regions.specs.declared.event.Event as program
 use Rattle.aml_regions.specs.declared.event.Event.TheVariants as happened
 use Rattle.aml_regions.specs.Events.{Event, Read, Written, Notified, Slept, Stalled}

@@ -1,7 +1,7 @@
 -- What others see of an evaluation: its calls on a world, in order.
 use Rattle.std.specs.Prelude.{◌≡◌, ℕ, ◌<◌, ◌^◌, ◌==◌, ◌&&◌, Bool, true, List, Option, Some, slice_get}
 use Rattle.aml_paths.specs.declared.scope.ObjectId.{ObjectId}
-use Rattle.aml_kinds.specs.Contents.{Contents, ContentKinds, are_fitting}
+use Rattle.aml_contents.specs.Contents.{Contents, ContentKinds, are_fitting}
 use Rattle.aml_regions.specs.declared.access.Access.{Access}
 
 -- one call on a world: a read of a unit, with what was answered; a write of a value; a Notify of an object with a value; a Sleep of

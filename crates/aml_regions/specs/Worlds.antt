@@ -1,7 +1,7 @@
 -- What a call on a world may ask, and what it changes.
 use Rattle.std.specs.Prelude.{◌≡◌, ◌⊎◌, ◌+◌, ◌-◌, ◌/◌, ◌^◌, ◌≤◌, ◌<◌, ◌++◌, ◌∷◌, ℕ, [], List, Option, unwrap_or, Result, IsErr, MatchResult, nat_le, if◌then◌else◌}
 use Rattle.aml_paths.specs.declared.memory.NoMemory.{NoMemory}
-use Rattle.aml_kinds.specs.Contents.{Contents}
+use Rattle.aml_contents.specs.Contents.{Contents}
 use Rattle.aml_regions.specs.declared.access.Access.{Access}
 use Rattle.aml_regions.specs.Events.{Event, Slept}
 

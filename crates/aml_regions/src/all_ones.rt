@@ -1,7 +1,7 @@
 // A world in which each bit is one.
 
 ghost use Rattle.std.specs.Prelude.{◌≡◌, ◌<◌, ◌-◌, ◌^◌, [], None, IfOk};
-ghost use Rattle.aml_kinds.specs.Held.{contents, content_kinds};
+ghost use Rattle.aml_contents.specs.Held.{contents, content_kinds};
 ghost use Rattle.aml_regions.specs.Events.{Read, Written, Notified, Slept, Stalled};
 ghost use Rattle.aml_regions.specs.EventViews.{event_of, events_of};
 ghost use Rattle.aml_regions.specs.Worlds.{IsUnit, MakesEvent, MakesSleep, CountsRefusal};
@@ -10,7 +10,7 @@ use crate::access::Access;
 use crate::event::Event;
 use crate::log::make;
 use crate::world::World;
-use aml_kinds::Names;
+use aml_contents::Names;
 use aml_paths::{NoMemory, ObjectId};
 use std::alloc::Global;
 

@@ -1,7 +1,7 @@
 // One call on a world, as others see it.
 
 use crate::access::Access;
-use aml_kinds::Names;
+use aml_contents::Names;
 use aml_paths::ObjectId;
 
 /// What others see of an evaluation: one call on its world.

@@ -1,14 +1,14 @@
 // A world that refuses.
 
 ghost use Rattle.std.specs.Prelude.{◌≡◌, ◌<◌, ◌^◌, ◌-◌, IfOk, MatchResult};
-ghost use Rattle.aml_kinds.specs.Held.{contents, content_kinds};
+ghost use Rattle.aml_contents.specs.Held.{contents, content_kinds};
 ghost use Rattle.aml_regions.specs.Events.{Read, Written, Notified, Stalled};
 ghost use Rattle.aml_regions.specs.Worlds.{IsUnit, MakesEvent, MakesSleep, CountsRefusal, PassesOn};
 
 use crate::access::Access;
 use crate::log::refuse;
 use crate::world::World;
-use aml_kinds::Names;
+use aml_contents::Names;
 use aml_paths::{NoMemory, ObjectId};
 
 /// A world that passes so many calls on to another, and refuses each further one.

@@ -1,12 +1,12 @@
 // Who answers an evaluation's accesses.
 
 ghost use Rattle.std.specs.Prelude.{◌≡◌, ◌<◌, ◌^◌, ℕ, List, IfOk};
-ghost use Rattle.aml_kinds.specs.Held.{contents, content_kinds};
+ghost use Rattle.aml_contents.specs.Held.{contents, content_kinds};
 ghost use Rattle.aml_regions.specs.Events.{Event, Read, Written, Notified, Stalled};
 ghost use Rattle.aml_regions.specs.Worlds.{IsUnit, MakesEvent, MakesSleep, CountsRefusal};
 
 use crate::access::Access;
-use aml_kinds::Names;
+use aml_contents::Names;
 use aml_paths::{NoMemory, ObjectId};
 
 /// Who answers the accesses of operation regions, and keeps what happens. Each call adds its one

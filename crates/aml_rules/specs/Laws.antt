@@ -1,6 +1,6 @@
 -- Laws of the rules.
 use Rattle.std.specs.Prelude.{◌≡◌, ◌^◌, ◌<◌, ℕ, Ok}
-use Rattle.aml_kinds.specs.Values.{Int}
+use Rattle.aml_values.specs.Values.{Int}
 use Rattle.aml_meaning.specs.Conversions.{to_buffer, to_integer}
 use Rattle.aml_meaning.specs.Rules.{Place, ◌>>=◌}
 use Rattle.aml_namespace.specs.Widths.{bits_of}

@@ -3,7 +3,7 @@ use Rattle.std.specs.Prelude.{◌≡◌, Result, Ok, Err}
 use Rattle.aml_meaning.specs.declared.error.AmlCause.{AmlCause}
 use Rattle.aml_meaning.specs.declared.error.AmlError.{AmlError}
 use Rattle.aml_meaning.specs.Elements as rules
-use Rattle.aml_kinds.specs.Values.{Int}
+use Rattle.aml_values.specs.Values.{Int}
 use Rattle.aml_meaning.specs.Rules as rule
 use Rattle.aml_meaning.specs.Rules.{Place}
 use Rattle.aml_rules.specs.declared.arithmetic.Division as program_division

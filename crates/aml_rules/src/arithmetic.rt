@@ -1,8 +1,8 @@
 // Arithmetic and comparisons (ACPI 6.5, 19.6): what operators make of integers.
 
 ghost use Rattle.std.specs.Prelude.{◌≡◌};
-ghost use Rattle.aml_kinds.specs.Values.{Int};
-ghost use Rattle.aml_kinds.specs.Views.{view};
+ghost use Rattle.aml_values.specs.Values.{Int};
+ghost use Rattle.aml_values.specs.Views.{view};
 ghost use Rattle.aml_meaning.specs.Rules as rule;
 ghost use Rattle.aml_namespace.specs.Widths.{bits_of};
 ghost use Rattle.aml_rules.specs.Tells.{division_of, place_of, told};
@@ -10,9 +10,9 @@ ghost use Rattle.aml_rules.specs.Tells.{division_of, place_of, told};
 use crate::equality::equal;
 use crate::integers::{holds, joined, transformed_bits, truth};
 use crate::place::{Place, error_at};
-use aml_kinds::Value;
 use aml_meaning::{AmlCause, AmlError, Arithmetic, Bitwise, Comparison};
 use aml_namespace::Width;
+use aml_values::Value;
 
 /// An integer is wanted of an operand. A2 at the operand that is none.
 pub fn integer(operand: Place, value: &Value) -> Result<u64, AmlError>

@@ -1,16 +1,16 @@
 // Buffers and strings joined, and how large values are.
 
 ghost use Rattle.std.specs.Prelude.{◌≡◌, ◌+◌, ◌++◌, nat_le};
-ghost use Rattle.aml_kinds.specs.Values.{Int};
-ghost use Rattle.aml_kinds.specs.Views.{view};
+ghost use Rattle.aml_values.specs.Values.{Int};
+ghost use Rattle.aml_values.specs.Views.{view};
 ghost use Rattle.aml_meaning.specs.Buffers as rule;
 ghost use Rattle.aml_namespace.specs.Widths.{bits_of};
 ghost use Rattle.aml_rules.specs.Tells.{GrowsBy, Obeys, place_of, told};
 
 use crate::place::{Place, RuleFault, error_at};
-use aml_kinds::{Bytes, Value};
 use aml_meaning::{AmlCause, AmlError};
 use aml_namespace::Width;
+use aml_values::{Bytes, Value};
 use std::alloc::Global;
 use std::mem;
 

@@ -2,16 +2,16 @@
 
 ghost use Rattle.std.specs.Prelude.{◌≡◌, ◌≤◌, ◌<◌, ◌/◌, ◌^◌, IfOk, length, take};
 ghost use Rattle.std.specs.Int.{bytes_low_first};
-ghost use Rattle.aml_kinds.specs.Values.{Int};
-ghost use Rattle.aml_kinds.specs.Views.{view};
+ghost use Rattle.aml_values.specs.Values.{Int};
+ghost use Rattle.aml_values.specs.Views.{view};
 ghost use Rattle.aml_meaning.specs.Conversions as rule;
 ghost use Rattle.aml_namespace.specs.Widths.{bits_of};
 ghost use Rattle.aml_rules.specs.Tells.{Obeys, place_of, told};
 
 use crate::place::{Place, RuleFault, error_at};
-use aml_kinds::{Bytes, Value};
 use aml_meaning::{AmlCause, AmlError};
 use aml_namespace::Width;
+use aml_values::{Bytes, Value};
 use std::alloc::{AllocError, Global};
 
 /// A value as a buffer: of an integer its bytes, 4 or 8, the lowest first; a buffer stays (ACPI 6.5,

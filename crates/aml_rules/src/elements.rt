@@ -2,16 +2,16 @@
 
 ghost use Rattle.std.specs.Prelude.{◌≡◌, slice_get};
 ghost use Rattle.std.specs.Option.{option_map};
-ghost use Rattle.aml_kinds.specs.Values.{Int};
-ghost use Rattle.aml_kinds.specs.Views.{element, view};
+ghost use Rattle.aml_values.specs.Values.{Int};
+ghost use Rattle.aml_values.specs.Views.{element, view};
 ghost use Rattle.aml_meaning.specs.Elements as rule;
 ghost use Rattle.aml_meaning.specs.Rules.{integer};
 ghost use Rattle.aml_rules.specs.Tells.{Obeys, place_of, store_of, told};
 
 use crate::arithmetic::integer;
 use crate::place::{Place, RuleFault, error_at};
-use aml_kinds::{Element, Package, Value, copy};
 use aml_meaning::{AmlCause, AmlError};
+use aml_values::{Element, Package, Value, copy};
 use std::alloc::Global;
 
 /// A byte, and where in a buffer it is written.

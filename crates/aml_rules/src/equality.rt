@@ -1,13 +1,13 @@
 // Whether two values are equal.
 
 ghost use Rattle.std.specs.Prelude.{◌≡◌};
-ghost use Rattle.aml_kinds.specs.Views.{view};
+ghost use Rattle.aml_values.specs.Views.{view};
 ghost use Rattle.aml_meaning.specs.Rules as rule;
 ghost use Rattle.aml_rules.specs.Tells.{place_of};
 
 use crate::place::{Place, error_at};
-use aml_kinds::Value;
 use aml_meaning::{AmlCause, AmlError};
+use aml_values::Value;
 
 /// Whether two integers, two buffers or two strings are equal (ACPI 6.5, 19.6, LEqual). A2 at the
 /// first operand that is a package, else at a second of another kind.

@@ -1,7 +1,7 @@
 // Integers modulo 2 to the width.
 
 ghost use Rattle.std.specs.Prelude.{◌≡◌, ◌<◌, ◌*◌, ◌/◌, ◌%◌, ◌^◌};
-ghost use Rattle.aml_kinds.specs.Values.{Int};
+ghost use Rattle.aml_values.specs.Values.{Int};
 ghost use Rattle.aml_meaning.specs.declared.action.Arithmetic.TheVariants as operation;
 ghost use Rattle.aml_meaning.specs.Rules.{apply, holds, transform, truth};
 ghost use Rattle.aml_namespace.specs.Widths.{bits_of};

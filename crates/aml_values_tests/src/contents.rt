@@ -5,9 +5,10 @@ mod often;
 
 use crate::kinds::{Sample, value_of};
 use acpi_samples::{HOST, table_of};
-use aml_kinds::{Names, Value, is_same_value};
+use aml_contents::Names;
 use aml_namespace::{Namespace, Width};
 use aml_paths::{NoMemory, ObjectId};
+use aml_values::{Value, is_same_value};
 use std::alloc::{AllocError, Global};
 use std::test::Fail;
 

@@ -1,11 +1,11 @@
 // Values against kinds and kinds against kinds, each row written by hand from the definitions.
 
 use aml_kinds::{
-    Bytes, Element, ElementKind, Kind, Package, Shape, Value, copy, copy_kind, fits,
-    fits_what_it_lies_within, is_same_kind, is_same_value, is_within, join, join_associates,
-    join_commutes, join_elements, join_stays,
+    ElementKind, Kind, Shape, copy_kind, fits, fits_what_it_lies_within, is_same_kind, is_within,
+    join, join_associates, join_commutes, join_elements, join_stays,
 };
 use aml_paths::{NoMemory, ObjectId};
+use aml_values::{Bytes, Element, Package, Value, copy, is_same_value};
 use std::alloc::{AllocError, Global};
 use std::test::Fail;
 

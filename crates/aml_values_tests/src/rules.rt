@@ -1,8 +1,8 @@
 // What the rows of crates/acpicheck/rows cannot say of operators' rules: a package of 64 levels, which no Name has.
 
 use crate::kinds::{Sample, value_of};
-use aml_kinds::{Value, is_same_value};
 use aml_rules::{Place, element_at};
+use aml_values::{Value, is_same_value};
 use std::test::Fail;
 
 const OPERATOR: Place = Place { table: 1, at: 10 };

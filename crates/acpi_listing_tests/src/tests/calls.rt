@@ -6,9 +6,9 @@ use acpi_listing::{
     run_words,
 };
 use acpi_tables::{TableCause, TableFault};
-use aml_kinds::Value;
 use aml_meaning::{AmlCause, AmlError, Outcome};
 use aml_namespace::{Host, Namespace};
+use aml_values::Value;
 use hex;
 use std::alloc::Global;
 use std::io;

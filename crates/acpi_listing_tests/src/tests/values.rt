@@ -1,10 +1,10 @@
 // Values and events as they are printed.
 
 use acpi_listing::{list_events, list_value};
-use aml_kinds::{Bytes, Element, Package, Value};
 use aml_namespace::{Host, Namespace};
 use aml_paths::ObjectId;
 use aml_regions::{Access, Event};
+use aml_values::{Bytes, Element, Package, Value};
 use hex;
 use std::alloc::{AllocError, Global};
 use std::test::Fail;

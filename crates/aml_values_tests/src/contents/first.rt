@@ -2,9 +2,10 @@
 // Package (ACPI 6.5, 19.6). What names hold first is told by the rows of crates/acpicheck/rows.
 
 use acpi_samples::{HOST, table_of};
-use aml_kinds::{Bytes, Element, Names, Package, Value};
+use aml_contents::Names;
 use aml_namespace::{Namespace, Width};
 use aml_paths::{NamePlace, ObjectId, Scope};
+use aml_values::{Bytes, Element, Package, Value};
 use std::alloc::{AllocError, Global};
 use std::test::Fail;
 

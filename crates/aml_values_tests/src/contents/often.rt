@@ -1,8 +1,9 @@
 // A name that is set and looked at a million times, which `bench/names.py` measures.
 
-use aml_kinds::{Names, Value};
+use aml_contents::Names;
 use aml_namespace::Width;
 use aml_paths::ObjectId;
+use aml_values::Value;
 use std::test::Fail;
 
 /// Sets an integer's name to another integer, and gives what it holds then.

@@ -1,7 +1,7 @@
 use Rattle.std.proofs.Common.{[], ◌∷◌, ◌++◌, Some, None, rules, arith, sym, ap, ◌∙◌, append_assoc, map, subst}
 use Rattle.std.specs.Prelude.{vec_items}
 use Rattle.std.proofs.lemmas.Str.Pattern.{split_parts}
-use Rattle.aml_kinds.specs.Views.{view}
+use Rattle.aml_values.specs.Views.{view}
 use Rattle.acpi_listing.specs.Arguments.{AreArguments, elements}
 use Rattle.acpi_listing.proofs.Elements.{arguments_more, elements_more, elements_one, stops_at}
 use Rattle.acpi_listing.proofs.arguments.read_arguments.Goals as goal

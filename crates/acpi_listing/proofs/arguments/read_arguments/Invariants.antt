@@ -1,7 +1,7 @@
 use Rattle.std.proofs.Common.{◌≡◌, ℕ, List, ◌++◌, length, map, vec_items}
 use denote.Text.{Utf8}
 use denote.Shadow.{shadow}
-use Rattle.aml_kinds.specs.Views.{view}
+use Rattle.aml_values.specs.Views.{view}
 use Rattle.acpi_listing.specs.Arguments.{elements, AreArguments}
 use Rattle.acpi_listing.proofs.arguments.read_arguments.Given as goal
 

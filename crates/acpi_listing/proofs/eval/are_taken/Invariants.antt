@@ -1,5 +1,5 @@
 use Rattle.std.proofs.Common.{◌≡◌, map, drop}
-use Rattle.aml_kinds.specs.Views.{view}
+use Rattle.aml_values.specs.Views.{view}
 use Rattle.acpi_listing.specs.Commands.{are_taken}
 use Rattle.acpi_listing.proofs.eval.are_taken.Given as goal
 

@@ -1,5 +1,5 @@
 use Rattle.std.proofs.Common.{option_map, map}
-use Rattle.aml_kinds.specs.Views.{view}
+use Rattle.aml_values.specs.Views.{view}
 use Rattle.acpi_listing.proofs.Evaluations.{no_arguments, no_registers, no_inputs, inputs_evaluated}
 use Rattle.acpi_listing.proofs.eval.evaluate.Goals as goal
 

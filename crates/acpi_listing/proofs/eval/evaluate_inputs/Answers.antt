@@ -4,7 +4,7 @@ use Rattle.acpi_listing.specs.declared.fault.FaultCause.TheVariants as cause
 use Rattle.acpi_listing.specs.declared.fault.Stop.{Stop}
 use Rattle.acpi_listing.specs.declared.fault.Stop.TheVariants.{Fault as Faulty}
 use Rattle.aml_namespace.specs.Shows.{shown}
-use Rattle.aml_kinds.specs.Views as values
+use Rattle.aml_values.specs.Views as values
 use Rattle.aml_operators.specs.Tree.{view, trees}
 use Rattle.aml_bodies.proofs.Methods.{are_statements}
 use Rattle.acpi_listing.specs.Steps.{Obtains, Tells, Then}

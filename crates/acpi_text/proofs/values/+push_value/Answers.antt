@@ -1,10 +1,11 @@
 use Rattle.std.proofs.Common.{◌++◌, ◌≤◌, get_or, ap, ◌∙◌, sym, subst, append_assoc, append-nil, arith, codes}
 use Rattle.acpi_text.proofs.NameLemmas.{added}
-use Rattle.acpi_text.proofs.ValueLemmas.{element_le, first_element, next_element}
+use Rattle.acpi_text.proofs.ValueLemmas.{first_element, next_element}
+use Rattle.aml_values.proofs.Depths.{element_le}
 use Rattle.acpi_text.specs.Values.{element_text, element_texts}
-use Rattle.aml_kinds.specs.Values.{element_depth, greatest_depth}
-use Rattle.aml_kinds.specs.Views.{element, elements_of}
-use Rattle.aml_kinds.specs.declared.value.Element as program
+use Rattle.aml_values.specs.Values.{element_depth, greatest_depth}
+use Rattle.aml_values.specs.Views.{element, elements_of}
+use Rattle.aml_values.specs.declared.value.Element as program
 use Rattle.aml_namespace.specs.Shows.{shown}
 use Rattle.acpi_text.proofs.values.+push_value.Goals as goal
 use Rattle.acpi_text.proofs.values.+push_value.Goals.{push_elements-then-i-gt0+in_ok-extend_from_slice, push_elements-else-i-gt0}

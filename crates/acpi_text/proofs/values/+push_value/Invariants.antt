@@ -1,6 +1,6 @@
 use Rattle.std.proofs.Common.{◌≡◌, ◌+◌, ◌*◌, ◌++◌, take}
-use Rattle.aml_kinds.specs.Values.{depth, element_depth, greatest_depth}
-use Rattle.aml_kinds.specs.Views.{element, elements_of, view}
+use Rattle.aml_values.specs.Values.{depth, element_depth, greatest_depth}
+use Rattle.aml_values.specs.Views.{element, elements_of, view}
 use Rattle.aml_namespace.specs.Shows.{shown}
 use Rattle.acpi_text.specs.Values.{element_texts, listed}
 use Rattle.acpi_text.proofs.values.+push_value.Given as goal

@@ -1,5 +1,5 @@
 use Rattle.std.proofs.Common.{sym}
-use Rattle.aml_kinds.proofs.Lengths.{fits_shape-differ}
+use Rattle.aml_kinds.proofs.ShapeLengths.{fits_shape-differ}
 use Rattle.aml_kinds.proofs.fitting.+fits.Goals as goal
 
 pub fit-returns-then-elements-places : goal.fit-returns-then-elements-places

@@ -1,5 +1,5 @@
 use Rattle.std.proofs.Common.{sym}
-use Rattle.aml_kinds.proofs.Lengths.{same_shape-differ}
+use Rattle.aml_kinds.proofs.ShapeLengths.{same_shape-differ}
 use Rattle.aml_kinds.proofs.same_kinds.+same_kind.Goals as goal
 
 pub shapes_match-returns-then-s-t : goal.shapes_match-returns-then-s-t

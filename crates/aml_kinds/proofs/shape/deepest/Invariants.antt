@@ -1,5 +1,5 @@
 use Rattle.std.proofs.Common.{◌≡◌, ◌≤◌, max, drop}
-use Rattle.aml_kinds.specs.Values.{most_nested}
+use Rattle.aml_values.specs.Values.{most_nested}
 use Rattle.aml_kinds.specs.Kinds.{inner_depth}
 use Rattle.aml_kinds.specs.KindViews.{shape_of}
 use Rattle.aml_kinds.proofs.shape.deepest.Given as goal

@@ -1,6 +1,6 @@
 use Rattle.std.proofs.Common.{◌≡◌, ℕ, ◌^◌, ◌<◌, List, get_or, refl, ap, ◌∙◌, subst, arith}
 use Rattle.std.specs.Prelude.{slice_index}
-use Rattle.aml_kinds.specs.Held.{contents}
+use Rattle.aml_contents.specs.Held.{contents}
 use Rattle.aml_regions.specs.BufferFields.{in_bytes}
 use Rattle.aml_regions.specs.Fields.{mixed}
 use Rattle.aml_meaning.specs.BufferFields.{first_bit}

@@ -1,7 +1,7 @@
 use Rattle.std.proofs.Common.{◌≡◌, ℕ, List, Some}
-use Rattle.aml_kinds.specs.Contents.{content_at}
-use Rattle.aml_kinds.specs.Held.{contents, content_kinds}
-use Rattle.aml_kinds.specs.Values.{Buf}
+use Rattle.aml_values.specs.Values.{Buf}
+use Rattle.aml_contents.specs.Contents.{content_at}
+use Rattle.aml_contents.specs.Held.{contents, content_kinds}
 use Rattle.aml_machine.proofs.InPlace.{IsStoredBelow}
 use Rattle.aml_machine.proofs.in_place.put_bits.Given as goal
 

@@ -2,7 +2,7 @@ use Rattle.std.proofs.Common.{◌≡◌, true, false, arith, sym, ◌∙◌}
 use Rattle.std.specs.Prelude.{is_ok}
 use Rattle.aml_meaning.proofs.Owned.{runs_set_own, runs_set_own_spent, runs_set_own_stop}
 use Rattle.aml_plain.proofs.Statements.{never_stored, of_err, of_ok, stored_as_held}
-use Rattle.aml_kinds.specs.Views.{view}
+use Rattle.aml_values.specs.Views.{view}
 use Rattle.aml_machine.specs.Views.{frame_of, names_of}
 use Rattle.aml_plain.specs.Tells.{is_package}
 use Rattle.aml_plain.proofs.contents.set_own.Goals as goal

@@ -1,5 +1,5 @@
 use Rattle.std.proofs.Common.{◌≡◌}
-use Rattle.aml_kinds.specs.Held.{content_kinds}
+use Rattle.aml_contents.specs.Held.{content_kinds}
 use Rattle.aml_plain_tests.proofs.sleeps.changed.Given as goal
 
 -- each name holds a content of the kind that it held

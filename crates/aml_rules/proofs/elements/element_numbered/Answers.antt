@@ -1,6 +1,6 @@
 use Rattle.std.proofs.Common.{subst}
-use Rattle.aml_kinds.specs.Values.{Elements}
-use Rattle.aml_kinds.specs.Views.{view}
+use Rattle.aml_values.specs.Values.{Elements}
+use Rattle.aml_values.specs.Views.{view}
 use Rattle.aml_meaning.specs.Elements as rule
 use Rattle.aml_rules.specs.Tells.{Obeys, place_of}
 use Rattle.aml_rules.proofs.Numbered.{numbered}

@@ -1,6 +1,6 @@
 use Rattle.std.proofs.Common.{arith}
 use Rattle.std.proofs.lemmas.Grind.{common_steps}
-use Rattle.aml_kinds.proofs.Elements.{places-shape_of}
+use Rattle.aml_kinds.proofs.Shapes.{places-shape_of}
 use Rattle.aml_kinds.proofs.shape.Shape.len.Goals as goal
 
 pub returns : goal.returns

@@ -1,0 +1,9 @@
+pub mod BelongLaws
+pub mod BodyData
+pub mod ContentLaws
+pub mod DataKinds
+pub mod DataWalk
+pub mod FirstData
+pub mod FirstNames
+pub mod FirstValues
+pub mod KindsBy

@@ -1,7 +1,0 @@
-use Rattle.std.proofs.Common.{◌≡◌, map, take}
-use Rattle.aml_kinds.specs.Views.{element}
-use Rattle.aml_kinds.proofs.+copy.Given as goal
-
--- the elements so far are copied
-abbrev pub invariant-copies::copied_elements-loop-each : goal.invariant-copies::copied_elements-loop-each
-invariant-copies::copied_elements-loop-each l = map element l.made.items ≡ map element (take l.each-index l.elements)

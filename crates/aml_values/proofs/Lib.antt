@@ -1,0 +1,5 @@
+pub mod Depths
+pub mod Elements
+pub mod Lengths
+pub mod Same
+pub mod SameValues

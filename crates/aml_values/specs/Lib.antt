@@ -1,0 +1,5 @@
+pub mod Falls
+pub mod SameValues
+pub mod StoredValues
+pub mod Values
+pub mod Views
