@@ -1,8 +1,8 @@
 // Values against kinds and kinds against kinds, each row written by hand from the definitions.
 
 use aml_kinds::{
-    ElementKind, Kind, Shape, copy_kind, fits, fits_what_it_lies_within, is_same_kind, is_within,
-    join, join_associates, join_commutes, join_elements, join_stays,
+    ElementKind, Kind, Shape, copy_kind, element_kinds_match, fits, fits_what_it_lies_within,
+    is_same_kind, is_within, join, join_associates, join_commutes, join_elements, join_stays,
 };
 use aml_paths::{NoMemory, ObjectId};
 use aml_values::{Bytes, Element, Package, Value, copy, is_same_value};
@@ -401,18 +401,29 @@ fn places_joined(alloc: Global, letter: char) -> Result<String, Fail> {
     Ok(letters)
 }
 
+/// How a place lies to each: `=` the same; a dot another.
+fn places_matched(alloc: Global, letter: char) -> Result<String, AllocError> {
+    let mut marks = String::new(alloc);
+    for other in "iImnu".chars() {
+        let is_same = element_kinds_match(&place_named(letter), &place_named(other));
+        marks.push(if is_same { '=' } else { '.' })?;
+    }
+    Ok(marks)
+}
+
 #[test]
 fn places_are_joined(rt: HostRuntime) -> Result<(), Fail> {
-    let rows: &[(char, &str)] = &[
-        ('i', "iImnu"),
-        ('I', "IImnu"),
-        ('m', "mmmnu"),
-        ('n', "nnnnu"),
-        ('u', "uuuuu"),
+    let rows: &[(char, &str, &str)] = &[
+        ('i', "=....", "iImnu"),
+        ('I', ".=...", "IImnu"),
+        ('m', "..=..", "mmmnu"),
+        ('n', "...=.", "nnnnu"),
+        ('u', "....=", "uuuuu"),
     ];
-    for (letter, row) in rows {
+    for (letter, same, row) in rows {
         let found = places_joined(rt.alloc(), *letter)?;
         assert_eq!(rt; found.as_str(), *row);
+        assert_eq!(rt; places_matched(rt.alloc(), *letter)?.as_str(), *same);
     }
     Ok(())
 }
