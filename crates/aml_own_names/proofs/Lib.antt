@@ -1,2 +1,3 @@
 pub mod OwnFirsts
 pub mod OwnsRead
+pub mod Standing

@@ -1,10 +1,15 @@
 -- The own names of a method's body (ACPI 6.5, 5.3 and 5.5.2): those that a Name or a CreateField form at its top makes for one call.
-use Rattle.std.specs.Prelude.{◌≡◌, ℕ, List, slice_get, position, nat_le, Option, Some, None, option_and_then, option_map, if◌then◌else◌}
+use Rattle.std.specs.Prelude.{◌≡◌, ℕ, List, slice_get, position, nat_le, Option, Some, None, is_some, option_and_then, option_map, if◌then◌else◌}
 use Rattle.std.specs.BTreeMap.{BTreeMap, get}
 use Rattle.std.specs.List.{filter_map}
+use Rattle.aml_lex.specs.NameStrings.{NameString}
+use Rattle.aml_lex.specs.Names.{lone_segment}
 use Rattle.aml_lex.specs.declared.names.NameSeg.{NameSeg}
+use Rattle.aml_operators.specs.declared.row.Code.TheVariants as code
+use Rattle.aml_operators.specs.declared.row.Spot.TheVariants as spot
 use Rattle.aml_operators.specs.Tree.{Tree, stop_of}
-use Rattle.aml_tree.specs.Body.{made_place, same_segment, segment_at}
+use Rattle.aml_tree.specs.Body.{greatest_depth, made_place, same_segment, segment_at}
+use Rattle.aml_tree.specs.Grammar.{AreTerms, IsTerm}
 use Rattle.aml_tree.specs.Owns.{segment_order}
 use Rattle.aml_own_names.specs.declared.own_names.OwnName.{OwnName}
 
@@ -35,3 +40,11 @@ own_at bytes owns at = option_and_then (own_number owns at) (segment_at bytes (S
 -- a map has the number of the first own name of each segment, and no other number
 abbrev pub HasFirsts : BTreeMap NameSeg ℕ → List OwnName → Type 0
 HasFirsts firsts owns = (segment : NameSeg) → get segment_order firsts segment ≡ first_own owns segment.bytes
+
+-- how many terms a name takes at a place of a body: an own name that stands there none
+abbrev pub with_standing : (NameString → ℕ → ℕ) → List OwnName → NameString → ℕ → ℕ
+with_standing arity owns name at = if is_some (option_and_then (own_number owns at) (lone_segment name)) then 0 else arity name at
+
+-- terms between two places at the top of a body
+abbrev pub StandAtTop : (NameString → ℕ → ℕ) → List ℕ → ℕ → ℕ → List Tree → Type 0
+StandAtTop arity bytes from stop ts = AreTerms arity (IsTerm code.Body arity greatest_depth) from spot.Statement bytes from stop ts

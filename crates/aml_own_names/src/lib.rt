@@ -7,5 +7,5 @@
 mod law;
 mod own_names;
 
-pub use law::own_names_are_the_grammars;
+pub use law::{one_count_serves, own_names_are_the_grammars};
 pub use own_names::{OwnName, OwnNames};
