@@ -12,3 +12,4 @@ pub mod Placed
 pub mod Distinct
 pub mod Settling
 pub mod PrintedObjects
+pub mod LinkCounts

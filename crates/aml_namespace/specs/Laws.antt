@@ -1,9 +1,15 @@
--- Laws of loading, and of own names.
-use Rattle.std.specs.Prelude.{◌≡◌, ◌<◌, ◌≤◌, ℕ, List, ◌++◌, length, slice_get, IfSome}
+-- Laws of loading, and of what names take.
+use Rattle.std.specs.Prelude.{◌≡◌, ◌<◌, ◌≤◌, ℕ, List, ◌++◌, length, slice_get, IfSome, Some}
+use Rattle.aml_lex.specs.NameStrings.{NameString}
+use Rattle.aml_lex.specs.Standing.{name_there}
+use Rattle.aml_own_names.specs.declared.own_names.OwnName.{OwnName}
+use Rattle.aml_own_names.specs.OwnNames.{with_standing}
 use Rattle.aml_namespace.specs.declared.fault.LoadRefusal.{LoadRefusal}
+use Rattle.aml_namespace.specs.declared.link.Link.TheVariants as link
 use Rattle.aml_namespace.specs.Entries.{Entries, paths_in}
 use Rattle.aml_paths.specs.Paths.{AreDistinct}
 use Rattle.aml_namespace.specs.Load.{AllMake, FaultyLoad, IsLoaded, Shown}
+use Rattle.aml_namespace.specs.Names.{counts, link_args, link_with_owns}
 
 -- a fault names one of these tables, and a place within its bytes or at their end
 pub record StandsWithin (tables : List (List ℕ)) (f : LoadRefusal) : Type 0 where
@@ -22,3 +28,9 @@ DefinitionsStay = (tables more : List (List ℕ)) (before after : Entries) → A
 -- of the pairs that a loaded namespace holds, no two have one path: a path has at most one object
 abbrev pub PathsDistinct : Type 0
 PathsDistinct = (tables : List (List ℕ)) (os : List ℕ) (ns : Shown) → IsLoaded tables os ns → AreDistinct (paths_in ns.entries)
+
+-- a name of a body that means something takes as many terms as that tells
+abbrev pub LinksCount : Type 0
+LinksCount = (ns : Shown) (id : ℕ) (bytes : List ℕ) (owns : List OwnName) (at : ℕ) (name : NameString) → name_there bytes at ≡ Some name
+    → (link_with_owns ns.entries id bytes owns at ≡ link.Missing → ⊥)
+    → with_standing (counts ns id) owns name at ≡ link_args ns (link_with_owns ns.entries id bytes owns at)

@@ -96,6 +96,12 @@ own_or (Some i) l = link.Own i
 abbrev pub link_with_owns : Entries → ℕ → List ℕ → List OwnName → ℕ → Link
 link_with_owns entries id bytes owns at = own_or (own_at bytes owns at) (link_at entries id bytes at)
 
+-- how many terms a name takes by what it means: a method's as many as the method has arguments, `_OSI` one
+abbrev pub link_args : Shown → Link → ℕ
+link_args ns (link.Method id) = args_of (object_at ns.entries id.0)
+link_args ns link.OsInterfaces = 1
+link_args ns l = 0
+
 -- the bytes in which a method's body stands, up to its end
 abbrev pub body_bytes : Shown → Method → List ℕ
 body_bytes ns m = take m.body.end (bytes_of ns.tables m.table)

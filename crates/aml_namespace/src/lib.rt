@@ -26,7 +26,7 @@ mod width;
 pub use aml_own_names::{OwnName, OwnNames};
 pub use aml_paths::{NamePlace, NoMemory, ObjectId, Scope};
 pub use fault::{LoadCause, LoadFault, LoadRefusal};
-pub use law::{definitions_stay, faults_stand_within, paths_are_distinct};
+pub use law::{definitions_stay, faults_stand_within, links_count, paths_are_distinct};
 pub use link::Link;
 pub use namespace::{Host, Namespace};
 pub use object::{
