@@ -1,5 +1,5 @@
 -- How far a definition goes, by the letters of its row (ACPI 6.5, 20.2.5): its parts are read no further than their ends, and a package is stepped over.
-use Rattle.std.specs.Prelude.{ℕ, zero, suc, ◌+◌, List, [], ◌∷◌, length, Option, Some, None, Result, Ok, Err, nat_lt, if◌then◌else◌}
+use Rattle.std.specs.Prelude.{◌==◌, slice_get, ℕ, zero, suc, ◌+◌, List, [], ◌∷◌, length, Option, Some, None, Result, Ok, Err, nat_lt, if◌then◌else◌}
 use Rattle.aml_lex.specs.declared.fault.LexFault.{LexFault}
 use Rattle.aml_lex.specs.Reading.{package_end_at, name_string_at, string_data_at}
 use Rattle.aml_lex.specs.Standing.{has_byte}
