@@ -1,8 +1,9 @@
 //! The namespace that tables' definitions make (ACPI 6.5, 5.3).
 //!
 //! Rooms: what definitions make is in `object`, `made`, `fields`, `define`, `enter`, `predefined`, `objects` and
-//! `settle`; what names name in `look_up` and `link`; loading in `load`, `namespace`, `here` and `listed`. `width`
-//! has the width of integers, `fault` the refusals, `law` the laws.
+//! `settle`; what names name in `look_up` and `link`; loading in `load`, `namespace`, `here` and `listed`; how
+//! many terms names take in a body in `inside`. `width` has the width of integers, `fault` the refusals, `law`
+//! the laws.
 #![tactic(auto)]
 
 mod define;
@@ -10,6 +11,7 @@ mod enter;
 mod fault;
 mod fields;
 mod here;
+mod inside;
 mod law;
 mod link;
 mod listed;

@@ -8,10 +8,10 @@ ghost use Rattle.aml_arities.specs.Counted.{TellsAll};
 ghost use Rattle.aml_namespace.specs.Entries.{paths_in};
 ghost use Rattle.aml_namespace.specs.Kept.{entries_seen, owned_kept, path_kept};
 ghost use Rattle.aml_namespace.specs.LookUp.{methods_in, owned_paths};
-ghost use Rattle.aml_namespace.specs.Names.{args_of, link_of, method_in};
-ghost use Rattle.aml_namespace.specs.Shows.{IsTold, shown};
+ghost use Rattle.aml_namespace.specs.Names.{link_of, method_in};
 
 use crate::fault::LoadFault;
+use crate::inside::Inside;
 use crate::link::Link;
 use crate::load::load_tables;
 use crate::object::{Entry, Method, Object};
@@ -22,7 +22,7 @@ use aml_arities::{Answered, Counted, External};
 use aml_lex::{NameRef, NameSeg, name_there};
 use aml_own_names::OwnNames;
 use aml_paths::{NamePlace, NoMemory, ObjectId, Scope};
-use aml_tree::{Arity, Term, TreeFault, read_body};
+use aml_tree::{Term, TreeFault, read_body};
 use std::alloc::{AllocError, Global};
 
 /// What the operating system tells of itself.
@@ -41,7 +41,7 @@ pub struct Namespace<'a> {
     tables: Vec<&'a [u8]>,
     host: Host<'a>,
     width: Width,
-    objects: Objects,
+    pub(crate) objects: Objects,
     /// The methods that the tables declare as others', in the order of the bytes.
     externals: Vec<External>,
     /// How many arguments those take, once `count_externals` has counted them.
@@ -63,7 +63,7 @@ impl<'a> Namespace<'a> {
     ghost use Rattle.aml_own_names.specs.OwnNamesSeen.{owns_seen};
     ghost use Rattle.aml_namespace.specs.PrintedObjects.{printed_object};
     ghost use Rattle.aml_namespace.specs.Settled.{named_at};
-    ghost use Rattle.aml_namespace.specs.Shows.{Loads, bytes_in};
+    ghost use Rattle.aml_namespace.specs.Shows.{IsTold, Loads, bytes_in, shown};
 
     /// Loads a DSDT and any number of SSDTs behind it. Of each table: its header, then its whole module,
     /// then its definitions in the order of the bytes.
@@ -339,51 +339,6 @@ impl<'a> Namespace<'a> {
     }
 }
 
-/// The body of a method, in which names take arguments.
-#[derive(Drop)]
-struct Inside<'a> {
-    namespace: &'a Namespace<'a>,
-    /// What declarations tell of the namespace's paths; None where there is none.
-    answered: &'a Option<Answered>,
-    /// The method's number.
-    method: usize,
-    ghost untold: { ForNone answered.now ((shown namespace.now).externals ≡ []) },
-    ghost told: { ForSome answered.now (IsTold (shown namespace.now)) },
-}
-
-impl Inside<'_> {
-    ghost use Rattle.std.specs.Prelude.{Option};
-    ghost use Rattle.aml_namespace.specs.Names.{told_within};
-
-    /// How many arguments tables declare of the other's method that a name names in the body.
-    fn told(&self, name: &NameRef<'_>) -> Option<u8>
-        ensures { result
-            ≡ told_within (shown self.now.namespace.now) self.now.method (name_of name.now) }
-    {
-        if self.method >= self.namespace.objects.len() {
-            return None;
-        }
-        match self.answered {
-            Some(answered) => answered.count(self.method + 1, name),
-            None => None,
-        }
-    }
-}
-
-impl Arity for Inside<'_> {
-    ghost use Rattle.aml_namespace.specs.Names.{counts};
-
-    ghost counts = { λ inside. counts (shown inside.namespace.now) inside.method };
-
-    fn arity(&self, name: &NameRef<'_>, _at: usize) -> u8 {
-        let scope = Scope::At(ObjectId(self.method));
-        match self.namespace.objects.look_up(scope, name) {
-            Some(number) => args_of(self.namespace.objects.object(number)),
-            None => self.told(name).unwrap_or(0),
-        }
-    }
-}
-
 /// What declarations tell of the paths of a namespace; None where there is none.
 #[tactic(auto, using(crate::proofs::Kept::kept_paths))]
 fn declared_counts(
@@ -402,17 +357,6 @@ fn declared_counts(
     }
     let counted = Counted::of(alloc, &objects.paths, tables, externals)?;
     Ok(Some(Answered::of(alloc, counted)?))
-}
-
-/// How many arguments what is named takes.
-fn args_of(object: Option<Object>) -> u8
-    ensures { result ≡ args_of object }
-{
-    match object {
-        Some(Object::Method(method)) => method.args,
-        Some(Object::OsInterfaces) => 1,
-        _ => 0,
-    }
 }
 
 /// What the name of the object with this number means in a body.
