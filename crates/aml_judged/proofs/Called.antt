@@ -13,7 +13,7 @@ use Rattle.aml_regions.specs.Events.{Event}
 use Rattle.aml_meaning.specs.declared.definition.Definition.{Definition}
 use Rattle.aml_meaning.specs.declared.definition.Definition.TheVariants as makes
 use Rattle.aml_meaning.specs.State as state
-use Rattle.aml_meaning.specs.State.{with_steps, State, Frame, Stop, Error, Returned, Broke, Continued, Out, Halts, NoAnswer, Spent, entered}
+use Rattle.aml_meaning.specs.State.{with_steps, State, Frame, Stop, Error, Returned, Broke, Continued, Out, Halts, NoAnswer, Spent, entered, held_level}
 use Rattle.aml_meaning.specs.Parts.{then_do, tick, paid, M, ◌>>=◌, give, stop_with}
 use Rattle.aml_meaning.specs.Rules.{Place}
 use Rattle.aml_meaning.specs.Calls.{framed, left, inside}
@@ -24,19 +24,22 @@ use Rattle.aml_meaning.specs.declared.mutex.TakenMutex.{TakenMutex}
 use Rattle.aml_meaning.specs.Within.{Callee, Methods, call_within, callee_or, setting_for, most_within}
 use Rattle.aml_meaning.specs.Whole.{evaluated}
 use Rattle.aml_judged.specs.Causes.{Refusal}
-use Rattle.aml_judged.specs.Known.{join_env, Env}
-use Rattle.aml_judged.specs.Judged.{goes, then_judge, NameKinds, no_exits, either, after, Yield, Accepted, Seen, Exits, Judged, Goes, Stops}
-use Rattle.aml_judged.specs.Safe.{IsWord, FitScript, FitsStop, FitAll, FitNames, FitsState, FitsYield, FitsExit, FitsReturn, IsSafe, IsCalled, AreCalls, IsTame, AreTame}
-use Rattle.aml_judged.specs.Bodies.{judged_made, shared_only, grown_kinds, grown, judged_stated, judged_statement, judged_body, entry}
-use Rattle.aml_judged.specs.Laws.{AreSmall, IsDone, VerdictsMean}
+use Rattle.aml_judged.specs.Known.{join_env, Held, These, Different, Env}
+use Rattle.aml_judged.specs.Judge.{judged_none_held, none_held_at}
+use Rattle.aml_judged.specs.Judged.{goes, then_judge, NameKinds, no_exits, either, after, Yield, Accepted, Seen, Around, Exits, Judged, Goes, Stops}
+use Rattle.aml_judged.specs.Safe.{Allows, FitsHeld, OnlyAbove, IsWord, FitScript, FitsStop, FitAll, FitNames, FitsState, FitsYield, FitsExit, FitsReturn, IsSafe, IsCalled, AreCalls, IsTame, AreTame}
+use Rattle.aml_judged.specs.Bodies.{judged_made, shared_only, grown_kinds, grown, judged_stated, judged_statement, judged_body, judged_method, entry, Made, Nothing, Holding, Field}
+use Rattle.aml_judged.specs.Laws.{AreSmall, AreVerdicts, HasNoError, IsCallable, IsDone, VerdictsMean, evaluation}
 use Rattle.aml_judged.specs.Verdicts.{result_of, none_left, most_steps, Verdict, bounded, verdict_of, accepted_of, Judging, is_among, every, is_short, seen_from, around_for, verdict_by, AreAccepted}
 use Rattle.aml_operators.specs.declared.op.Op.{Op}
 use Rattle.aml_judged.proofs.Fits.{slots_fit}
-use Rattle.aml_judged.proofs.Owned.{Made, made_tick, made_safe}
-use Rattle.aml_judged.proofs.Parts.{stop_left, stop_right, stepped}
+use Rattle.aml_judged.proofs.Owned.{IsMade, made_tick, made_safe}
+use Rattle.aml_judged.proofs.Levels.{allows_left, allows_right}
+use Rattle.aml_judged.proofs.Parts.{return_left, return_right, stop_left, stepped}
 use Rattle.aml_judged.proofs.Sound.{mean_safe}
 use Rattle.aml_judged.proofs.FieldsSafe.{around_of}
 use Rattle.aml_judged.proofs.KindRules.{plain}
+use Rattle.aml_meaning.specs.declared.part.BufferPart.{BufferPart}
 
 -- a call leaves the frame alone, and stops by an error or not at all
 left_tame : (table : ℕ) (frame : Frame) (o : Out (Unit {0})) → IsTame frame (left table frame o)
@@ -62,17 +65,22 @@ abbrev There : Option Env → Type 0
 There (Some e) = Unit {0}
 There None = ⊥
 
-module _ (width : ℕ) (shared : ContentKinds) where
+module _ (width : ℕ) (shared : ContentKinds) (above : ℕ) where
   -- how a body ends: of its own names nothing is said any more
   abbrev Ended : ℕ → Judged (Unit {0}) → Out (Unit {0}) → Type 0
   Ended before (Stops r) o = Unit {0}
-  Ended before (Goes u env x n) (state.Goes v s) = (env.counts ≡ true) × (s.frame.held ≡ []) × FitNames width shared s.names × (before ≤ s.steps + n)
-  Ended before (Goes u env x n) (Halts (Error e) s) = ⊥
-  Ended before (Goes u env x n) (Halts (Returned v) s) = FitsReturn width (shared_only shared) x.returned v × FitNames width shared s.names × (before ≤ s.steps + n)
+  Ended before (Goes u env x n) (state.Goes v s) = (env.counts ≡ true) × FitsHeld s.frame.held env.held × FitNames width shared s.names × (before ≤ s.steps + n)
+  Ended before (Goes u env x n) (Halts (Error e) s) = OnlyAbove x.least above e × (before ≤ s.steps + n)
+  Ended before (Goes u env x n) (Halts (Returned v) s) = FitsReturn width x.returned v × FitNames width shared s.names × (before ≤ s.steps + n)
   Ended before (Goes u env x n) (Halts (Broke at) s) = There x.broke × (before ≤ s.steps + n)
   Ended before (Goes u env x n) (Halts (Continued at) s) = There x.continued × (before ≤ s.steps + n)
   Ended before (Goes u env x n) (NoAnswer s) = Unit {0}
   Ended before (Goes u env x n) (Spent s) = before < n
+
+  there_left : (f : Env → Env → Env) (a b : Option Env) → There a → There (either f a b)
+  there_left f (Some a) (Some b) h = tt
+  there_left f (Some a) None h = tt
+  there_left f None b h = absurd h
 
   there_right : (f : Env → Env → Env) (a b : Option Env) → There b → There (either f a b)
   there_right f (Some a) (Some b) h = tt
@@ -82,94 +90,108 @@ module _ (width : ℕ) (shared : ContentKinds) where
   after_ended : (x : Exits) (n from before : ℕ) (j : Judged (Unit {0})) (o : Out (Unit {0})) → before ≤ from + n → Ended from j o → Ended before (after x n j) o
   after_ended x n from before (Stops r) o le h = tt
   after_ended x n from before (Goes u env y m) (state.Goes v s) le h = (h.0, h.1, h.2, omega (arith, le, h.3))
-  after_ended x n from before (Goes u env y m) (Halts (Error e) s) le h = h
-  after_ended x n from before (Goes u env y m) (Halts (Returned v) s) le h = let r = stop_right width (shared_only shared) x y (Returned v) s (h.0, h.1) in (r.0, r.1, omega (arith, le, h.2))
+  after_ended x n from before (Goes u env y m) (Halts (Error e) s) le h = ((h.0.0, λ a. h.0.1 (allows_right x.least y.least above a)), omega (arith, le, h.1))
+  after_ended x n from before (Goes u env y m) (Halts (Returned v) s) le h = (return_right width (shared_only shared) above x.returned y.returned v h.0, h.1, omega (arith, le, h.2))
   after_ended x n from before (Goes u env y m) (Halts (Broke at) s) le h = (there_right join_env x.broke y.broke h.0, omega (arith, le, h.1))
   after_ended x n from before (Goes u env y m) (Halts (Continued at) s) le h = (there_right join_env x.continued y.continued h.0, omega (arith, le, h.1))
   after_ended x n from before (Goes u env y m) (NoAnswer s) le h = tt
   after_ended x n from before (Goes u env y m) (Spent s) le h = omega (arith, le, h)
 
-  there : (owns : ContentKinds) (e : Option Env) (s : State) → FitsExit width (record { shared = shared; owns = owns }) e s → There e
-  there owns (Some e) s h = tt
-  there owns None s h = h
-
-  stop_ended : (owns : ContentKinds) (before n : ℕ) (x : Exits) (j : Judged (Unit {0})) (stop : Stop) (s : State) → FitsStop width (record { shared = shared; owns = owns }) x stop s → before ≤ s.steps + n → Ended before (after x n j) (Halts stop s)
-  stop_ended owns before n x (Stops r) stop s h le = tt
-  stop_ended owns before n x (Goes u env y m) (Error e) s h le = h
-  stop_ended owns before n x (Goes u env y m) (Returned v) s h le = let r = stop_left width (record { shared = shared; owns = owns }) x y (Returned v) s h in (r.0, r.1, omega (arith, le))
-  stop_ended owns before n x (Goes u env y m) (Broke at) s h le = (there owns (either join_env x.broke y.broke) s (stop_left width (record { shared = shared; owns = owns }) x y (Broke at) s h), omega (arith, le))
-  stop_ended owns before n x (Goes u env y m) (Continued at) s h le = (there owns (either join_env x.continued y.continued) s (stop_left width (record { shared = shared; owns = owns }) x y (Continued at) s h), omega (arith, le))
+  -- an end that comes before a further part
+  before_ended : (x : Exits) (n before : ℕ) (env : Env) (j : Judged (Unit {0})) (stop : Stop) (s : State) → Ended before (Goes tt env x n) (Halts stop s) → Ended before (after x n j) (Halts stop s)
+  before_ended x n before env (Stops r) stop s h = tt
+  before_ended x n before env (Goes u last y m) (Error e) s h = ((h.0.0, λ a. h.0.1 (allows_left x.least y.least above a)), omega (arith, h.1))
+  before_ended x n before env (Goes u last y m) (Returned v) s h = (return_left width (shared_only shared) above x.returned y.returned v h.0, h.1, omega (arith, h.2))
+  before_ended x n before env (Goes u last y m) (Broke at) s h = (there_left join_env x.broke y.broke h.0, omega (arith, h.1))
+  before_ended x n before env (Goes u last y m) (Continued at) s h = (there_left join_env x.continued y.continued h.0, omega (arith, h.1))
 
   no_answer_ended : (before : ℕ) (j : Judged (Unit {0})) (s : State) → Ended before j (NoAnswer s)
   no_answer_ended before (Goes u env x n) s = tt
   no_answer_ended before (Stops r) s = tt
 
-  -- the end of a method, where no mutex is held
-  method_ended : (table at : ℕ) (script : List Event) (before : ℕ) (j : Judged (Unit {0})) (o : Out (Unit {0})) → Ended before j o → Ended before j (then_do o (λ u s. (none_held table at).run script s))
-  unfolding none_held
-  method_ended table at script before (Stops r) o h = tt
-  method_ended table at script before (Goes u env x n) (state.Goes v s) h = by s.frame.held h.1
-    where
-      by : (held : List TakenMutex) → held ≡ [] → Ended before (Goes u env x n) (ended_or held table at s)
-      by [] e = h
-      by (m ∷ ms) e = absurd cc
-  method_ended table at script before (Goes u env x n) (Halts stop s) h = h
-  method_ended table at script before (Goes u env x n) (NoAnswer s) h = tt
-  method_ended table at script before (Goes u env x n) (Spent s) h = h
-
   spent_ended : (before n : ℕ) (x : Exits) (j : Judged (Unit {0})) (s : State) → before < n → Ended before (after x n j) (Spent s)
   spent_ended before n x (Goes u env y m) s lt = omega (arith, lt)
   spent_ended before n x (Stops r) s lt = tt
 
-grown_script : (width : ℕ) (kinds : NameKinds) (k : Option Kind) (script : List Event) → FitScript width kinds.shared script → FitScript width (grown_kinds kinds k).shared script
-grown_script width kinds None script f = f
-grown_script width kinds (Some k) script f = f
+  there : (owns : ContentKinds) (fields : List (Option BufferPart)) (e : Option Env) (s : State) → FitsExit width (record { shared = shared; owns = owns; fields = fields }) above e s → There e
+  there owns fields (Some e) s h = tt
+  there owns fields None s h = h
 
-grown_calls : (width : ℕ) (kinds : NameKinds) (callee : ℕ → Seen) (call : Place → ℕ → List Value → M (Option Value)) (k : Option Kind) → AreCalls width kinds callee call → AreCalls width (grown_kinds kinds k) callee call
-grown_calls width kinds callee call None c = c
-grown_calls width kinds callee call (Some k) c = record { each = c.each }
+  -- a stop of a statement, with what is known of own names
+  stop_ended : (owns : ContentKinds) (fields : List (Option BufferPart)) (before n : ℕ) (x : Exits) (env : Env) (stop : Stop) (s : State) → FitsStop width (record { shared = shared; owns = owns; fields = fields }) above x stop s → before ≤ s.steps + n → Ended before (Goes tt env x n) (Halts stop s)
+  stop_ended owns fields before n x env (Error e) s h le = (h, le)
+  stop_ended owns fields before n x env (Returned v) s h le = (h.0, h.1, le)
+  stop_ended owns fields before n x env (Broke at) s h le = (there owns fields x.broke s h, le)
+  stop_ended owns fields before n x env (Continued at) s h le = (there owns fields x.continued s h, le)
 
-module _ (here : Setting) (callee : ℕ → Seen) (small : (o : Op) (ts : Trees) → IsWord here.width (here.literal o ts)) (script : List Event) (tame : AreTame here.call) (narrow : here.width ≤ 64) (wide : 255 < 2 ^ here.width) where
-  plain_made : (kinds : NameKinds) (before : ℕ) (j : Judged Yield) (o : Out (Option Value)) → IsSafe here.width kinds (plain (FitsYield here.width kinds)) before j o → Made here kinds callee small script before (then_judge j (λ y. goes None)) (then_do o (λ v s. state.Goes tt s))
+  -- the end of a method, where no mutex is held
+  method_ended : (around : Around) (table at : ℕ) (script : List Event) (before : ℕ) (j : Judged (Unit {0})) (o : Out (Unit {0})) → Ended before j o → Ended before (then_judge j (λ u. judged_none_held around at)) (then_do o (λ u s. (none_held table at).run script s))
+  unfolding none_held
+  method_ended around table at script before (Stops r) o h = tt
+  method_ended around table at script before (Goes u env x n) (state.Goes v s) h = by env.counts env.held s.frame.held h.0 h.1
+    where
+      by : (c : Bool) (known : Held) (held : List TakenMutex) → c ≡ true → FitsHeld held known → Ended before (after x n (none_held_at around c known at env)) (ended_or held table at s)
+      by true (These []) [] e f = (h.0, h.1, h.2, omega (arith, h.3))
+      by true (These []) (m ∷ ms) e f = absurd cc
+      by true (These (m ∷ ms)) held e f = tt
+      by true Different held e f = tt
+      by false known held e f = absurd cc
+  method_ended around table at script before (Goes u env x n) (Halts stop s) h = before_ended x n before env (judged_none_held around at env) stop s h
+  method_ended around table at script before (Goes u env x n) (NoAnswer s) h = no_answer_ended before (after x n (judged_none_held around at env)) s
+  method_ended around table at script before (Goes u env x n) (Spent s) h = spent_ended before n x (judged_none_held around at env) s h
+
+grown_script : (width : ℕ) (kinds : NameKinds) (k : Made) (script : List Event) → FitScript width kinds.shared script → FitScript width (grown_kinds kinds k).shared script
+grown_script width kinds Nothing script f = f
+grown_script width kinds (Holding k) script f = f
+grown_script width kinds (Field p) script f = f
+
+grown_calls : (width : ℕ) (kinds : NameKinds) (callee : ℕ → Seen) (call : Place → ℕ → List Value → M (Option Value)) (k : Made) → AreCalls width kinds callee call → AreCalls width (grown_kinds kinds k) callee call
+grown_calls width kinds callee call Nothing c = c
+grown_calls width kinds callee call (Holding k) c = record { each = c.each }
+grown_calls width kinds callee call (Field p) c = record { each = c.each }
+
+module _ (here : Setting) (callee : ℕ → Seen) (above : ℕ) (small : (o : Op) (ts : Trees) → IsWord here.width (here.literal o ts)) (script : List Event) (tame : AreTame here.call) (narrow : here.width ≤ 64) (wide : 255 < 2 ^ here.width) where
+  plain_made : (kinds : NameKinds) (before : ℕ) (j : Judged Yield) (o : Out (Option Value)) → IsSafe here.width kinds above (plain (FitsYield here.width)) before j o → IsMade here kinds callee above small script before (then_judge j (λ y. goes Nothing)) (then_do o (λ v s. state.Goes tt s))
   plain_made kinds before (Stops r) o h = tt
   plain_made kinds before (Goes k env x n) (state.Goes v s) h = (h.1, omega (arith, h.2))
-  plain_made kinds before (Goes k env x n) (Halts stop s) h = (stop_left here.width kinds x no_exits stop s h.0, omega (arith, h.1))
+  plain_made kinds before (Goes k env x n) (Halts stop s) h = (stop_left here.width kinds above x no_exits stop s h.0, omega (arith, h.1))
   plain_made kinds before (Goes k env x n) (NoAnswer s) h = tt
   plain_made kinds before (Goes k env x n) (Spent s) h = omega (arith, h)
 
-  stated_made : (kinds : NameKinds) → AreCalls here.width kinds callee here.call → FitScript here.width kinds.shared script → (d : Definition) (t : Tree) (env : Env) (s : State) → FitsState here.width kinds env s → Made here kinds callee small script s.steps (judged_stated (around_of here kinds callee) d t env) ((stated here d t).run script s)
+  stated_made : (kinds : NameKinds) → AreCalls here.width kinds callee here.call → FitScript here.width kinds.shared script → (d : Definition) (t : Tree) (env : Env) (s : State) → FitsState here.width kinds above env s → IsMade here kinds callee above small script s.steps (judged_stated (around_of here kinds callee) d t env) ((stated here d t).run script s)
   unfolding ◌>>=◌ give tick paid
-  stated_made kinds calls slept makes.Nothing t env s fits = plain_made kinds s.steps _ ((mean here t).run script s) (mean_safe here kinds callee script slept calls small tame narrow wide t env s fits)
-  stated_made kinds calls slept d (Node o at stop ts) env s fits = made_tick here kinds callee small script (judged_made (around_of here kinds callee) d at ts env) s.steps s (λ u next. (made here d at ts).run script next) (λ m. made_safe here kinds callee small script d at ts env (with_steps s m) (stepped here.width kinds env s m fits))
+  stated_made kinds calls slept makes.Nothing t env s fits = plain_made kinds s.steps _ ((mean here t).run script s) (mean_safe here kinds callee above script slept calls small tame narrow wide t env s fits)
+  stated_made kinds calls slept d (Node o at stop ts) env s fits = made_tick here kinds callee above small script (judged_made (around_of here kinds callee) d at ts env) s.steps s (λ u next. (made here d at ts).run script next) (λ m. made_safe here kinds callee above small script d at ts env (with_steps s m) (stepped here.width kinds above env s m fits))
 
-  statement_made : (kinds : NameKinds) → AreCalls here.width kinds callee here.call → FitScript here.width kinds.shared script → (t : Tree) (env : Env) (s : State) → FitsState here.width kinds env s → Made here kinds callee small script s.steps (judged_statement (around_of here kinds callee) t env) ((statement here t).run script s)
+  statement_made : (kinds : NameKinds) → AreCalls here.width kinds callee here.call → FitScript here.width kinds.shared script → (t : Tree) (env : Env) (s : State) → FitsState here.width kinds above env s → IsMade here kinds callee above small script s.steps (judged_statement (around_of here kinds callee) t env) ((statement here t).run script s)
   statement_made kinds calls slept (Node o at stop ts) env s fits = stated_made kinds calls slept (definition o) (Node o at stop ts) env s fits
 
-  shared_stays : (kinds : NameKinds) (k : Option Kind) (J : ContentKinds → Type 0) → J (grown_kinds kinds k).shared → J kinds.shared
-  shared_stays kinds None J h = h
-  shared_stays kinds (Some k) J h = h
+  shared_stays : (kinds : NameKinds) (k : Made) (J : ContentKinds → Type 0) → J (grown_kinds kinds k).shared → J kinds.shared
+  shared_stays kinds Nothing J h = h
+  shared_stays kinds (Holding k) J h = h
+  shared_stays kinds (Field p) J h = h
 
-  then_ended : (kinds : NameKinds) (before : ℕ) (j : Judged (Option Kind)) (jf : Option Kind → Env → Judged (Unit {0})) (o : Out (Unit {0})) (f : State → Out (Unit {0})) → Made here kinds callee small script before j o → ((k : Option Kind) (env : Env) (s : State) → FitsState here.width (grown_kinds kinds k) env s → Ended here.width kinds.shared s.steps (jf k env) (f s)) → Ended here.width kinds.shared before (then_judge j jf) (then_do o (λ u s. f s))
+  then_ended : (kinds : NameKinds) (before : ℕ) (j : Judged Made) (jf : Made → Env → Judged (Unit {0})) (o : Out (Unit {0})) (f : State → Out (Unit {0})) → IsMade here kinds callee above small script before j o → ((k : Made) (env : Env) (s : State) → FitsState here.width (grown_kinds kinds k) above env s → Ended here.width kinds.shared above s.steps (jf k env) (f s)) → Ended here.width kinds.shared above before (then_judge j jf) (then_do o (λ u s. f s))
   then_ended kinds before (Stops r) jf o f h next = tt
-  then_ended kinds before (Goes k env x n) jf (state.Goes v s) f h next = after_ended here.width kinds.shared x n s.steps before (jf k env) (f s) h.1 (next k env s h.0)
-  then_ended kinds before (Goes k env x n) jf (Halts stop s) f h next = stop_ended here.width kinds.shared kinds.owns before n x (jf k env) stop s h.0 h.1
-  then_ended kinds before (Goes k env x n) jf (NoAnswer s) f h next = no_answer_ended here.width kinds.shared before (after x n (jf k env)) s
-  then_ended kinds before (Goes k env x n) jf (Spent s) f h next = spent_ended here.width kinds.shared before n x (jf k env) s h
+  then_ended kinds before (Goes k env x n) jf (state.Goes v s) f h next = after_ended here.width kinds.shared above x n s.steps before (jf k env) (f s) h.1 (next k env s h.0)
+  then_ended kinds before (Goes k env x n) jf (Halts stop s) f h next = before_ended here.width kinds.shared above x n before env (jf k env) stop s (stop_ended here.width kinds.shared above kinds.owns kinds.fields before n x env stop s h.0 h.1)
+  then_ended kinds before (Goes k env x n) jf (NoAnswer s) f h next = no_answer_ended here.width kinds.shared above before (after x n (jf k env)) s
+  then_ended kinds before (Goes k env x n) jf (Spent s) f h next = spent_ended here.width kinds.shared above before n x (jf k env) s h
 
-  body_ended : (ts : Trees) (kinds : NameKinds) → AreCalls here.width kinds callee here.call → FitScript here.width kinds.shared script → (env : Env) (s : State) → FitsState here.width kinds env s → Ended here.width kinds.shared s.steps (judged_body (around_of here kinds callee) ts env) ((mean_body here ts).run script s)
+  body_ended : (ts : Trees) (kinds : NameKinds) → AreCalls here.width kinds callee here.call → FitScript here.width kinds.shared script → (env : Env) (s : State) → FitsState here.width kinds above env s → Ended here.width kinds.shared above s.steps (judged_body (around_of here kinds callee) ts env) ((mean_body here ts).run script s)
   unfolding ◌>>=◌ give
-  body_ended none kinds calls slept env s fits = (fits.reached, fits.unheld, fits.shared, omega arith)
+  body_ended none kinds calls slept env s fits = (fits.reached, fits.holds, fits.shared, omega arith)
   body_ended (more t ts) kinds calls slept env s fits =
       then_ended kinds s.steps _ (λ k. judged_body (grown (around_of here kinds callee) k) ts) ((statement here t).run script s) (λ next. (mean_body here ts).run script next) (statement_made kinds calls slept t env s fits) (λ k e next f.
-      shared_stays kinds k (λ sh. Ended here.width sh next.steps (judged_body (grown (around_of here kinds callee) k) ts e) ((mean_body here ts).run script next)) (body_ended ts (grown_kinds kinds k) (grown_calls here.width kinds callee here.call k calls) (grown_script here.width kinds k script slept) e next f))
+      shared_stays kinds k (λ sh. Ended here.width sh above next.steps (judged_body (grown (around_of here kinds callee) k) ts e) ((mean_body here ts).run script next)) (body_ended ts (grown_kinds kinds k) (grown_calls here.width kinds callee here.call k calls) (grown_script here.width kinds k script slept) e next f))
 
 module _ (width : ℕ) (kinds : ContentKinds) where
-  end_yields : (c : Bool) (o : Option Kind) → c ≡ true → FitsYield width (shared_only kinds) None (result_of c o)
+  end_yields : (c : Bool) (o : Option Kind) → c ≡ true → FitsYield width None (result_of c o)
   end_yields c None e = tt
   end_yields true (Some k) e = tt
   end_yields false (Some k) e = absurd cc
 
-  return_yields : (c : Bool) (o : Option Kind) (v : Value) → FitsReturn width (shared_only kinds) o v → FitsYield width (shared_only kinds) (Some v) (result_of c o)
+  return_yields : (c : Bool) (o : Option Kind) (v : Value) → FitsReturn width o v → FitsYield width (Some v) (result_of c o)
   return_yields c None v h = absurd h
   return_yields true (Some k) v h = h
   return_yields false (Some k) v h = h
@@ -184,24 +206,24 @@ module _ (width : ℕ) (kinds : ContentKinds) where
   none_continued (Some b) (Some c) e h = cc
 
   -- how a body's end becomes a call's
-  left_called : (table : ℕ) (frame : Frame) (env : Env) (x : Exits) (n before : ℕ) (o : Out (Unit {0})) → none_left x.broke x.continued ≡ true → Ended width kinds before (Goes tt env x n) o → IsCalled width (shared_only kinds) (result_of env.counts x.returned) n frame before (left table frame o)
-  left_called table frame env x n before (state.Goes v s) e h = (end_yields env.counts x.returned h.0, refl, h.2, h.3)
-  left_called table frame env x n before (Halts (Returned v) s) e h = (return_yields env.counts x.returned v h.0, refl, h.1, h.2)
-  left_called table frame env x n before (Halts (Broke at) s) e h = absurd (none_broke x.broke x.continued e h.0)
-  left_called table frame env x n before (Halts (Continued at) s) e h = absurd (none_continued x.broke x.continued e h.0)
-  left_called table frame env x n before (Halts (Error r) s) e h = absurd h
-  left_called table frame env x n before (NoAnswer s) e h = tt
-  left_called table frame env x n before (Spent s) e h = h
+  left_called : (table : ℕ) (frame : Frame) (args : List Kind) (env : Env) (x : Exits) (n before : ℕ) (o : Out (Unit {0})) → none_left x.broke x.continued ≡ true → Ended width kinds (held_level frame) before (Goes tt env x n) o → IsCalled width (shared_only kinds) (record { args = args; result = result_of env.counts x.returned; bound = n; least = x.least }) frame before (left table frame o)
+  left_called table frame args env x n before (state.Goes v s) e h = (end_yields env.counts x.returned h.0, refl, h.2, h.3)
+  left_called table frame args env x n before (Halts (Returned v) s) e h = (return_yields env.counts x.returned v h.0, refl, h.1, h.2)
+  left_called table frame args env x n before (Halts (Broke at) s) e h = absurd (none_broke x.broke x.continued e h.0)
+  left_called table frame args env x n before (Halts (Continued at) s) e h = absurd (none_continued x.broke x.continued e h.0)
+  left_called table frame args env x n before (Halts (Error r) s) e h = h
+  left_called table frame args env x n before (NoAnswer s) e h = tt
+  left_called table frame args env x n before (Spent s) e h = h
 
-  bounded_called : (b : Bool) (late : Refusal) (a m : Accepted) (frame : Frame) (before : ℕ) (o : Out (Option Value)) → bounded b late a ≡ Ok m → (b ≡ true → IsCalled width (shared_only kinds) a.result a.bound frame before o) → IsCalled width (shared_only kinds) m.result m.bound frame before o
-  bounded_called true late a m frame before o e h = let same : a ≡ m = cc in subst (λ r. IsCalled width (shared_only kinds) r.result r.bound frame before o) same (h refl)
+  bounded_called : (b : Bool) (late : Refusal) (a m : Accepted) (frame : Frame) (before : ℕ) (o : Out (Option Value)) → bounded b late a ≡ Ok m → (b ≡ true → IsCalled width (shared_only kinds) a frame before o) → IsCalled width (shared_only kinds) m frame before o
+  bounded_called true late a m frame before o e h = let same : a ≡ m = cc in subst (λ r. IsCalled width (shared_only kinds) r frame before o) same (h refl)
   bounded_called false late a m frame before o e h = absurd cc
 
-  verdict_called : (short : Bool) (late : Refusal) (args : List Kind) (j : Judged (Unit {0})) (a : Accepted) (table : ℕ) (frame : Frame) (before : ℕ) (o : Out (Unit {0})) → verdict_of short late args j ≡ Ok a → Ended width kinds before j o → IsCalled width (shared_only kinds) a.result a.bound frame before (left table frame o)
+  verdict_called : (short : Bool) (late : Refusal) (args : List Kind) (j : Judged (Unit {0})) (a : Accepted) (table : ℕ) (frame : Frame) (before : ℕ) (o : Out (Unit {0})) → verdict_of short late args j ≡ Ok a → Ended width kinds (held_level frame) before j o → IsCalled width (shared_only kinds) a frame before (left table frame o)
   verdict_called short late args (Stops r) a table frame before o e h = absurd cc
   verdict_called short late args (Goes u env x n) a table frame before o e h =
-      bounded_called (short && (none_left x.broke x.continued && nat_lt n most_steps)) late (record { args = args; result = result_of env.counts x.returned; bound = n }) a frame before (left table frame o) e
-      (λ t. left_called table frame env x n before o (and_parts (none_left x.broke x.continued) (nat_lt n most_steps) (and_parts short (none_left x.broke x.continued && nat_lt n most_steps) t).1).0 h)
+      bounded_called (short && (none_left x.broke x.continued && nat_lt n most_steps)) late (record { args = args; result = result_of env.counts x.returned; bound = n; least = x.least }) a frame before (left table frame o) e
+      (λ t. left_called table frame args env x n before o (and_parts (none_left x.broke x.continued) (nat_lt n most_steps) (and_parts short (none_left x.broke x.continued && nat_lt n most_steps) t).1).0 h)
 
   -- an accepted method takes the kinds that its signature says, and is short
   bounded_says : (b : Bool) (late : Refusal) (a m : Accepted) → bounded b late a ≡ Ok m → (b ≡ true) × (a.args ≡ m.args)
@@ -211,7 +233,7 @@ module _ (width : ℕ) (kinds : ContentKinds) where
   verdict_says : (short : Bool) (late : Refusal) (args : List Kind) (j : Judged (Unit {0})) (a : Accepted) → verdict_of short late args j ≡ Ok a → (short ≡ true) × (args ≡ a.args)
   verdict_says short late args (Stops r) a e = absurd cc
   verdict_says short late args (Goes u env x n) a e =
-      let two = bounded_says (short && (none_left x.broke x.continued && nat_lt n most_steps)) late (record { args = args; result = result_of env.counts x.returned; bound = n }) a e in
+      let two = bounded_says (short && (none_left x.broke x.continued && nat_lt n most_steps)) late (record { args = args; result = result_of env.counts x.returned; bound = n; least = x.least }) a e in
       ((and_parts short (none_left x.broke x.continued && nat_lt n most_steps) two.0).0, two.1)
 
 pub among_every : (holds : ℕ → Bool) (j : ℕ) (ks : List ℕ) → is_among j ks ≡ true → every holds ks ≡ true → holds j ≡ true
@@ -232,7 +254,7 @@ if_among false o x e = absurd cc
 
 module _ (all : Judging) (narrow : all.methods.width ≤ 64) (wide : 255 < 2 ^ all.methods.width) (known : ℕ → Option Accepted) (are : AreAccepted all known) (small : AreSmall all) where
   abbrev Calls : ℕ → (Place → ℕ → List Value → M (Option Value)) → Type 0
-  Calls d call = (p : Place) (k : ℕ) (a : Accepted) (vs : List Value) (script : List Event) (s : State) → is_short all d k ≡ true → known k ≡ Some a → FitAll all.methods.width vs a.args → FitNames all.methods.width all.kinds s.names → FitScript all.methods.width all.kinds script → IsCalled all.methods.width (shared_only all.kinds) a.result a.bound s.frame s.steps ((call p k vs).run script s)
+  Calls d call = (p : Place) (k : ℕ) (a : Accepted) (vs : List Value) (script : List Event) (s : State) → is_short all d k ≡ true → known k ≡ Some a → FitAll all.methods.width vs a.args → FitNames all.methods.width all.kinds s.names → FitScript all.methods.width all.kinds script → IsCalled all.methods.width (shared_only all.kinds) a s.frame s.steps ((call p k vs).run script s)
 
   -- what a short method sees of its callees is what their calls give
   seen_calls : (d k : ℕ) (call : Place → ℕ → List Value → M (Option Value)) → is_short all (suc d) k ≡ true → Calls d call → AreCalls all.methods.width (shared_only all.kinds) (seen_from all known k) call
@@ -244,17 +266,17 @@ module _ (all : Judging) (narrow : all.methods.width ≤ 64) (wide : 255 < 2 ^ a
   }
 
   -- a method in a frame of its own, by what it was judged to be
-  entered_called : (d k : ℕ) (m : Callee) (a : Accepted) (vs : List Value) (script : List Event) (s : State) → Calls d (call_within all.methods d) → is_short all (suc d) k ≡ true → all.methods.callee k ≡ Some m → accepted_of (verdict_by all known k (Some m)) ≡ Some a → FitAll all.methods.width vs a.args → FitNames all.methods.width all.kinds s.names → FitScript all.methods.width all.kinds script → IsCalled all.methods.width (shared_only all.kinds) a.result a.bound s.frame s.steps ((framed m.table vs (mean_method (setting_for all.methods (call_within all.methods d) m) m.body)).run script s)
+  entered_called : (d k : ℕ) (m : Callee) (a : Accepted) (vs : List Value) (script : List Event) (s : State) → Calls d (call_within all.methods d) → is_short all (suc d) k ≡ true → all.methods.callee k ≡ Some m → accepted_of (verdict_by all known k (Some m)) ≡ Some a → FitAll all.methods.width vs a.args → FitNames all.methods.width all.kinds s.names → FitScript all.methods.width all.kinds script → IsCalled all.methods.width (shared_only all.kinds) a s.frame s.steps ((framed m.table vs (mean_method (setting_for all.methods (call_within all.methods d) m) m.body)).run script s)
   unfolding framed ◌>>=◌
   entered_called d k m a vs script s calls short is e fit shared slept =
       let ok = ok_verdict _ a e in
-      let says = verdict_says all.methods.width all.kinds _ _ (all.args k) (judged_body (around_for all known k m) m.body (entry (all.args k))) a ok in
-      verdict_called all.methods.width all.kinds _ _ (all.args k) (judged_body (around_for all known k m) m.body (entry (all.args k))) a m.table s.frame s.steps _ ok
-      (method_ended all.methods.width all.kinds m.table m.opcode script s.steps _ _ (body_ended (setting_for all.methods (call_within all.methods d) m) (seen_from all known k) (small k m is) script (calls_tame all.methods d) narrow wide m.body (shared_only all.kinds)
+      let says = verdict_says all.methods.width all.kinds _ _ (all.args k) (judged_method (around_for all known k m) m.opcode m.body (entry (all.args k))) a ok in
+      verdict_called all.methods.width all.kinds _ _ (all.args k) (judged_method (around_for all known k m) m.opcode m.body (entry (all.args k))) a m.table s.frame s.steps _ ok
+      (method_ended all.methods.width all.kinds (held_level s.frame) (around_for all known k m) m.table m.opcode script s.steps _ _ (body_ended (setting_for all.methods (call_within all.methods d) m) (seen_from all known k) (held_level s.frame) (small k m is) script (calls_tame all.methods d) narrow wide m.body (shared_only all.kinds)
       (seen_calls d k (call_within all.methods d) short calls) slept (entry (all.args k)) (inside vs s)
-      (record { reached = refl; own = slots_fit all.methods.width 8 [] [] tt; given = slots_fit all.methods.width 7 vs (all.args k) (subst (FitAll all.methods.width vs) (sym says.1) fit); shared = shared; owned = record { kinds_stay = refl; fitting = refl; words = λ i u e. absurd cc }; fieldless = λ i. refl; unheld = refl })))
+      (record { reached = refl; own = slots_fit all.methods.width 8 [] [] tt; given = slots_fit all.methods.width 7 vs (all.args k) (subst (FitAll all.methods.width vs) (sym says.1) fit); shared = shared; owned = record { kinds_stay = refl; fitting = refl; words = λ i u e. absurd cc }; fields = refl; holds = refl; callers = refl })))
 
-  or_called : (d : ℕ) (p : Place) (k : ℕ) (o : Option Callee) (a : Accepted) (vs : List Value) (script : List Event) (s : State) → Calls d (call_within all.methods d) → is_short all (suc d) k ≡ true → all.methods.callee k ≡ o → accepted_of (verdict_by all known k o) ≡ Some a → FitAll all.methods.width vs a.args → FitNames all.methods.width all.kinds s.names → FitScript all.methods.width all.kinds script → IsCalled all.methods.width (shared_only all.kinds) a.result a.bound s.frame s.steps ((callee_or p o (λ m. framed m.table vs (mean_method (setting_for all.methods (call_within all.methods d) m) m.body))).run script s)
+  or_called : (d : ℕ) (p : Place) (k : ℕ) (o : Option Callee) (a : Accepted) (vs : List Value) (script : List Event) (s : State) → Calls d (call_within all.methods d) → is_short all (suc d) k ≡ true → all.methods.callee k ≡ o → accepted_of (verdict_by all known k o) ≡ Some a → FitAll all.methods.width vs a.args → FitNames all.methods.width all.kinds s.names → FitScript all.methods.width all.kinds script → IsCalled all.methods.width (shared_only all.kinds) a s.frame s.steps ((callee_or p o (λ m. framed m.table vs (mean_method (setting_for all.methods (call_within all.methods d) m) m.body))).run script s)
   or_called d p k None a vs script s calls short is e fit shared slept = absurd cc
   or_called d p k (Some m) a vs script s calls short is e fit shared slept = entered_called d k m a vs script s calls short is e fit shared slept
 
@@ -266,9 +288,9 @@ module _ (all : Judging) (narrow : all.methods.width ≤ 64) (wide : 255 < 2 ^ a
 
   short_of : (k : ℕ) (o : Option Callee) (a : Accepted) → accepted_of (verdict_by all known k o) ≡ Some a → is_short all 64 k ≡ true
   short_of k None a e = absurd cc
-  short_of k (Some m) a e = (verdict_says all.methods.width all.kinds _ _ (all.args k) (judged_body (around_for all known k m) m.body (entry (all.args k))) a (ok_verdict _ a e)).0
+  short_of k (Some m) a e = (verdict_says all.methods.width all.kinds _ _ (all.args k) (judged_method (around_for all known k m) m.opcode m.body (entry (all.args k))) a (ok_verdict _ a e)).0
 
-  accepted_called : (k : ℕ) (a : Accepted) (m : Callee) → known k ≡ Some a → all.methods.callee k ≡ Some m → (vs : List Value) → FitAll all.methods.width vs a.args → (script : List Event) (s : State) → FitNames all.methods.width all.kinds s.names → FitScript all.methods.width all.kinds script → IsCalled all.methods.width (shared_only all.kinds) a.result a.bound s.frame s.steps (evaluated (setting_for all.methods (call_within all.methods most_within) m) m.body vs script s)
+  accepted_called : (k : ℕ) (a : Accepted) (m : Callee) → known k ≡ Some a → all.methods.callee k ≡ Some m → (vs : List Value) → FitAll all.methods.width vs a.args → (script : List Event) (s : State) → FitNames all.methods.width all.kinds s.names → FitScript all.methods.width all.kinds script → IsCalled all.methods.width (shared_only all.kinds) a s.frame s.steps (evaluated (setting_for all.methods (call_within all.methods most_within) m) m.body vs script s)
   accepted_called k a m e is vs fit script s shared slept =
       let given : accepted_of (verdict_by all known k (all.methods.callee k)) ≡ Some a = sym (are.each k) ∙ e in
       entered_called 63 k m a vs script s (calls_within 63) (short_of k (all.methods.callee k) a given) is (subst (λ o. accepted_of (verdict_by all known k o) ≡ Some a) is given) fit shared slept
@@ -281,14 +303,31 @@ widths_wide : (w : Width) → 255 < 2 ^ bits_of w
 widths_wide width_of.Bits32 = omega arith
 widths_wide width_of.Bits64 = omega arith
 
-called_done : (width : ℕ) (kinds : ContentKinds) (y : Yield) (n : ℕ) (frame : Frame) (before : ℕ) (o : Out (Option Value)) → n ≤ before → IsCalled width (shared_only kinds) y n frame before o → IsDone width kinds y o
-called_done width kinds y n frame before (state.Goes v s) le h = (h.0, h.2)
-called_done width kinds y n frame before (Halts stop s) le h = h
-called_done width kinds y n frame before (NoAnswer s) le h = tt
-called_done width kinds y n frame before (Spent s) le h = omega (arith, le, h)
+called_no_error : (width : ℕ) (kinds : ContentKinds) (a : Accepted) (frame : Frame) (before : ℕ) (o : Out (Option Value)) → Allows a.least (held_level frame) → IsCalled width (shared_only kinds) a frame before o → HasNoError o
+called_no_error width kinds a frame before (state.Goes v s) low h = tt
+called_no_error width kinds a frame before (Halts (Error e) s) low h = h.0.1 low
+called_no_error width kinds a frame before (Halts (Returned v) s) low h = h
+called_no_error width kinds a frame before (Halts (Broke at) s) low h = h
+called_no_error width kinds a frame before (Halts (Continued at) s) low h = h
+called_no_error width kinds a frame before (NoAnswer s) low h = tt
+called_no_error width kinds a frame before (Spent s) low h = tt
+
+called_done : (all : Judging) (a : Accepted) (frame : Frame) (before : ℕ) (o : Out (Option Value)) → Allows a.least (held_level frame) → a.bound ≤ before → IsCalled all.methods.width (shared_only all.kinds) a frame before o → IsDone all a o
+called_done all a frame before (state.Goes v s) low le h = (h.0, h.2)
+called_done all a frame before (Halts (Error e) s) low le h = h.0.1 low
+called_done all a frame before (Halts (Returned v) s) low le h = h
+called_done all a frame before (Halts (Broke at) s) low le h = h
+called_done all a frame before (Halts (Continued at) s) low le h = h
+called_done all a frame before (NoAnswer s) low le h = tt
+called_done all a frame before (Spent s) low le h = omega (arith, le, h)
+
+callable : (all : Judging) (known : ℕ → Option Accepted) → AreVerdicts all known → (k : ℕ) (a : Accepted) (m : Callee) (values : List Value) (script : List Event) (s : State) → IsCallable all known k a m values script s → IsCalled all.methods.width (shared_only all.kinds) a s.frame s.steps (evaluation all m values script s)
+callable all known are k a m values script s call =
+    accepted_called all (subst (λ n. n ≤ 64) (sym are.bits) (widths_narrow are.width)) (subst (λ n. 255 < 2 ^ n) (sym are.bits) (widths_wide are.width)) known are.accepted are.small k a m call.accepted call.there values call.arguments script s call.names call.answers
 
 pub verdicts_mean : VerdictsMean
 verdicts_mean = record {
-  no_error = λ all small w e known are k a m acc is vs fit script s shared slept. accepted_called all (subst (λ n. n ≤ 64) (sym e) (widths_narrow w)) (subst (λ n. 255 < 2 ^ n) (sym e) (widths_wide w)) known are small k a m acc is vs fit script s shared slept;
-  done = λ all small w e known are k a m acc is vs fit script s shared slept le. called_done _ _ a.result a.bound s.frame s.steps _ le (accepted_called all (subst (λ n. n ≤ 64) (sym e) (widths_narrow w)) (subst (λ n. 255 < 2 ^ n) (sym e) (widths_wide w)) known are small k a m acc is vs fit script s shared slept);
+  bounds = callable;
+  no_error = λ all known are k a m values script s call low. called_no_error all.methods.width all.kinds a s.frame s.steps (evaluation all m values script s) low (callable all known are k a m values script s call);
+  done = λ all known are k a m values script s call low le. called_done all a s.frame s.steps (evaluation all m values script s) low le (callable all known are k a m values script s call);
 }

@@ -15,7 +15,7 @@ use Rattle.aml_meaning.specs.Rules.{Place}
 use Rattle.aml_judged.specs.Causes as cause
 use Rattle.aml_judged.specs.Judged.{Always, Never, refuses}
 use Rattle.aml_judged.specs.KindRules.{source_kind, given_kind, field_kind, applied, transformed_kind, divided_kind, compared_kind, converted_kind, concatenated_kind, size_kind, interface_kind, led_kind, may_replace}
-use Rattle.aml_judged.specs.Bodies.{judged_body, entry}
+use Rattle.aml_judged.specs.Bodies.{judged_method, entry}
 use Rattle.aml_judged.specs.Verdicts.{verdict_of, Verdict}
 use Rattle.aml_judged.proofs.Examples.{verdict_owning, defined, here, known_here, late, one, two, three, leaf, byte, nothing, verdict, refused, returned_int}
 
@@ -232,22 +232,22 @@ divides : verdict [] (two (Node op.Divide 43 49 (more (byte 100 44) (three (byte
 divides = refl
 
 -- of an argument as of a local: below 4 in the block
-narrowed_argument : verdict (IntUpTo 100 ∷ []) (two (Node op.If 43 60 (two (Node op.LLess 44 48 (two (leaf op.Arg0 45) (byte 4 46))) (Node op.Return 49 51 (one (leaf op.Arg0 50))))) (Node op.Return 54 56 (one (leaf op.One 55)))) ≡ Ok (record { args = IntUpTo 100 ∷ []; result = Always (IntUpTo 3); bound = 8 })
+narrowed_argument : verdict (IntUpTo 100 ∷ []) (two (Node op.If 43 60 (two (Node op.LLess 44 48 (two (leaf op.Arg0 45) (byte 4 46))) (Node op.Return 49 51 (one (leaf op.Arg0 50))))) (Node op.Return 54 56 (one (leaf op.One 55)))) ≡ Ok (record { args = IntUpTo 100 ∷ []; result = Always (IntUpTo 3); bound = 8; least = None })
 narrowed_argument = refl
 
 -- a field that cannot be read and written is told at its use, at its name
 abbrev field_there : ℕ → Link
 field_there at = link.Field (record { 0 = 0 })
 
-region_refused : verdict_of true late [] (judged_body (here field_there known_here) (one (Node op.Return 43 45 (one (leaf op.NameString 44)))) (entry [])) ≡ refused 44 cause.Region
+region_refused : verdict_of true late [] (judged_method (here field_there known_here) 36 (one (Node op.Return 43 45 (one (leaf op.NameString 44)))) (entry [])) ≡ refused 44 cause.Region
 region_refused = refl
 
 -- it is told before the kind of what is stored
-region_stored : verdict_of true late [] (judged_body (here field_there known_here) (one (Node op.Store 43 48 (two (leaf op.String 44) (leaf op.NameString 46)))) (entry [])) ≡ refused 46 cause.Region
+region_stored : verdict_of true late [] (judged_method (here field_there known_here) 36 (one (Node op.Store 43 48 (two (leaf op.String 44) (leaf op.NameString 46)))) (entry [])) ≡ refused 46 cause.Region
 region_stored = refl
 
 -- and nothing of SizeOf, which it is the wrong kind for
-region_sized : verdict_of true late [] (judged_body (here field_there known_here) (one (Node op.Return 43 48 (one (Node op.SizeOf 44 48 (one (leaf op.NameString 46)))))) (entry [])) ≡ refused 46 cause.WrongKind
+region_sized : verdict_of true late [] (judged_method (here field_there known_here) 36 (one (Node op.Return 43 48 (one (Node op.SizeOf 44 48 (one (leaf op.NameString 46)))))) (entry [])) ≡ refused 46 cause.WrongKind
 region_sized = refl
 
 -- a written Index of an own buffer of two bytes costs 1 + its index

@@ -11,7 +11,7 @@ use Rattle.aml_kinds.specs.Kinds.{Kind, IntUpTo}
 use Rattle.aml_judged.specs.Causes as cause
 use Rattle.aml_judged.specs.Causes.{Cause, Refusal}
 use Rattle.aml_judged.specs.Judged.{Yield, Always, Sometimes, Never, Accepted, Seen, Around}
-use Rattle.aml_judged.specs.Bodies.{shared_only, judged_body, entry}
+use Rattle.aml_judged.specs.Bodies.{shared_only, judged_method, entry}
 use Rattle.aml_judged.specs.Verdicts.{verdict_of, Verdict}
 
 abbrev pub one : Tree → Trees
@@ -45,19 +45,19 @@ abbrev pub late : Refusal
 late = record { table = 0; at = 36; why = cause.BoundTooLarge }
 
 abbrev pub verdict : List Kind → Trees → Verdict
-verdict args body = verdict_of true late args (judged_body (here no_link known_here) body (entry args))
+verdict args body = verdict_of true late args (judged_method (here no_link known_here) 36 body (entry args))
 
 abbrev pub refused : ℕ → Cause → Verdict
 refused at why = Err (record { table = 0; at = at; why = why })
 
 abbrev pub returned_int : ℕ → Yield → Verdict
-returned_int n y = Ok (record { args = []; result = y; bound = n })
+returned_int n y = Ok (record { args = []; result = y; bound = n; least = None })
 
 -- Return (Add (Arg0, One))
 abbrev plus_one : Trees
 plus_one = one (Node op.Return 43 48 (one (Node op.Add 44 48 (three (leaf op.Arg0 45) (leaf op.One 46) (nothing 47)))))
 
-one_more : verdict (IntUpTo (2 ^ 64 - 1) ∷ []) plus_one ≡ Ok (record { args = IntUpTo (2 ^ 64 - 1) ∷ []; result = Always (IntUpTo (2 ^ 64 - 1)); bound = 4 })
+one_more : verdict (IntUpTo (2 ^ 64 - 1) ∷ []) plus_one ≡ Ok (record { args = IntUpTo (2 ^ 64 - 1) ∷ []; result = Always (IntUpTo (2 ^ 64 - 1)); bound = 4; least = None })
 one_more = refl
 
 abbrev stored_arg : Tree
@@ -81,7 +81,7 @@ continue_before : verdict (IntUpTo 1 ∷ []) (two stored_zero (Node op.While 46 
 continue_before = refl
 
 -- behind the step it may stand
-continue_behind : verdict (IntUpTo 1 ∷ []) (two stored_zero (Node op.While 46 58 (three (Node op.LLess 48 52 (two (leaf op.Local0 49) (byte 4 50))) (Node op.Increment 56 58 (one (leaf op.Local0 57))) (Node op.If 52 56 (two (leaf op.Arg0 54) (leaf op.Continue 55)))))) ≡ Ok (record { args = IntUpTo 1 ∷ []; result = Never; bound = 3 + 1 + 5 * 3 + 4 * (3 + 3) })
+continue_behind : verdict (IntUpTo 1 ∷ []) (two stored_zero (Node op.While 46 58 (three (Node op.LLess 48 52 (two (leaf op.Local0 49) (byte 4 50))) (Node op.Increment 56 58 (one (leaf op.Local0 57))) (Node op.If 52 56 (two (leaf op.Arg0 54) (leaf op.Continue 55)))))) ≡ Ok (record { args = IntUpTo 1 ∷ []; result = Never; bound = 3 + 1 + 5 * 3 + 4 * (3 + 3); least = None })
 continue_behind = refl
 
 -- While (One) {Noop Break}
@@ -92,7 +92,7 @@ loop_of_no_shape : verdict [] (one (Node op.While 43 48 (two (leaf op.One 45) (l
 loop_of_no_shape = refl
 
 -- the bound takes the greater of an If's blocks, whichever that is
-greater_else : verdict (IntUpTo 1 ∷ []) (one (Node op.If 43 60 (three (leaf op.Arg0 45) (leaf op.Noop 46) (Node op.Else 47 60 (three (leaf op.Noop 49) (leaf op.Noop 50) (leaf op.Noop 51)))))) ≡ Ok (record { args = IntUpTo 1 ∷ []; result = Never; bound = 5 })
+greater_else : verdict (IntUpTo 1 ∷ []) (one (Node op.If 43 60 (three (leaf op.Arg0 45) (leaf op.Noop 46) (Node op.Else 47 60 (three (leaf op.Noop 49) (leaf op.Noop 50) (leaf op.Noop 51)))))) ≡ Ok (record { args = IntUpTo 1 ∷ []; result = Never; bound = 5; least = None })
 greater_else = refl
 
 -- a loop that falls from a local's greatest: 7 - 2 turns
@@ -128,10 +128,10 @@ to_method at = link.Method (record { 0 = 1 })
 
 -- Return (M (x)), by what is seen of M, which takes an integer up to 3
 abbrev calling : Op → (ℕ → Seen) → Verdict
-calling argument callee = verdict_of true late [] (judged_body (here to_method callee) (one (Node op.Return 43 50 (one (Node op.Invocation 44 50 (two (leaf op.NameString 44) (leaf argument 48)))))) (entry []))
+calling argument callee = verdict_of true late [] (judged_method (here to_method callee) 36 (one (Node op.Return 43 50 (one (Node op.Invocation 44 50 (two (leaf op.NameString 44) (leaf argument 48)))))) (entry []))
 
 abbrev accepted : Yield → Option Accepted
-accepted y = Some (record { args = IntUpTo 3 ∷ []; result = y; bound = 10 })
+accepted y = Some (record { args = IntUpTo 3 ∷ []; result = y; bound = 10; least = None })
 
 -- V5 before the argument's V4, V4 before V10, V10 before V14, V12 before V14, V14 before V3
 cycle_first : calling op.Local0 (seen true true (accepted Never)) ≡ refused 44 cause.Cycle
@@ -165,18 +165,18 @@ abbrev remainder : Tree → Trees
 remainder b = one (Node op.Return 43 55 (one (Node op.Mod 44 55 (three (leaf op.Arg0 45) b (nothing 54)))))
 
 abbrev verdict_at : ℕ → Trees → Verdict
-verdict_at width body = verdict_of true late (IntUpTo 100 ∷ []) (judged_body (record { table = 0; width = width; link = no_link; lone = λ at. true; object = λ k. None; field = λ k. None; buffer_field = λ k. None; literal = λ o ts. Buf (0 ∷ 0 ∷ []); kinds = shared_only []; callee = known_here }) body (entry (IntUpTo 100 ∷ [])))
+verdict_at width body = verdict_of true late (IntUpTo 100 ∷ []) (judged_method (record { table = 0; width = width; link = no_link; lone = λ at. true; object = λ k. None; field = λ k. None; buffer_field = λ k. None; literal = λ o ts. Buf (0 ∷ 0 ∷ []); kinds = shared_only []; callee = known_here }) 36 body (entry (IntUpTo 100 ∷ [])))
 
 abbrev qword : ℕ → Tree
 qword n = Node op.QWordConst 46 54 (one (Node (op.Number n) 47 54 none))
 
-great_divisor : verdict_at 64 (remainder (qword (2 ^ 32))) ≡ Ok (record { args = IntUpTo 100 ∷ []; result = Always (IntUpTo 100); bound = 4 })
+great_divisor : verdict_at 64 (remainder (qword (2 ^ 32))) ≡ Ok (record { args = IntUpTo 100 ∷ []; result = Always (IntUpTo 100); bound = 4; least = None })
 great_divisor = refl
 
 great_divisor_narrow : verdict_at 32 (remainder (qword (2 ^ 32))) ≡ refused 46 cause.Divisor
 great_divisor_narrow = refl
 
-mod_fifteen : verdict_at 64 (remainder (qword 15)) ≡ Ok (record { args = IntUpTo 100 ∷ []; result = Always (IntUpTo 14); bound = 4 })
+mod_fifteen : verdict_at 64 (remainder (qword 15)) ≡ Ok (record { args = IntUpTo 100 ∷ []; result = Always (IntUpTo 14); bound = 4; least = None })
 mod_fifteen = refl
 
 divisor_local : verdict_at 64 (remainder (leaf op.Arg0 46)) ≡ refused 46 cause.Divisor
@@ -198,7 +198,7 @@ abbrev pub owning : ℕ → Link
 owning at = if nat_le 50 at then link.Own 0 else link.Missing
 
 abbrev pub verdict_owning : Trees → Verdict
-verdict_owning body = verdict_of true late [] (judged_body (here owning known_here) body (entry []))
+verdict_owning body = verdict_of true late [] (judged_method (here owning known_here) 36 body (entry []))
 
 abbrev pub defined : ℕ → Tree → Tree
 defined at what = Node op.Name at at (two (leaf op.NameString at) what)
@@ -214,3 +214,17 @@ own_twice = refl
 
 before_its_definition : verdict_owning (two (Node op.Return 43 45 (one (leaf op.NameString 44))) (defined 46 (byte 5 47))) ≡ refused 44 cause.Unresolved
 before_its_definition = refl
+
+-- a target of an operator outside the profile spoils a loop's shape, which is told before the operator
+abbrev counting_with : Tree → Trees
+counting_with t = two stored_zero (Node op.While 46 60 (three (Node op.LLess 48 52 (two (leaf op.Local0 49) (byte 4 50))) (Node op.Increment 52 54 (one (leaf op.Local0 53))) t))
+
+shape_before_operator : verdict [] (counting_with (Node op.ToHexString 55 58 (two (leaf op.One 56) (leaf op.Local0 57)))) ≡ refused 46 cause.LoopShape
+shape_before_operator = refl
+
+operator_otherwise : verdict [] (counting_with (Node op.ToHexString 55 58 (two (leaf op.One 56) (leaf op.Local1 57)))) ≡ refused 55 cause.OutsideProfile
+operator_otherwise = refl
+
+-- what CopyObject writes is no target
+copied_otherwise : verdict [] (counting_with (Node op.CopyObject 55 58 (two (leaf op.One 56) (leaf op.Local0 57)))) ≡ refused 55 cause.OutsideProfile
+copied_otherwise = refl

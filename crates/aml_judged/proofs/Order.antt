@@ -6,7 +6,7 @@ use Rattle.std.specs.Prelude.{Bool, true, false, ◌==◌, ◌||◌, ◌&&◌, n
 use Rattle.aml_meaning.specs.Within.{Callee}
 use Rattle.aml_judged.specs.Causes as cause
 use Rattle.aml_judged.specs.Judged.{Accepted, Judged, Goes, Stops}
-use Rattle.aml_judged.specs.Bodies.{shared_only, judged_body, entry}
+use Rattle.aml_judged.specs.Bodies.{shared_only, judged_method, entry}
 use Rattle.aml_judged.specs.Laws.{VerdictsAreOne, judged_one, judged_in_order, IsBehindCallees, OrderAnswers}
 use Rattle.aml_judged.specs.Verdicts.{verdict_of, accepted_of, Judging, is_among, every, is_short, seen_from, around_for, verdict_by, AreAccepted}
 use Rattle.aml_judged.proofs.Called.{among_every}
@@ -26,7 +26,7 @@ module _ (all : Judging) where
   pub local_verdict : (known other : ℕ → Option Accepted) (k : ℕ) → ((j : ℕ) → is_among j (all.calls k) ≡ true → known j ≡ other j) → (o : Option Callee) → verdict_by all known k o ≡ verdict_by all other k o
   local_verdict known other k h None = refl
   local_verdict known other k h (Some m) =
-      ap (λ callee. Some (verdict_of (is_short all 64 k) (record { table = m.table; at = m.opcode; why = cause.BoundTooLarge }) (all.args k) (judged_body (record { table = m.table; width = all.methods.width; link = m.link; lone = m.lone; object = all.methods.object; field = all.methods.field; buffer_field = all.methods.buffer_field; literal = m.literal; kinds = shared_only all.kinds; callee = callee }) m.body (entry (all.args k))))) (sees known other k h)
+      ap (λ callee. Some (verdict_of (is_short all 64 k) (record { table = m.table; at = m.opcode; why = cause.BoundTooLarge }) (all.args k) (judged_method (record { table = m.table; width = all.methods.width; link = m.link; lone = m.lone; object = all.methods.object; field = all.methods.field; buffer_field = all.methods.buffer_field; literal = m.literal; kinds = shared_only all.kinds; callee = callee }) m.opcode m.body (entry (all.args k))))) (sees known other k h)
 
   long_verdict : (short : Bool) (late : _) (args : _) (j : Judged (Unit {0})) → short ≡ false → accepted_of (Some (verdict_of short late args j)) ≡ None
   long_verdict false late args (Goes u env x n) e = refl
@@ -36,7 +36,7 @@ module _ (all : Judging) where
   -- a method that begins too long a chain is not accepted
   long_refused : (known : ℕ → Option Accepted) (k : ℕ) (o : Option Callee) → is_short all 64 k ≡ false → accepted_of (verdict_by all known k o) ≡ None
   long_refused known k None e = refl
-  long_refused known k (Some m) e = long_verdict (is_short all 64 k) _ _ (judged_body (around_for all known k m) m.body (entry (all.args k))) e
+  long_refused known k (Some m) e = long_verdict (is_short all 64 k) _ _ (judged_method (around_for all known k m) m.opcode m.body (entry (all.args k))) e
 
   -- two answers are the same, by the lengths of chains
   module _ (known other : ℕ → Option Accepted) (a : AreAccepted all known) (b : AreAccepted all other) where

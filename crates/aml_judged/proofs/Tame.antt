@@ -1,6 +1,6 @@
 -- Terms keep a local that is no target in them, and end a turn only by a Continue that stands in them.
 use Rattle.std.proofs.Common.{◌≡◌, ℕ, zero, suc, List, [], ◌∷◌, Option, Some, None, Result, Ok, Err, refl, ap, ◌∙◌, subst, arith}
-use Rattle.std.specs.Prelude.{Bool, true, false, ◌==◌, if◌then◌else◌, slice_get, slice_set, nat_le, length}
+use Rattle.std.specs.Prelude.{Bool, true, false, ◌==◌, if◌then◌else◌, slice_get, slice_set, nat_le, length, ◌||◌}
 use Rattle.std.proofs.lemmas.Bool.{or_parts}
 use Rattle.std.proofs.lemmas.Bool.Decides.{nat_tests}
 use Rattle.aml_operators.specs.declared.op.Op.{Op}
@@ -23,7 +23,7 @@ use Rattle.aml_meaning.specs.Parts.{M, ◌>>=◌, give, stop_with, lift, tick, p
 use Rattle.aml_meaning.specs.Loops.{turned, turn_end, turns, loop, spent}
 use Rattle.aml_meaning.specs.Rules.{Place, integer, divided}
 use Rattle.aml_meaning.specs.Meaning.{mutex, mutex_named, mutex_numbered, Setting, at_of, act, mean, value, values, mean_all, block, otherwise, is_else, want, store, stored, put, named, named_seen, named_target, invoked, interface_asked, held, field_read, bits_stored, field_stored, part_read, part_changed, own_read, own_held, own_changed, own_stored, own_measured, own_seen, seen, measured, size, asked, condition, untargeted, refused, bound, name_indexed, indexed, notified_name, notified, dereferenced, led, data_unless, tested, gives_value, changed_in_place, operator_action, place, place_at, outside}
-use Rattle.aml_judged.specs.Shapes.{is_local, acts, targets, assigns, assigns_in, is_continue, continues, continues_by, continues_in}
+use Rattle.aml_judged.specs.Shapes.{is_local, acts, targets, assigns, assigns_in, is_continue, continues, continues_by, continues_in, outside_targets}
 use Rattle.aml_meaning.specs.Actions.{action}
 use Rattle.aml_meaning.specs.Owns.{get_own, own_field, own_stored_or, set_own}
 use Rattle.aml_meaning.specs.Changes.{change, changed_or, held_by, holding, peek, peeked_or}
@@ -100,8 +100,9 @@ module _ (w : Option ℕ) where
   mutual
     pub calm : (c : Bool) (t : Tree) → assigns (watching w) t ≡ false → (c ≡ false → continues t ≡ false) → Calm c t
     calm c (Node o at stop parts) a k =
-        let a2 = or_parts (targets (watching w) (action o) parts) (assigns_in (watching w) parts) a in
-        (a2.0, (λ e. (or_parts (is_continue (action o)) (continues_by (action o) parts) (k e)).0), calm_by c (action o) parts a2.1 (λ e. (or_parts (is_continue (action o)) (continues_by (action o) parts) (k e)).1))
+        let a2 = or_parts (targets (watching w) (action o) parts || outside_targets (watching w) (action o) o parts) (assigns_in (watching w) parts) a in
+        let own = or_parts (targets (watching w) (action o) parts) (outside_targets (watching w) (action o) o parts) a2.0 in
+        (own.0, (λ e. (or_parts (is_continue (action o)) (continues_by (action o) parts) (k e)).0), calm_by c (action o) parts a2.1 (λ e. (or_parts (is_continue (action o)) (continues_by (action o) parts) (k e)).1))
 
     calm_by : (c : Bool) (a : Action) (parts : Trees) → assigns_in (watching w) parts ≡ false → (c ≡ false → continues_by a parts ≡ false) → CalmBy c a parts
     calm_by c While (more t body) a k =

@@ -7,7 +7,7 @@ use Rattle.aml_operators.specs.Tree.{Tree, Trees, Node, none, more}
 use Rattle.aml_values.specs.Values.{Value, Int}
 use Rattle.aml_regions.specs.Events.{Event}
 use Rattle.aml_meaning.specs.declared.action.Action.{Action}
-use Rattle.aml_meaning.specs.declared.action.Action.TheVariants.{Argument, Literal, Local, Binary, Unary, ByOne, Divide, Convert, Concatenate, Store, Return, Break}
+use Rattle.aml_meaning.specs.declared.action.Action.TheVariants.{Argument, Literal, Local, Binary, Unary, ByOne, Divide, Convert, Concatenate, Store, Return, Break, CondRefOf, Index, Unwritten}
 use Rattle.aml_meaning.specs.declared.action.Arithmetic.TheVariants as arithmetic
 use Rattle.aml_meaning.specs.Actions.{action}
 use Rattle.aml_meaning.specs.State as state
@@ -18,9 +18,12 @@ use Rattle.aml_meaning.specs.Rules.{Place, combined}
 use Rattle.aml_meaning.specs.Meaning.{Setting, at_of, act, mean, value, mean_all, want, store, stored, gives_value, changed_in_place, operator_action, place, outside}
 use Rattle.aml_judged.specs.Judge.{spelled, number, number_of, is_number, is_one, rises, falls, steps}
 use Rattle.aml_judged.specs.Judged.{Around}
-use Rattle.aml_judged.specs.Shapes.{is_arg, targets, is_local, acts, assigns, assigns_in, continues, is_leave, leaves}
+use Rattle.aml_judged.specs.Shapes.{is_arg, targets, is_local, acts, assigns, assigns_in, continues, is_leave, leaves, lettered, outside_targets, is_target}
 use Rattle.aml_judged.specs.Safe.{AreTame}
 use Rattle.aml_judged.proofs.Tame.{watching, Tame, AreCalm, calm, are_calm, all_tame, term_tame}
+use Rattle.aml_operators.specs.declared.op.Op.{Op}
+use Rattle.aml_operators.specs.declared.row.Letter.{Letter}
+use Rattle.aml_operators.specs.Table.{letters_of}
 
 -- goes on as is said, or meets an error, or stops short; it never leaves by an exit
 abbrev pub Only : {V : Type 0} → (V → State → Type 0) → Out V → Type 0
@@ -335,11 +338,28 @@ targets_never Divide (more a (more b (more r (more q none)))) = or_false (acts (
 targets_never (Convert f) (more a (more g none)) = acts_never g
 targets_never Concatenate (more a (more b (more g none))) = acts_never g
 targets_never Store (more a (more g none)) = acts_never g
+targets_never CondRefOf (more a (more g none)) = acts_never g
+targets_never Index (more x (more i (more g none))) = acts_never g
 targets_never a parts = refl
+
+and_false : (a b : Bool) → b ≡ false → (a && b) ≡ false
+and_false true b e = e
+and_false false b e = refl
+
+lettered_never : (letters : List Letter) (parts : Trees) → lettered (watching None) letters parts ≡ false
+lettered_never letters none = refl
+lettered_never [] (more t ts) = refl
+lettered_never (l ∷ letters) (more t ts) = or_false (is_target l && acts (watching None) t) (lettered (watching None) letters ts) (and_false (is_target l) (acts (watching None) t) (acts_never t)) (lettered_never letters ts)
+
+outside_never : (a : Action) (o : Op) (parts : Trees) → outside_targets (watching None) a o parts ≡ false
+outside_never Unwritten o parts = lettered_never (letters_of o) parts
+outside_never a o parts = refl
 
 mutual
   assigns_never : (t : Tree) → assigns (watching None) t ≡ false
-  assigns_never (Node o at stop parts) = or_false (targets (watching None) (action o) parts) (assigns_in (watching None) parts) (targets_never (action o) parts) (assign_never parts)
+  assigns_never (Node o at stop parts) =
+      or_false (targets (watching None) (action o) parts || outside_targets (watching None) (action o) o parts) (assigns_in (watching None) parts)
+      (or_false (targets (watching None) (action o) parts) (outside_targets (watching None) (action o) o parts) (targets_never (action o) parts) (outside_never (action o) o parts)) (assign_never parts)
 
   pub assign_never : (ts : Trees) → assigns_in (watching None) ts ≡ false
   assign_never none = refl

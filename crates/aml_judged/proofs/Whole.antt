@@ -11,11 +11,11 @@ use Rattle.aml_values.specs.Values.{Int}
 use Rattle.aml_kinds.specs.Kinds.{IntUpTo}
 use Rattle.aml_regions.specs.Events.{Event}
 use Rattle.aml_meaning.specs.State.{Names}
-use Rattle.aml_meaning.specs.Within.{Callee, call_within, most_within, setting_for}
-use Rattle.aml_meaning.specs.Whole.{before, evaluated}
+use Rattle.aml_meaning.specs.Within.{Callee}
+use Rattle.aml_meaning.specs.Whole.{before}
 use Rattle.aml_judged.specs.Judged.{Always, Accepted}
 use Rattle.aml_judged.specs.Safe.{FitNames, FitScript, IsWord}
-use Rattle.aml_judged.specs.Laws.{AreSmall, IsDone}
+use Rattle.aml_judged.specs.Laws.{AreSmall, AreVerdicts, IsCallable, IsDone, evaluation}
 use Rattle.aml_judged.specs.Verdicts.{Judging, AreAccepted, is_short, accepted_of, verdict_by}
 use Rattle.aml_judged.proofs.Called.{verdicts_mean}
 use Rattle.aml_judged.proofs.Examples.{one, three, leaf, rising, stored_zero, no_link}
@@ -43,7 +43,7 @@ all = record {
 }
 
 abbrev known : ℕ → Option Accepted
-known k = if k == 0 then Some (record { args = []; result = Always (IntUpTo 18446744073709551615); bound = 33 }) else (if k == 1 then Some (record { args = []; result = Always (IntUpTo 18446744073709551615); bound = 35 }) else None)
+known k = if k == 0 then Some (record { args = []; result = Always (IntUpTo 18446744073709551615); bound = 33; least = None }) else (if k == 1 then Some (record { args = []; result = Always (IntUpTo 18446744073709551615); bound = 35; least = None }) else None)
 
 abbrev Stands : ℕ → Type 0
 Stands k = known k ≡ accepted_of (verdict_by all known k (callees k))
@@ -72,7 +72,16 @@ some_callee k m false false e o ts = absurd cc
 are_small : AreSmall all
 are_small k m e = some_callee k m (k == 0) (k == 1) e
 
+are_verdicts : AreVerdicts all known
+are_verdicts = record { width = width_of.Bits64; bits = refl; small = are_small; accepted = are_accepted }
+
+abbrev second : Accepted
+second = record { args = []; result = Always (IntUpTo 18446744073709551615); bound = 35; least = None }
+
+callable : (script : List Event) (names : Names) → FitNames 64 [] names → FitScript 64 [] script → IsCallable all known 1 second calls_it [] script (before names 35 [])
+callable script names shared slept = record { accepted = refl; there = refl; arguments = tt; names = shared; answers = slept }
+
 -- with 35 steps, whatever the script, the second method is done with an integer
-calling_is_done : (script : List Event) (names : Names) → FitNames 64 [] names → FitScript 64 [] script → IsDone 64 [] (Always (IntUpTo 18446744073709551615)) (evaluated (setting_for all.methods (call_within all.methods most_within) calls_it) calls_it.body [] script (before names 35 []))
+calling_is_done : (script : List Event) (names : Names) → FitNames 64 [] names → FitScript 64 [] script → IsDone all second (evaluation all calls_it [] script (before names 35 []))
 calling_is_done script names shared slept =
-    verdicts_mean.done all are_small width_of.Bits64 refl known are_accepted 1 (record { args = []; result = Always (IntUpTo 18446744073709551615); bound = 35 }) calls_it refl refl [] tt script (before names 35 []) shared slept (omega arith)
+    verdicts_mean.done all known are_verdicts 1 second calls_it [] script (before names 35 []) (callable script names shared slept) tt (omega arith)

@@ -1,32 +1,42 @@
 -- The kind rules and the bound: how a term changes what is known, what it costs, and where it could go wrong.
-use Rattle.std.specs.Prelude.{ℕ, suc, ◌+◌, ◌-◌, ◌*◌, ◌%◌, ◌^◌, ◌==◌, ◌&&◌, ◌||◌, not, List, [], ◌∷◌, Option, Some, None, unwrap_or, slice_get, Bool, true, false, if◌then◌else◌}
+use Rattle.std.specs.Prelude.{ℕ, suc, ◌+◌, ◌-◌, ◌*◌, ◌%◌, ◌^◌, ◌==◌, ◌&&◌, ◌||◌, ◌++◌, not, nat_le, List, [], ◌∷◌, Option, Some, None, unwrap_or, slice_get, Bool, true, false, if◌then◌else◌}
 use Rattle.aml_operators.specs.Shape.{operator_of}
 use Rattle.aml_operators.specs.Literal.{literal_in}
 use Rattle.aml_operators.specs.Tree.{Tree, Trees, Node, none, more}
 use Rattle.aml_namespace.specs.declared.link.Link.{Link}
+use Rattle.aml_namespace.specs.declared.object.Object.{Object}
 use Rattle.aml_kinds.specs.Kinds.{Kind, IntUpTo}
 use Rattle.aml_contents.specs.Contents.{kind_at}
 use Rattle.aml_contents.specs.FirstKinds.{kind_by}
 use Rattle.aml_contents.specs.BodyData.{computed_size}
 use Rattle.aml_meaning.specs.declared.action.Action.{Action}
-use Rattle.aml_meaning.specs.declared.action.Action.TheVariants.{Data, Unary, LNot, Divide, Convert, Concatenate, SizeOf, CondRefOf, Index, Debug, Notify, Pause, Literal, Local, Argument, Name, Binary, ByOne, Compare, Store, Return, If, While, Break, Continue, Nothing, Invoke, NoTarget, Dereference}
+use Rattle.aml_meaning.specs.declared.action.Action.TheVariants.{Data, Unary, LNot, Divide, Convert, Concatenate, SizeOf, CondRefOf, Index, Debug, Notify, Pause, Literal, Local, Argument, Name, Binary, ByOne, Compare, Store, Return, If, While, Break, Continue, Nothing, Invoke, NoTarget, Dereference, Acquire, Release}
 use Rattle.aml_meaning.specs.Notices.{is_notifiable}
+use Rattle.aml_meaning.specs.declared.mutex.TakenMutex.{TakenMutex}
 use Rattle.aml_meaning.specs.declared.part.BufferPart.{BufferPart}
+use Rattle.aml_meaning.specs.BufferFields.{usable_part}
+use Rattle.aml_meaning.specs.Mutexes.{without_last}
+use Rattle.aml_meaning.specs.Owns.{field_at}
 use Rattle.aml_meaning.specs.Rules.{Place}
+use Rattle.aml_meaning.specs.State.{greatest_level}
 use Rattle.aml_meaning.specs.Fields.{read_count, write_count}
 use Rattle.aml_regions.specs.Fields.{layout_of}
 use Rattle.aml_regions.specs.declared.field.AnyField.{AnyField}
 use Rattle.aml_meaning.specs.Actions.{action}
 use Rattle.aml_meaning.specs.Meaning.{at_of, is_else}
-use Rattle.aml_judged.specs.Causes.{Cause}
-use Rattle.aml_judged.specs.Known.{greatest, Slot, Env, within, with_local, with_arg, ended, in_loop, join_env, end_within, widened, lower}
-use Rattle.aml_judged.specs.Judged.{Yield, Always, Never, Accepted, Seen, Around, Exits, no_exits, Judged, Goes, Stops, after, then_judge, Rule, ◌>>=◌, pays, goes, step, ruled, meet}
+use Rattle.aml_judged.specs.Causes.{Cause, Refusal}
+use Rattle.aml_judged.specs.Known.{greatest, Slot, Held, These, Different, Env, within, with_local, with_arg, with_mutexes, ended, in_loop, join_env, end_within, holds_as, widened, lower}
+use Rattle.aml_judged.specs.Judged.{Yield, Always, Never, Accepted, Seen, Around, Exits, no_exits, Judged, Goes, Stops, after, then_judge, Rule, ◌>>=◌, pays, goes, step, ruled, taking, agreed, meet}
 use Rattle.aml_judged.specs.KindRules.{integer_kind, combined_kind, transformed_kind, negated_kind, divided_kind, converted_kind, concatenated_kind, size_kind, interface_kind, notice_kind, led_kind, compared_kind, field_kind, given_kind, byte_written_kind, source_kind, part_stored_kind, may_replace}
 use Rattle.aml_judged.specs.Shapes.{is_operand, Shape, Once, Up, Down, Endless, is_local, is_arg, acts, assigns, assigns_in, continues, continues_in, leaves}
 use Rattle.aml_namespace.specs.declared.link.Link.TheVariants as link
+use Rattle.aml_namespace.specs.declared.object.Object.TheVariants as object
 use Rattle.aml_meaning.specs.declared.action.Arithmetic.TheVariants as arithmetic
 use Rattle.aml_meaning.specs.declared.action.Comparison.TheVariants as comparison
 use Rattle.aml_judged.specs.Causes as cause
+use Rattle.aml_meaning.specs.declared.definition.Definition.{Definition}
+use Rattle.aml_meaning.specs.declared.definition.Definition.TheVariants as makes
+use Rattle.aml_meaning.specs.Definitions.{definition}
 
 module _ (here : Around) where
   abbrev pub place_at : ℕ → Place
@@ -35,8 +45,11 @@ module _ (here : Around) where
   abbrev pub place : Tree → Place
   place t = place_at (at_of t)
 
+  abbrev pub refusal : Cause → ℕ → Refusal
+  refusal why at = record { table = here.table; at = at; why = why }
+
   abbrev pub stops : {K : Type 0} → Cause → ℕ → Rule K
-  stops why at = λ env. Stops (record { table = here.table; at = at; why = why })
+  stops why at = λ env. Stops (refusal why at)
 
   abbrev pub wanted : ℕ → Yield → Rule Kind
   wanted at (Always k) = goes k
@@ -92,9 +105,14 @@ module _ (here : Around) where
     pays 1 tt
   judged_part_stored None at k = stops cause.Region at
 
+  -- an own name, or the field of a buffer that it is
+  abbrev pub judged_own : Option BufferPart → ℕ → ℕ → Rule Yield
+  judged_own (Some f) k at = judged_part (usable_part f) at
+  judged_own None k at = judged_content at (kind_at here.kinds.owns k)
+
   abbrev pub judged_name : Link → ℕ → Rule Yield
   judged_name (link.Data id) at = judged_content at (kind_at here.kinds.shared id.0)
-  judged_name (link.Own k) at = judged_content at (kind_at here.kinds.owns k)
+  judged_name (link.Own k) at = judged_own (field_at here.kinds.fields k) k at
   judged_name link.Missing at = stops cause.Unresolved at
   judged_name (link.Field id) at = judged_field (here.field id.0) at
   judged_name (link.BufferField id) at = judged_part (here.buffer_field id.0) at
@@ -105,9 +123,13 @@ module _ (here : Around) where
   judged_into at (Some old) k = if may_replace k old then pays 1 tt else stops cause.WrongKind at
   judged_into at None k = stops cause.WrongKind at
 
+  abbrev pub judged_own_stored : Option BufferPart → ℕ → ℕ → Kind → Rule (Unit {0})
+  judged_own_stored (Some f) i at k = judged_part_stored (usable_part f) at k
+  judged_own_stored None i at k = judged_into at (kind_at here.kinds.owns i) k
+
   abbrev pub judged_target : Link → ℕ → Kind → Rule (Unit {0})
   judged_target (link.Data id) at k = judged_into at (kind_at here.kinds.shared id.0) k
-  judged_target (link.Own i) at k = judged_into at (kind_at here.kinds.owns i) k
+  judged_target (link.Own i) at k = judged_own_stored (field_at here.kinds.fields i) i at k
   judged_target link.Missing at k = stops cause.Unresolved at
   judged_target (link.Field id) at k = judged_field_stored (here.field id.0) at k
   judged_target (link.BufferField id) at k = judged_part_stored (here.buffer_field id.0) at k
@@ -157,9 +179,13 @@ module _ (here : Around) where
   judged_content_seen at (Some k) = goes k
   judged_content_seen at None = stops cause.WrongKind at
 
+  abbrev pub judged_own_seen : Option BufferPart → ℕ → ℕ → Rule Kind
+  judged_own_seen (Some f) k at = stops cause.WrongKind at
+  judged_own_seen None k at = judged_content_seen at (kind_at here.kinds.owns k)
+
   abbrev pub judged_name_seen : Link → ℕ → Rule Kind
   judged_name_seen (link.Data id) at = judged_content_seen at (kind_at here.kinds.shared id.0)
-  judged_name_seen (link.Own k) at = judged_content_seen at (kind_at here.kinds.owns k)
+  judged_name_seen (link.Own k) at = judged_own_seen (field_at here.kinds.fields k) k at
   judged_name_seen link.Missing at = stops cause.Unresolved at
   judged_name_seen l at = stops cause.WrongKind at
 
@@ -199,29 +225,97 @@ module _ (here : Around) where
   judged_untargeted at NoTarget = goes tt
   judged_untargeted at into = stops cause.OutsideProfile at
 
+  -- the mutex that the object with a number is, named at a place, for an operator at another; the global lock is outside
+  abbrev pub judged_mutex_numbered : ℕ → ℕ → ℕ → Option Object → Rule TakenMutex
+  judged_mutex_numbered at from k (Some (object.Mutex level)) = goes (record { object = record { 0 = k }; level = level })
+  judged_mutex_numbered at from k (Some object.GlobalLock) = stops cause.OutsideProfile at
+  judged_mutex_numbered at from k o = stops cause.WrongKind from
+
+  abbrev pub judged_mutex_named : ℕ → ℕ → Link → Rule TakenMutex
+  judged_mutex_named at from link.Missing = stops cause.Unresolved from
+  judged_mutex_named at from (link.Object id) = judged_mutex_numbered at from id.0 (here.object id.0)
+  judged_mutex_named at from l = stops cause.WrongKind from
+
+  -- the mutex that an operand of Acquire or Release at a place is, which stands at another; a local and an argument are none, and are
+  -- not read
+  abbrev pub judged_mutex : ℕ → Action → ℕ → Rule TakenMutex
+  judged_mutex at Name from = judged_mutex_named at from (here.link from)
+  judged_mutex at (Local k) from = stops cause.WrongKind from
+  judged_mutex at (Argument k) from = stops cause.WrongKind from
+  judged_mutex at other from = stops cause.OutsideProfile from
+
+  -- with the mutexes that are held; where ways hold different ones, that was told where they met
+  abbrev pub holding_by : {K : Type 0} → ℕ → (List TakenMutex → Rule K) → Held → Rule K
+  holding_by at rule (These ms) = rule ms
+  holding_by at rule Different = stops cause.HeldDiffers at
+
+  abbrev pub holding : {K : Type 0} → ℕ → (List TakenMutex → Rule K) → Rule K
+  holding at rule = λ env. holding_by at rule env.held env
+
+  -- a mutex is taken: its level is at least each that this method holds
+  abbrev pub taken_or : Bool → ℕ → TakenMutex → List TakenMutex → Rule (Unit {0})
+  taken_or true at m ms = λ env. Goes tt (with_mutexes env (ms ++ m ∷ [])) (taking (Some m.level)) 0
+  taken_or false at m ms = stops cause.Level at
+
+  abbrev pub judged_taken : ℕ → TakenMutex → Rule (Unit {0})
+  judged_taken at m = holding at (λ ms. taken_or (nat_le (greatest_level 0 ms) m.level) at m ms)
+
+  -- a mutex is released: the last that this method took
+  abbrev pub released_or : Option (List TakenMutex) → ℕ → Rule (Unit {0})
+  released_or (Some ms) at = λ env. Goes tt (with_mutexes env ms) no_exits 0
+  released_or None at = stops cause.NotHeld at
+
+  abbrev pub judged_released : ℕ → TakenMutex → Rule (Unit {0})
+  judged_released at m = holding at (λ ms. released_or (without_last m.object.0 ms) at)
+
+  -- no mutex is held where the method ends by a way that counts
+  abbrev pub none_held_at : Bool → Held → ℕ → Rule (Unit {0})
+  none_held_at false held at = goes tt
+  none_held_at true (These []) at = goes tt
+  none_held_at true held at = stops cause.StillHeld at
+
+  abbrev pub judged_none_held : ℕ → Rule (Unit {0})
+  judged_none_held at = λ env. none_held_at env.counts env.held at env
+
+  -- a call: the least level that its method takes is at least each that this method holds
+  abbrev pub is_level : Option ℕ → List TakenMutex → Bool
+  is_level None ms = true
+  is_level (Some least) ms = nat_le (greatest_level 0 ms) least
+
+  abbrev pub level_or : Bool → ℕ → Rule (Unit {0})
+  level_or true at = goes tt
+  level_or false at = stops cause.Level at
+
+  abbrev pub judged_levels : ℕ → Option ℕ → Rule (Unit {0})
+  judged_levels at least = holding at (λ ms. level_or (is_level least ms) at)
+
+  -- what a call gives, within its bound; its method takes what it takes
+  abbrev pub calling : Accepted → Rule Yield
+  calling a = λ env. Goes a.result env (taking a.least) a.bound
+
   -- exits, where they count
   abbrev pub if_counts : {X : Type 0} → Bool → X → Option X
   if_counts true x = Some x
   if_counts false x = None
 
   abbrev pub returning : Kind → Rule Yield
-  returning k env = Goes Never (ended env) (record { broke = None; continued = None; returned = if_counts env.counts k }) 0
+  returning k env = Goes Never (ended env) (record no_exits { returned = if_counts env.counts k }) 0
 
   abbrev pub leaving : Bool → ℕ → Exits → Env → Judged Yield
   leaving true at x env = Goes Never (ended env) x 0
-  leaving false at x env = Stops (record { table = here.table; at = at; why = cause.OutsideProfile })
+  leaving false at x env = Stops (refusal cause.OutsideProfile at)
 
   abbrev pub breaking : ℕ → Rule Yield
-  breaking at env = leaving env.looped at (record { broke = if_counts env.counts env; continued = None; returned = None }) env
+  breaking at env = leaving env.looped at (record no_exits { broke = if_counts env.counts env }) env
 
   abbrev pub continuing : ℕ → Rule Yield
-  continuing at env = leaving env.looped at (record { broke = None; continued = if_counts env.counts env; returned = None }) env
+  continuing at env = leaving env.looped at (record no_exits { continued = if_counts env.counts env }) env
 
   -- the arguments of a call fit what its method takes
   abbrev pub are_within : List Kind → List Kind → Trees → Rule (Unit {0})
   are_within [] [] none = goes tt
   are_within (k ∷ ks) (a ∷ as') (more t ts) = if within k a then are_within ks as' ts else stops cause.WrongKind (at_of t)
-  are_within ks as' ts = λ env. Stops (record { table = here.table; at = 0; why = cause.OutsideProfile })
+  are_within ks as' ts = stops cause.OutsideProfile 0
 
   abbrev pub not_reaching : ℕ → Bool → Rule (Unit {0})
   not_reaching at true = stops cause.Cycle at
@@ -247,7 +341,8 @@ module _ (here : Around) where
     a ← is_accepted at m.accepted
     _ ← not_deep at m.deep
     _ ← are_within ks a.args arguments
-    pays a.bound a.result
+    _ ← judged_levels at a.least
+    calling a
 
   -- `_OSI` of its one argument
   abbrev pub judged_interface : ℕ → Trees → List Kind → Rule Yield
@@ -262,7 +357,7 @@ module _ (here : Around) where
     ks ← given
     judged_call w at (here.callee id.0) arguments ks
   judged_invoked w (link.Data id) at arguments given = judged_content at (kind_at here.kinds.shared id.0)
-  judged_invoked w (link.Own k) at arguments given = judged_content at (kind_at here.kinds.owns k)
+  judged_invoked w (link.Own k) at arguments given = judged_own (field_at here.kinds.fields k) k at
   judged_invoked w link.OsInterfaces at arguments given = do
     ks ← given
     judged_interface at arguments ks
@@ -340,30 +435,39 @@ module _ (here : Around) where
   abbrev pub comes_back : Env → Option Env → Env → Bool
   comes_back end continued start = end_within end start && exit_within continued start
 
+  abbrev pub exit_holds : Option Env → Env → Bool
+  exit_holds None start = true
+  exit_holds (Some env) start = holds_as env start
+
+  -- what goes back to the test holds what the loop began with, and what breaks holds what is held behind the test; the tests of such
+  -- loops take and release nothing, so these are the same
+  abbrev pub holds_back : Env → Exits → Env → Env → Bool
+  holds_back end x start tested = holds_as end start && (exit_holds x.continued start && exit_holds x.broke tested)
+
   -- behind a loop stands what stood behind its failed test and at its Breaks
   abbrev pub after_loop : Option Env → Env → Env
   after_loop None env = env
   after_loop (Some b) env = join_env env b
 
   abbrev pub past : Bool → Env → Exits → ℕ → Judged (Unit {0})
-  past outer et x cost = Goes tt (in_loop outer (after_loop x.broke et)) (record { broke = None; continued = None; returned = x.returned }) cost
+  past outer et x cost = Goes tt (in_loop outer (after_loop x.broke et)) (record x { broke = None; continued = None }) cost
 
   -- a loop that ends in its first turn, from its test
-  abbrev pub once_ended : Bool → Env → Judged (Unit {0}) → Judged (Unit {0})
-  once_ended outer et (Goes u eb x m) = past outer et x m
-  once_ended outer et (Stops r) = Stops r
+  abbrev pub once_ended : Bool → ℕ → Env → Judged (Unit {0}) → Judged (Unit {0})
+  once_ended outer at et (Goes u eb x m) = agreed (exit_holds x.broke et) (refusal cause.HeldDiffers at) (past outer et x m)
+  once_ended outer at et (Stops r) = Stops r
 
-  abbrev pub once : Bool → Judged Env → Rule (Unit {0}) → Judged (Unit {0})
-  once outer (Goes held et xt n) body = after xt n (once_ended outer et (body held))
-  once outer (Stops r) body = Stops r
+  abbrev pub once : Bool → ℕ → Judged Env → Rule (Unit {0}) → Judged (Unit {0})
+  once outer at (Goes held et xt n) body = after xt n (once_ended outer at et (body held))
+  once outer at (Stops r) body = Stops r
 
-  -- one that makes so many turns at most
-  abbrev pub closed : Bool → ℕ → ℕ → Bool → Env → Exits → ℕ → Judged (Unit {0})
-  closed outer turns at true et x n = past outer et x (turns * n)
-  closed outer turns at false et x n = Stops (record { table = here.table; at = at; why = cause.WrongKind })
+  -- one that makes so many turns at most: kinds are asked first, and then what is held
+  abbrev pub closed : Bool → ℕ → ℕ → Bool → Bool → Env → Exits → ℕ → Judged (Unit {0})
+  closed outer turns at true holds et x n = agreed holds (refusal cause.HeldDiffers at) (past outer et x (turns * n))
+  closed outer turns at false holds et x n = Stops (refusal cause.WrongKind at)
 
   abbrev pub turned : Bool → ℕ → ℕ → ℕ → Env → Env → Judged (Unit {0}) → Judged (Unit {0})
-  turned outer turns at n start et (Goes u eb x m) = closed outer turns at (comes_back eb x.continued start) et x (n + m)
+  turned outer turns at n start et (Goes u eb x m) = closed outer turns at (comes_back eb x.continued start) (holds_back eb x start et) et x (n + m)
   turned outer turns at n start et (Stops r) = Stops r
 
   abbrev pub often : Bool → ℕ → ℕ → Env → Judged Env → Rule (Unit {0}) → Judged (Unit {0})
@@ -373,13 +477,13 @@ module _ (here : Around) where
   -- one that falls from a local's greatest; where the local has no integer kind, the test tells
   abbrev pub falling : Option Slot → ℕ → ℕ → Trees → Rule Env → Rule (Unit {0}) → Rule (Unit {0})
   falling (Some (Some (IntUpTo a))) c at ts test body env = often env.looped (a - c) at (begun ts env) (test (begun ts env)) body
-  falling slot c at ts test body env = then_judge (test (begun ts env)) (λ u et. Stops (record { table = here.table; at = at; why = cause.LoopShape }))
+  falling slot c at ts test body env = then_judge (test (begun ts env)) (λ u et. Stops (refusal cause.LoopShape at))
 
   abbrev pub judged_loop : Shape → ℕ → Trees → Rule Env → Rule (Unit {0}) → Rule (Unit {0})
-  judged_loop Once at ts test body env = once env.looped (test (in_loop true env)) body
+  judged_loop Once at ts test body env = once env.looped at (test (in_loop true env)) body
   judged_loop (Up l c) at ts test body env = often env.looped c at (begun ts env) (test (begun ts env)) body
   judged_loop (Down l c) at ts test body env = falling (slice_get env.locals l) c at ts test body env
-  judged_loop Endless at ts test body env = Stops (record { table = here.table; at = at; why = cause.LoopShape })
+  judged_loop Endless at ts test body env = Stops (refusal cause.LoopShape at)
 
   -- where LLess (X, c) held, X a local or an argument and c a literal that is not zero, X is below c
   abbrev pub narrowed_by : Action → Option ℕ → Env → Env
@@ -401,12 +505,17 @@ module _ (here : Around) where
     _ ← ruled (integer_kind (place t) k)
     λ env. goes (narrowed t env) env
 
+  -- a definition stands at the top of a body, and nowhere else
+  abbrev pub not_defined : Definition → ℕ → Rule Yield → Rule Yield
+  not_defined makes.Nothing at rule = rule
+  not_defined what at rule = stops cause.LocalName at
+
   abbrev mutual
     -- a term's step is taken before its operands
     pub judged : Tree → Rule Yield
     judged (Node o at stop parts) = do
       _ ← step
-      judged_act false (action o) at parts
+      not_defined (definition o) at (judged_act false (action o) at parts)
 
     -- the value of a term, where one is wanted
     pub judged_value : Tree → Rule Kind
@@ -475,10 +584,11 @@ module _ (here : Around) where
       goes (Always v)
     judged_act w Return at (more a none) = do
       v ← judged_value a
+      _ ← judged_none_held at
       returning v
     judged_act w If at (more t body) = do
       held ← judged_test t (judged_value t)
-      _ ← λ env. meet (judged_block body held) (judged_otherwise body env)
+      _ ← λ env. meet (refusal cause.HeldDiffers at) (judged_block body held) (judged_otherwise body env)
       goes Never
     judged_act w While at (more t body) = do
       _ ← judged_loop (shape_of t body) at body (judged_test t (judged_value t)) (judged_all body)
@@ -498,6 +608,14 @@ module _ (here : Around) where
       k ← judged_value a
       _ ← ruled (integer_kind (place a) k)
       pays 1 Never
+    judged_act w Acquire at (more o (more timeout none)) = do
+      m ← judged_mutex at (action (operator_of o)) (at_of o)
+      _ ← judged_taken at m
+      goes (Always (IntUpTo 0))
+    judged_act w Release at (more o none) = do
+      m ← judged_mutex at (action (operator_of o)) (at_of o)
+      _ ← judged_released at m
+      goes Never
     judged_act w other at parts = stops cause.OutsideProfile at
 
     -- a target, whose own operands come first; an Index is written behind its index

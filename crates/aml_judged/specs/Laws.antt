@@ -5,46 +5,89 @@ use Rattle.aml_namespace.specs.declared.width.Width.{Width}
 use Rattle.aml_namespace.specs.Widths.{bits_of}
 use Rattle.aml_values.specs.Values.{Value}
 use Rattle.aml_operators.specs.declared.op.Op.{Op}
-use Rattle.aml_contents.specs.Contents.{ContentKinds}
 use Rattle.aml_regions.specs.Events.{Event}
-use Rattle.aml_meaning.specs.State.{State, Out, Halts, NoAnswer, Spent}
+use Rattle.aml_meaning.specs.State.{State, held_level, Out, Halts, NoAnswer, Spent}
 use Rattle.aml_meaning.specs.Within.{Callee, call_within, most_within, setting_for}
 use Rattle.aml_meaning.specs.Whole.{evaluated}
-use Rattle.aml_judged.specs.Judged.{Yield, Accepted}
-use Rattle.aml_judged.specs.Safe.{IsWord, FitScript, FitAll, FitNames, FitsYield, IsCalled}
+use Rattle.aml_judged.specs.Judged.{Accepted}
+use Rattle.aml_judged.specs.Safe.{Allows, IsWord, FitScript, FitAll, FitNames, FitsYield, IsCalled}
 use Rattle.aml_judged.specs.Bodies.{shared_only}
 use Rattle.aml_judged.specs.Verdicts.{accepted_of, Judging, is_among, every, is_short, verdict_by, AreAccepted}
 use Rattle.aml_meaning.specs.State as state
 
--- what is done, or has no answer: no error, and not out of steps
-abbrev pub IsDone : ℕ → ContentKinds → Yield → Out (Option Value) → Type 0
-IsDone width kinds y (state.Goes v s) = FitsYield width (shared_only kinds) v y × FitNames width kinds s.names
-IsDone width kinds y (Halts stop s) = ⊥
-IsDone width kinds y (NoAnswer s) = Unit {0}
-IsDone width kinds y (Spent s) = ⊥
+module _ (all : Judging) where
+  -- what literals of data hold: integers of the width, bytes, and packages that have not too many elements
+  abbrev pub AreSmall : Type 0
+  AreSmall =
+      (k : ℕ) (m : Callee) → all.methods.callee k ≡ Some m →
+      (o : Op) (ts : Trees) → IsWord all.methods.width (m.literal o ts)
 
--- what literals of data hold: integers of the width, bytes, and packages that have not too many elements
-abbrev pub AreSmall : Judging → Type 0
-AreSmall all = (k : ℕ) (m : Callee) → all.methods.callee k ≡ Some m → (o : Op) (ts : Trees) → IsWord all.methods.width (m.literal o ts)
+  -- verdicts on methods whose integers have 32 or 64 bits, and whose literals are small
+  pub record AreVerdicts (known : ℕ → Option Accepted) : Type 0 where
+    pub width : Width
+    pub bits : all.methods.width ≡ bits_of width
+    pub small : AreSmall
+    pub accepted : AreAccepted all known
 
--- no evaluation of an accepted method, however many steps it has, meets an error; and with as many as its verdict says it is done,
--- or some read has no answer
+  -- an accepted method, with arguments and names that fit, and a script whose answers do
+  pub record IsCallable (known : ℕ → Option Accepted) (k : ℕ) (a : Accepted) (m : Callee)
+      (values : List Value) (script : List Event) (s : State) : Type 0 where
+    pub accepted : known k ≡ Some a
+    pub there : all.methods.callee k ≡ Some m
+    pub arguments : FitAll all.methods.width values a.args
+    pub names : FitNames all.methods.width all.kinds s.names
+    pub answers : FitScript all.methods.width all.kinds script
+
+  -- its evaluation, with at most 64 methods active in one another
+  abbrev pub evaluation : Callee → List Value → List Event → State → Out (Option Value)
+  evaluation m = evaluated (setting_for all.methods (call_within all.methods most_within) m) m.body
+
+  -- it is done, or has no answer: no error, and not out of steps
+  abbrev pub IsDone : Accepted → Out (Option Value) → Type 0
+  IsDone a (state.Goes v s) = FitsYield all.methods.width v a.result × FitNames all.methods.width all.kinds s.names
+  IsDone a (Halts stop s) = ⊥
+  IsDone a (NoAnswer s) = Unit {0}
+  IsDone a (Spent s) = ⊥
+
+abbrev pub HasNoError : Out (Option Value) → Type 0
+HasNoError (state.Goes v s) = Unit {0}
+HasNoError (Halts stop s) = ⊥
+HasNoError (NoAnswer s) = Unit {0}
+HasNoError (Spent s) = Unit {0}
+
+-- no evaluation of an accepted method, however many steps it has, meets an error, where callers hold no level above the least that it
+-- takes; and with as many steps as its verdict says it is done, or some read has no answer
 pub record VerdictsMean : Type 0 where
-  pub no_error : (all : Judging) → AreSmall all → (width : Width) → all.methods.width ≡ bits_of width → (known : ℕ → Option Accepted) → AreAccepted all known → (k : ℕ) (a : Accepted) (m : Callee) → known k ≡ Some a → all.methods.callee k ≡ Some m →
-      (values : List Value) → FitAll all.methods.width values a.args → (script : List Event) (s : State) → FitNames all.methods.width all.kinds s.names → FitScript all.methods.width all.kinds script →
-      IsCalled all.methods.width (shared_only all.kinds) a.result a.bound s.frame s.steps (evaluated (setting_for all.methods (call_within all.methods most_within) m) m.body values script s)
-  pub done : (all : Judging) → AreSmall all → (width : Width) → all.methods.width ≡ bits_of width → (known : ℕ → Option Accepted) → AreAccepted all known → (k : ℕ) (a : Accepted) (m : Callee) → known k ≡ Some a → all.methods.callee k ≡ Some m →
-      (values : List Value) → FitAll all.methods.width values a.args → (script : List Event) (s : State) → FitNames all.methods.width all.kinds s.names → FitScript all.methods.width all.kinds script → a.bound ≤ s.steps →
-      IsDone all.methods.width all.kinds a.result (evaluated (setting_for all.methods (call_within all.methods most_within) m) m.body values script s)
+  pub bounds :
+      (all : Judging) (known : ℕ → Option Accepted) → AreVerdicts all known →
+      (k : ℕ) (a : Accepted) (m : Callee) (values : List Value) (script : List Event) (s : State) →
+      IsCallable all known k a m values script s →
+      IsCalled all.methods.width (shared_only all.kinds) a s.frame s.steps (evaluation all m values script s)
+  pub no_error :
+      (all : Judging) (known : ℕ → Option Accepted) → AreVerdicts all known →
+      (k : ℕ) (a : Accepted) (m : Callee) (values : List Value) (script : List Event) (s : State) →
+      IsCallable all known k a m values script s →
+      Allows a.least (held_level s.frame) →
+      HasNoError (evaluation all m values script s)
+  pub done :
+      (all : Judging) (known : ℕ → Option Accepted) → AreVerdicts all known →
+      (k : ℕ) (a : Accepted) (m : Callee) (values : List Value) (script : List Event) (s : State) →
+      IsCallable all known k a m values script s →
+      Allows a.least (held_level s.frame) →
+      a.bound ≤ s.steps →
+      IsDone all a (evaluation all m values script s)
 
 -- there is one answer to which methods are accepted
 abbrev pub VerdictsAreOne : Type 0
-VerdictsAreOne = (all : Judging) (known other : ℕ → Option Accepted) → AreAccepted all known → AreAccepted all other → (k : ℕ) → known k ≡ other k
+VerdictsAreOne =
+    (all : Judging) (known other : ℕ → Option Accepted) →
+    AreAccepted all known → AreAccepted all other → (k : ℕ) → known k ≡ other k
 
 module _ (all : Judging) where
   -- what is known behind the judgement of one method more, and of some in order
   abbrev pub judged_one : (ℕ → Option Accepted) → ℕ → ℕ → Option Accepted
-  judged_one known k = λ j. if j == k then accepted_of (verdict_by all known k (all.methods.callee k)) else known j
+  judged_one known k = λ j.
+      if j == k then accepted_of (verdict_by all known k (all.methods.callee k)) else known j
 
   abbrev pub judged_in_order : (ℕ → Option Accepted) → List ℕ → ℕ → Option Accepted
   judged_in_order known [] = known
@@ -53,8 +96,13 @@ module _ (all : Judging) where
   -- each method stands once and behind its callees, where some stand before
   abbrev pub IsBehindCallees : List ℕ → List ℕ → Type 0
   IsBehindCallees done [] = Unit {0}
-  IsBehindCallees done (k ∷ ks) = (every (λ j. is_among j done) (all.calls k) ≡ true) × (is_among k done ≡ false) × IsBehindCallees (k ∷ done) ks
+  IsBehindCallees done (k ∷ ks) =
+      (every (λ j. is_among j done) (all.calls k) ≡ true) ×
+      (is_among k done ≡ false) × IsBehindCallees (k ∷ done) ks
 
 -- judged in such an order, where the methods that are left out reach a cycle or begin too long a chain, they are the answer
 abbrev pub OrderAnswers : Type 0
-OrderAnswers = (all : Judging) (order : List ℕ) → IsBehindCallees all [] order → ((k : ℕ) → is_among k order ≡ false → is_short all 64 k ≡ false) → AreAccepted all (judged_in_order all (λ k. None) order)
+OrderAnswers =
+    (all : Judging) (order : List ℕ) → IsBehindCallees all [] order →
+    ((k : ℕ) → is_among k order ≡ false → is_short all 64 k ≡ false) →
+    AreAccepted all (judged_in_order all (λ k. None) order)

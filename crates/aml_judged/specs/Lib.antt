@@ -6,11 +6,11 @@ pub mod Shapes
 pub mod Judge
 pub mod Bodies
 pub mod Verdicts
+pub mod Integers
 pub mod Safe
 pub mod Laws
 pub mod Events
 pub mod Fine
 pub mod Chains
-pub mod Mutexes
 pub mod Keeps
 pub mod InPlace

@@ -6,12 +6,14 @@ use Rattle.aml_kinds.specs.Kinds.{Kind}
 use Rattle.aml_kinds.specs.Fits.{fits, most_elements}
 use Rattle.aml_contents.specs.Contents.{Contents, ContentKinds, content_at, are_fitting}
 use Rattle.aml_regions.specs.Events.{Event, Slept}
+use Rattle.aml_meaning.specs.declared.error.AmlCause.TheVariants as why
+use Rattle.aml_meaning.specs.declared.error.AmlError.{AmlError}
+use Rattle.aml_meaning.specs.declared.mutex.TakenMutex.{TakenMutex}
 use Rattle.aml_meaning.specs.State as state
-use Rattle.aml_meaning.specs.State.{State, Frame, Names, Stop, Error, Returned, Broke, Continued, Out, Halts, NoAnswer, Spent}
+use Rattle.aml_meaning.specs.State.{State, Frame, Names, held_level, Stop, Error, Returned, Broke, Continued, Out, Halts, NoAnswer, Spent}
 use Rattle.aml_meaning.specs.Parts.{M}
 use Rattle.aml_meaning.specs.Rules.{Place}
-use Rattle.aml_judged.specs.Known.{Slot, Env}
-use Rattle.aml_meaning.specs.Owns.{field_at}
+use Rattle.aml_judged.specs.Known.{Slot, Held, These, Different, Env}
 use Rattle.aml_judged.specs.Judged.{NameKinds, Yield, Always, Sometimes, Never, Accepted, Seen, Exits, Judged, Goes, Stops}
 
 abbrev pub AreBytes : List ℕ → Type 0
@@ -70,7 +72,33 @@ module _ (width : ℕ) where
   pub record FitScript (kinds : ContentKinds) (script : List Event) : Type 0 where
     pub left : (i milliseconds : ℕ) (contents : Contents) → slice_get script i ≡ Some (Slept milliseconds (Some contents)) → FitContents kinds contents
 
-module _ (width : ℕ) (kinds : NameKinds) where
+  abbrev pub FitsYield : Option Value → Yield → Type 0
+  FitsYield (Some v) (Always k) = IsOf v k
+  FitsYield None (Always k) = ⊥
+  FitsYield (Some v) (Sometimes k) = IsOf v k
+  FitsYield None (Sometimes k) = Unit {0}
+  FitsYield (Some v) Never = ⊥
+  FitsYield None Never = Unit {0}
+
+  abbrev pub FitsReturn : Option Kind → Value → Type 0
+  FitsReturn None v = ⊥
+  FitsReturn (Some k) v = IsOf v k
+
+abbrev pub FitsHeld : List TakenMutex → Held → Type 0
+FitsHeld ms (These ns) = ms ≡ ns
+FitsHeld ms Different = Unit {0}
+
+-- mutexes may be taken where others are held up to a level, if the least that is taken is at least that
+abbrev pub Allows : Option ℕ → ℕ → Type 0
+Allows None level = Unit {0}
+Allows (Some least) level = level ≤ least
+
+-- an error is Level, and there only where callers hold a level above the least that is taken
+abbrev pub OnlyAbove : Option ℕ → ℕ → AmlError → Type 0
+OnlyAbove least level e = (e.cause ≡ why.Level) × (Allows least level → ⊥)
+
+-- in a method whose callers hold mutexes up to a level
+module _ (width : ℕ) (kinds : NameKinds) (above : ℕ) where
   -- what is known counts, and is true
   pub record FitsState (env : Env) (s : State) : Type 0 where
     pub reached : env.counts ≡ true
@@ -78,33 +106,22 @@ module _ (width : ℕ) (kinds : NameKinds) where
     pub given : FitSlots width s.frame.args env.args
     pub shared : FitNames width kinds.shared s.names
     pub owned : FitNames width kinds.owns s.frame.owns
-    pub fieldless : (k : ℕ) → field_at s.frame.fields k ≡ None
-    pub unheld : s.frame.held ≡ []
-
-  abbrev pub FitsYield : Option Value → Yield → Type 0
-  FitsYield (Some v) (Always k) = IsOf width v k
-  FitsYield None (Always k) = ⊥
-  FitsYield (Some v) (Sometimes k) = IsOf width v k
-  FitsYield None (Sometimes k) = Unit {0}
-  FitsYield (Some v) Never = ⊥
-  FitsYield None Never = Unit {0}
+    pub fields : s.frame.fields ≡ kinds.fields
+    pub holds : FitsHeld s.frame.held env.held
+    pub callers : s.frame.outside ≡ above
 
   abbrev pub FitsExit : Option Env → State → Type 0
   FitsExit None s = ⊥
   FitsExit (Some env) s = FitsState env s
 
-  abbrev pub FitsReturn : Option Kind → Value → Type 0
-  FitsReturn None v = ⊥
-  FitsReturn (Some k) v = IsOf width v k
-
-  -- a stop is no error, and one of these exits
+  -- a stop is one of these exits, and no error but for what callers hold
   abbrev pub FitsStop : Exits → Stop → State → Type 0
-  FitsStop x (Error e) s = ⊥
-  FitsStop x (Returned v) s = FitsReturn x.returned v × FitNames width kinds.shared s.names
+  FitsStop x (Error e) s = OnlyAbove x.least above e
+  FitsStop x (Returned v) s = FitsReturn width x.returned v × FitNames width kinds.shared s.names
   FitsStop x (Broke at) s = FitsExit x.broke s
   FitsStop x (Continued at) s = FitsExit x.continued s
 
-  -- from so many steps: no error, as the rules say, within the cost, and short of steps only where fewer were there
+  -- from so many steps: no error but for what callers hold, as the rules say, within the cost, and short of steps only where fewer were there
   abbrev pub IsSafe : {V K : Type 0} → (V → K → State → Type 0) → ℕ → Judged K → Out V → Type 0
   IsSafe P before (Stops r) out = Unit {0}
   IsSafe P before (Goes k env x n) (state.Goes v s) = P v k s × FitsState env s × (before ≤ s.steps + n)
@@ -112,15 +129,19 @@ module _ (width : ℕ) (kinds : NameKinds) where
   IsSafe P before (Goes k env x n) (NoAnswer s) = Unit {0}
   IsSafe P before (Goes k env x n) (Spent s) = before < n
 
-  -- a call meets no error, gives what is known of it within its bound, and leaves the frame alone
-  abbrev pub IsCalled : Yield → ℕ → Frame → ℕ → Out (Option Value) → Type 0
-  IsCalled y n frame before (state.Goes v s) = FitsYield v y × (s.frame ≡ frame) × FitNames width kinds.shared s.names × (before ≤ s.steps + n)
-  IsCalled y n frame before (Halts stop s) = ⊥
-  IsCalled y n frame before (NoAnswer s) = Unit {0}
-  IsCalled y n frame before (Spent s) = before < n
+module _ (width : ℕ) (kinds : NameKinds) where
+  -- a call of an accepted method gives what is known of it within its bound, and leaves the frame alone; it meets no error, but
+  -- where the caller or its callers hold a level above the least that the method takes
+  abbrev pub IsCalled : Accepted → Frame → ℕ → Out (Option Value) → Type 0
+  IsCalled m frame before (state.Goes v s) =
+      FitsYield width v m.result × (s.frame ≡ frame) × FitNames width kinds.shared s.names × (before ≤ s.steps + m.bound)
+  IsCalled m frame before (Halts (Error e) s) = OnlyAbove m.least (held_level frame) e × (before ≤ s.steps + m.bound)
+  IsCalled m frame before (Halts stop s) = ⊥
+  IsCalled m frame before (NoAnswer s) = Unit {0}
+  IsCalled m frame before (Spent s) = before < m.bound
 
   pub record AreCalls (callee : ℕ → Seen) (call : Place → ℕ → List Value → M (Option Value)) : Type 0 where
-    pub each : (p : Place) (k : ℕ) (m : Accepted) (vs : List Value) (script : List Event) (s : State) → (callee k).accepted ≡ Some m → FitAll width vs m.args → FitNames width kinds.shared s.names → FitScript width kinds.shared script → IsCalled m.result m.bound s.frame s.steps ((call p k vs).run script s)
+    pub each : (p : Place) (k : ℕ) (m : Accepted) (vs : List Value) (script : List Event) (s : State) → (callee k).accepted ≡ Some m → FitAll width vs m.args → FitNames width kinds.shared s.names → FitScript width kinds.shared script → IsCalled m s.frame s.steps ((call p k vs).run script s)
 
 -- whatever a call is, it leaves its caller's frame alone, and stops by an error or not at all
 abbrev pub IsTame : Frame → Out (Option Value) → Type 0

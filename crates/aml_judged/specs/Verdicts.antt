@@ -6,7 +6,7 @@ use Rattle.aml_meaning.specs.Within.{Callee, Methods}
 use Rattle.aml_judged.specs.Causes.{Refusal}
 use Rattle.aml_judged.specs.Known.{Env}
 use Rattle.aml_judged.specs.Judged.{Yield, Always, Sometimes, Never, Accepted, Seen, Around, Judged, Goes, Stops}
-use Rattle.aml_judged.specs.Bodies.{shared_only, judged_body, entry}
+use Rattle.aml_judged.specs.Bodies.{shared_only, judged_method, entry}
 use Rattle.aml_judged.specs.Causes as cause
 
 -- by whether the end of the body is reached, and the Returns that count
@@ -33,7 +33,7 @@ bounded false r a = Err r
 
 -- the verdict of a method whose body is judged: V11 is told last, at the method's opcode
 abbrev pub verdict_of : Bool → Refusal → List Kind → Judged (Unit {0}) → Verdict
-verdict_of short late args (Goes u env x n) = bounded (short && (none_left x.broke x.continued && nat_lt n most_steps)) late (record { args = args; result = result_of env.counts x.returned; bound = n })
+verdict_of short late args (Goes u env x n) = bounded (short && (none_left x.broke x.continued && nat_lt n most_steps)) late (record { args = args; result = result_of env.counts x.returned; bound = n; least = x.least })
 verdict_of short late args (Stops r) = Err r
 
 abbrev pub accepted_of : Option Verdict → Option Accepted
@@ -73,7 +73,7 @@ module _ (all : Judging) where
   -- a method's verdict, where its body parses, by those of the methods that it calls
   abbrev pub verdict_by : (ℕ → Option Accepted) → ℕ → Option Callee → Option Verdict
   verdict_by known k None = None
-  verdict_by known k (Some m) = Some (verdict_of (is_short 64 k) (record { table = m.table; at = m.opcode; why = cause.BoundTooLarge }) (all.args k) (judged_body (around_for known k m) m.body (entry (all.args k))))
+  verdict_by known k (Some m) = Some (verdict_of (is_short 64 k) (record { table = m.table; at = m.opcode; why = cause.BoundTooLarge }) (all.args k) (judged_method (around_for known k m) m.opcode m.body (entry (all.args k))))
 
   -- the accepted methods
   pub record AreAccepted (known : ℕ → Option Accepted) : Type 0 where

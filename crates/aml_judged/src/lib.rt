@@ -14,11 +14,12 @@ ghost use Rattle.aml_judged.specs.Chains.{ChainsAreCounted};
 ghost use Rattle.aml_judged.specs.Events.{FieldsCost};
 ghost use Rattle.aml_judged.specs.Fine.{FineParts};
 ghost use Rattle.aml_judged.specs.InPlace.{ExitsAreJoined, PartsAreJoined};
+ghost use Rattle.aml_judged.specs.Integers.{IntegersAlone};
 ghost use Rattle.aml_judged.specs.Keeps.{TermsKeepLocals};
 ghost use Rattle.aml_judged.specs.Laws.{OrderAnswers, VerdictsAreOne, VerdictsMean};
-ghost use Rattle.aml_judged.specs.Mutexes.{MutexesHold};
 
-/// A method that is accepted meets no error, and ends within its bound, or a read of it has no answer.
+/// A method that is accepted meets no error, where its callers hold no mutex above the least level that it
+/// takes, and ends within its bound, or a read of it has no answer.
 pub fn verdicts_mean()
     ensures { VerdictsMean }
 {}
@@ -59,7 +60,7 @@ pub fn evaluations_count_down()
     ensures effects { FineParts (Unit {0}) (Option Value) }
 {}
 
-/// In a miniature with mutexes: what is judged fine takes and drops them in order, whoever calls it.
-pub fn mutexes_hold()
-    ensures { MutexesHold }
+/// In an integer-only method locals, arguments, names of integers and operands hold integers alone.
+pub fn integers_alone()
+    ensures { IntegersAlone }
 {}
