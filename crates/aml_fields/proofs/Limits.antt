@@ -26,15 +26,15 @@ record Paced {V : Type 0} (n : ℕ) (s : State) (o more : Out V) : Type 0 where
   begins : BeginsWith o more
   grows : IsPrefix s.log (state_of o).log
 
-abbrev Paces : {V : Type 0} → ℕ → M V → Type 0
-Paces n m = (script : List Event) (s : State) (k : ℕ) → Paced n s (m.run script s) (m.run script (with_steps s (s.steps + k)))
+record Paces {V : Type 0} (n : ℕ) (m : M V) : Type 0 where
+  run : (script : List Event) (s : State) (k : ℕ) → Paced n s (m.run script s) (m.run script (with_steps s (s.steps + k)))
 
 paces_as : {V : Type 0} (n l : ℕ) (m : M V) → n ≡ l → Paces n m → Paces l m
 paces_as n l m e h = subst (λ i. Paces i m) e h
 
 give_paces : {V : Type 0} (v : V) → Paces 0 (give v)
 unfolding give
-give_paces v script s k = record { goes = (omega arith, omega arith); begins = tt; grows = prefix_refl s.log }
+give_paces v = record { run = λ script s k. record { goes = (omega arith, omega arith); begins = tt; grows = prefix_refl s.log } }
 
 -- one part, and then another
 goes_more : {W : Type 0} (n l : ℕ) (s t : State) (o : Out W) → s.steps ≡ t.steps + n → length t.log ≡ length s.log + n → GoesBy l t o → GoesBy (n + l) s o
@@ -67,8 +67,9 @@ then_paces n l s k (Spent t) more f stays h next = record {
 
 both_pace : {V W : Type 0} (n l : ℕ) (m : M V) (f : V → M W) → Paces n m → ((v : V) → Paces l (f v)) → Paces (n + l) (m >>= f)
 unfolding ◌>>=◌
-both_pace n l m f h g script s k =
-    then_paces n l s k (m.run script s) (m.run script (with_steps s (s.steps + k))) (λ v t. (f v).run script t) (m.stays script s k) (h script s k) (λ v t. g v script t k)
+both_pace n l m f h g = record {
+  run = λ script s k. then_paces n l s k (m.run script s) (m.run script (with_steps s (s.steps + k))) (λ v t. (f v).run script t) (m.stays script s k) (h.run script s k) (λ v t. (g v).run script t k);
+}
 
 -- one event, behind its step
 abbrev OneEvent : {V : Type 0} → State → Out V → Type 0
@@ -93,7 +94,7 @@ one_paces n s (Goes v t) more e h =
       grows = one_grows (with_steps s n) (Goes v t) h;
     }
 one_paces n s (Halts stop t) more e h = absurd h
-one_paces n s (NoAnswer t) more e h = record { goes = tt; begins = tt; grows = one_grows (with_steps s n) (NoAnswer t) h }
+one_paces {V} n s (NoAnswer t) more e h = record { goes = tt; begins = tt; grows = one_grows {V = V} (with_steps s n) (NoAnswer t) h }
 one_paces n s (Spent t) more e h = absurd h
 
 step_grows : {V : Type 0} (k : ℕ) (s : State) (f : State → Out V) → ((j : ℕ) → OneEvent (with_steps s j) (f (with_steps s j))) → IsPrefix s.log (state_of (take_step k (with_steps s k) f)).log
@@ -118,27 +119,27 @@ answer_one access None s = refl
 
 read_paces : (access : Access) → Paces 1 (read_unit access)
 unfolding read_unit paid
-read_paces access script s k = step_paces s.steps k s _ refl (λ j. answer_one access (slice_get script (length s.log)) (with_steps s j))
+read_paces access = record { run = λ script s k. step_paces s.steps k s (λ t. answer access (slice_get script (length t.log)) t) refl (λ j. answer_one access (slice_get script (length s.log)) (with_steps s j)) }
 
 event_paces : (event : Event) → Paces 1 (make_event event)
 unfolding make_event paid
-event_paces event script s k = step_paces s.steps k s _ refl (λ j. (refl, (event, refl)))
+event_paces event = record { run = λ script s k. step_paces s.steps k s (λ t. Goes tt (with_event t event)) refl (λ j. (refl, (event, refl))) }
 
 -- fields, however their units are reached
 reads_pace : {V : Type 0} (n : ℕ) (read : ℕ → M ℕ) (made : List ℕ → V) → ((u : ℕ) → Paces n (read u)) → (k u : ℕ) (answers : List ℕ) → Paces (k * n) (read_from read made k u answers)
-reads_pace n read made h zero u answers = paces_as 0 (0 * n) _ (omega arith) (give_paces _)
+reads_pace n read made h zero u answers = paces_as 0 (0 * n) (give (made answers)) (omega arith) (give_paces (made answers))
 reads_pace n read made h (suc k) u answers =
-    paces_as (n + k * n) (suc k * n) _ (omega arith) (both_pace n (k * n) (read u) _ (h u) (λ answer. reads_pace n read made h k (suc u) (answers ++ answer ∷ [])))
+    paces_as (n + k * n) (suc k * n) (read_from read made (suc k) u answers) (omega arith) (both_pace n (k * n) (read u) (λ answer. read_from read made k (suc u) (answers ++ answer ∷ [])) (h u) (λ answer. reads_pace n read made h k (suc u) (answers ++ answer ∷ [])))
 
 other_paces : (n : ℕ) (others : OtherBits) (width : ℕ) (read : M ℕ) → Paces n read → Paces (others_cost false others n) (other_bits others width read)
 other_paces n Preserve width read h = h
 other_paces n Ones width read h = give_paces _
 other_paces n Zeros width read h = give_paces _
 
-whole_paces : (n : ℕ) (others : OtherBits) → Paces (others_cost true others n) (give 0)
-whole_paces n Preserve = give_paces 0
-whole_paces n Ones = give_paces 0
-whole_paces n Zeros = give_paces 0
+whole_paces : (n : ℕ) (others : OtherBits) → Paces {V = ℕ} (others_cost true others n) (give 0)
+whole_paces n Preserve = give_paces {V = ℕ} 0
+whole_paces n Ones = give_paces {V = ℕ} 0
+whole_paces n Zeros = give_paces {V = ℕ} 0
 
 others_pace : (n : ℕ) (whole : Bool) (others : OtherBits) (width : ℕ) (read : M ℕ) → Paces n read → Paces (others_cost whole others n) (others_of whole others width read)
 others_pace n true others width read h = whole_paces n others
@@ -195,7 +196,7 @@ plan_paces (Banked b) = banked_paces b
 plan_paces (Indexed x) = indexed_paces x
 
 has_events : {V : Type 0} (n : ℕ) (m : M V) → Paces n m → HasEvents n m
-has_events n m h script s k = let p = h script s k in (p.goes, p.begins)
+has_events n m h script s k = let p = h.run script s k in (p.goes, p.begins)
 
 integer_events : (f : AnyField) → HasEvents (read_count f) (read_integer f)
 unfolding read_integer read_count
