@@ -1,5 +1,6 @@
 #!/usr/bin/env python3
-"""Runs the built program over the stored cases, and over its rows (bench/rows.py).
+"""Runs the built program over the stored cases, and over its rows (bench/rows.py); and compares the README's example
+with its file (bench/readme.py).
 
     python3 bench/cases.py
     rt ci | python3 bench/cases.py after
@@ -28,6 +29,7 @@ import subprocess
 import sys
 import tempfile
 
+import readme
 import rows
 
 TOP = os.path.dirname(os.path.dirname(os.path.abspath(__file__)))
@@ -118,6 +120,10 @@ def main(words):
         for line in found:
             print(f"case {name}: {line}")
         passed, failed = passed + (not found), failed + bool(found)
+    unlike = readme.found()
+    for line in unlike:
+        print(f"readme: {line}")
+    passed, failed = passed + (not unlike), failed + bool(unlike)
     right, wrong = rows.counts(program, rows.all_files())
     passed, failed = passed + right, failed + wrong
     print(f"{passed} passed, {failed} failed")

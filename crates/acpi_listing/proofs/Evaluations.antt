@@ -16,7 +16,8 @@ use Rattle.acpi_listing.specs.Files.{Answers}
 use Rattle.acpi_listing.specs.Inputs.{OpensInputs, ReadsInputs, tables_of}
 use Rattle.acpi_listing.specs.Loading.{IsNamespace, Loads, interfaces_of}
 use Rattle.acpi_listing.specs.Registers.{OpensRegisters, ReadsRegisters}
-use Rattle.aml_regions.specs.declared.registers.RegisterFile.{RegisterFile}
+use Rattle.aml_regions.specs.Registers.{contents}
+use Rattle.aml_registers.specs.declared.registers.Registers.{Registers}
 use Rattle.acpi_listing.specs.Steps.{Step, Then, Obtains, Still, Tells, Writes}
 use Rattle.acpi_listing.specs.Commands.{EvaluatesBody, EvaluatesFiles, EvaluatesTables, Finds, Fit, IsMeant, IsMethodAt, ListsNames, ReadsArguments, ReadsBody, Takes, evaluation_text, outcome_status}
 use Rattle.acpi_listing.specs.declared.fault.Fault.{Fault}
@@ -32,59 +33,59 @@ pub known_texts : (interfaces : List (List ℕ)) (tables : List (List ℕ)) (ns 
 known_texts interfaces tables ns passed known same are loaded = (loaded.0, loaded.1 ∙ ap bytes_in same ∙ are)
 
 -- what stands behind the load
-abbrev behind_load : List ℕ → List Value → ℕ → Shown → Step (Unit {0}) ℕ
-behind_load word arguments steps ns =
-    Then (Obtains (Finds ns word)) (λ found. Then (Obtains (ReadsBody ns found.0 found.1)) (EvaluatesBody ns found arguments steps))
+abbrev behind_load : (ℕ → ℕ → ℕ) → List ℕ → List Value → ℕ → Shown → Step (Unit {0}) ℕ
+behind_load bytes word arguments steps ns =
+    Then (Obtains (Finds ns word)) (λ found. Then (Obtains (ReadsBody ns found.0 found.1)) (EvaluatesBody bytes ns found arguments steps))
 
 -- behind the load
-pub after_load : (word : List ℕ) (arguments : List Value) (steps : ℕ) (interfaces : List (List ℕ)) (tables : List (List ℕ)) (ns : Shown) (held holds : Option (List ℕ)) (r : Result ℕ Stop)
-    → IsNamespace interfaces tables ns → Writes (behind_load word arguments steps ns) tt tt held holds r
-    → Writes (EvaluatesTables word arguments steps interfaces tables) tt tt held holds r
-after_load word arguments steps interfaces tables ns held holds r loaded = given (Loads interfaces tables) (behind_load word arguments steps) tt tt held holds ns r loaded
+pub after_load : (bytes : ℕ → ℕ → ℕ) (word : List ℕ) (arguments : List Value) (steps : ℕ) (interfaces : List (List ℕ)) (tables : List (List ℕ)) (ns : Shown) (held holds : Option (List ℕ)) (r : Result ℕ Stop)
+    → IsNamespace interfaces tables ns → Writes (behind_load bytes word arguments steps ns) tt tt held holds r
+    → Writes (EvaluatesTables bytes word arguments steps interfaces tables) tt tt held holds r
+after_load bytes word arguments steps interfaces tables ns held holds r loaded = given (Loads interfaces tables) (behind_load bytes word arguments steps) tt tt held holds ns r loaded
 
 -- behind the method
-pub after_find : (word : List ℕ) (arguments : List Value) (steps : ℕ) (interfaces : List (List ℕ)) (tables : List (List ℕ)) (ns : Shown) (id : ℕ) (m : Method) (held holds : Option (List ℕ)) (r : Result ℕ Stop)
+pub after_find : (bytes : ℕ → ℕ → ℕ) (word : List ℕ) (arguments : List Value) (steps : ℕ) (interfaces : List (List ℕ)) (tables : List (List ℕ)) (ns : Shown) (id : ℕ) (m : Method) (held holds : Option (List ℕ)) (r : Result ℕ Stop)
     → IsNamespace interfaces tables ns → IsMethodAt ns word id m
-    → Writes (Then (Obtains (ReadsBody ns id m)) (EvaluatesBody ns (id, m) arguments steps)) tt tt held holds r
-    → Writes (EvaluatesTables word arguments steps interfaces tables) tt tt held holds r
-after_find word arguments steps interfaces tables ns id m held holds r loaded names does =
-    after_load word arguments steps interfaces tables ns held holds r loaded
-    (given (Finds ns word) (λ found. Then (Obtains (ReadsBody ns found.0 found.1)) (EvaluatesBody ns found arguments steps)) tt tt held holds (id, m) r names does)
+    → Writes (Then (Obtains (ReadsBody ns id m)) (EvaluatesBody bytes ns (id, m) arguments steps)) tt tt held holds r
+    → Writes (EvaluatesTables bytes word arguments steps interfaces tables) tt tt held holds r
+after_find bytes word arguments steps interfaces tables ns id m held holds r loaded names does =
+    after_load bytes word arguments steps interfaces tables ns held holds r loaded
+    (given (Finds ns word) (λ found. Then (Obtains (ReadsBody ns found.0 found.1)) (EvaluatesBody bytes ns found arguments steps)) tt tt held holds (id, m) r names does)
 
 -- behind the body's reading
-pub after_body : (word : List ℕ) (arguments : List Value) (steps : ℕ) (interfaces : List (List ℕ)) (tables : List (List ℕ)) (ns : Shown) (id : ℕ) (m : Method) (body : Result (List Tree) Refusal) (held holds : Option (List ℕ)) (r : Result ℕ Stop)
+pub after_body : (bytes : ℕ → ℕ → ℕ) (word : List ℕ) (arguments : List Value) (steps : ℕ) (interfaces : List (List ℕ)) (tables : List (List ℕ)) (ns : Shown) (id : ℕ) (m : Method) (body : Result (List Tree) Refusal) (held holds : Option (List ℕ)) (r : Result ℕ Stop)
     → IsNamespace interfaces tables ns → IsMethodAt ns word id m → ReadsBody ns id m (Ok body)
-    → Writes (EvaluatesBody ns (id, m) arguments steps body) tt tt held holds r
-    → Writes (EvaluatesTables word arguments steps interfaces tables) tt tt held holds r
-after_body word arguments steps interfaces tables ns id m body held holds r loaded names reads does =
-    after_find word arguments steps interfaces tables ns id m held holds r loaded names
-    (given (ReadsBody ns id m) (EvaluatesBody ns (id, m) arguments steps) tt tt held holds body r reads does)
+    → Writes (EvaluatesBody bytes ns (id, m) arguments steps body) tt tt held holds r
+    → Writes (EvaluatesTables bytes word arguments steps interfaces tables) tt tt held holds r
+after_body bytes word arguments steps interfaces tables ns id m body held holds r loaded names reads does =
+    after_find bytes word arguments steps interfaces tables ns id m held holds r loaded names
+    (given (ReadsBody ns id m) (EvaluatesBody bytes ns (id, m) arguments steps) tt tt held holds body r reads does)
 
 -- behind the evaluation
-pub after_outcome : (word : List ℕ) (arguments : List Value) (steps : ℕ) (interfaces : List (List ℕ)) (tables : List (List ℕ)) (ns : Shown) (id : ℕ) (m : Method) (ts : List Tree) (outcome : Outcome × List Event) (held holds : Option (List ℕ)) (r : Result ℕ Stop)
-    → IsNamespace interfaces tables ns → IsMethodAt ns word id m → IsBodyOf ns id m ts → Takes ns m arguments → IsMeant ns id m (trees ts) arguments steps (Ok outcome)
+pub after_outcome : (bytes : ℕ → ℕ → ℕ) (word : List ℕ) (arguments : List Value) (steps : ℕ) (interfaces : List (List ℕ)) (tables : List (List ℕ)) (ns : Shown) (id : ℕ) (m : Method) (ts : List Tree) (outcome : Outcome × List Event) (held holds : Option (List ℕ)) (r : Result ℕ Stop)
+    → IsNamespace interfaces tables ns → IsMethodAt ns word id m → IsBodyOf ns id m ts → Takes ns m arguments → IsMeant ns bytes id m (trees ts) arguments steps (Ok outcome)
     → Writes (Tells (evaluation_text ns.entries outcome) (outcome_status outcome.0)) (tt {0}) (tt {0}) held holds r
-    → Writes (EvaluatesTables word arguments steps interfaces tables) tt tt held holds r
-after_outcome word arguments steps interfaces tables ns id m ts outcome held holds r loaded names body takes meant does =
-    after_body word arguments steps interfaces tables ns id m (Ok ts) held holds r loaded names body
-    (given (Fit ns m arguments) (λ _. Then (Obtains (IsMeant ns id m (trees ts) arguments steps)) (λ o. Tells (evaluation_text ns.entries o) (outcome_status o.0))) tt tt held holds tt r takes
-    (given (IsMeant ns id m (trees ts) arguments steps) (λ o. Tells (evaluation_text ns.entries o) (outcome_status o.0)) tt tt held holds outcome r meant does))
+    → Writes (EvaluatesTables bytes word arguments steps interfaces tables) tt tt held holds r
+after_outcome bytes word arguments steps interfaces tables ns id m ts outcome held holds r loaded names body takes meant does =
+    after_body bytes word arguments steps interfaces tables ns id m (Ok ts) held holds r loaded names body
+    (given (Fit ns m arguments) (λ _. Then (Obtains (IsMeant ns bytes id m (trees ts) arguments steps)) (λ o. Tells (evaluation_text ns.entries o) (outcome_status o.0))) tt tt held holds tt r takes
+    (given (IsMeant ns bytes id m (trees ts) arguments steps) (λ o. Tells (evaluation_text ns.entries o) (outcome_status o.0)) tt tt held holds outcome r meant does))
 
 -- an evaluation that wants memory
-pub no_outcome : (word : List ℕ) (arguments : List Value) (steps : ℕ) (interfaces : List (List ℕ)) (tables : List (List ℕ)) (ns : Shown) (id : ℕ) (m : Method) (ts : List Tree) (f : Fault) (held : Option (List ℕ)) (r : Result ℕ Stop)
-    → IsErrAnd r (λ s. s ≡ Faulty f) → IsNamespace interfaces tables ns → IsMethodAt ns word id m → IsBodyOf ns id m ts → Takes ns m arguments → IsMeant ns id m (trees ts) arguments steps (Err f)
-    → Writes (EvaluatesTables word arguments steps interfaces tables) tt tt held held r
-no_outcome word arguments steps interfaces tables ns id m ts f held r is loaded names body takes meant =
-    after_body word arguments steps interfaces tables ns id m (Ok ts) held held r loaded names body
-    (given (Fit ns m arguments) (λ _. Then (Obtains (IsMeant ns id m (trees ts) arguments steps)) (λ o. Tells (evaluation_text ns.entries o) (outcome_status o.0))) tt tt held held tt r takes
-    (given_fault (IsMeant ns id m (trees ts) arguments steps) (λ o. Tells (evaluation_text ns.entries o) (outcome_status o.0)) tt held f r is meant))
+pub no_outcome : (bytes : ℕ → ℕ → ℕ) (word : List ℕ) (arguments : List Value) (steps : ℕ) (interfaces : List (List ℕ)) (tables : List (List ℕ)) (ns : Shown) (id : ℕ) (m : Method) (ts : List Tree) (f : Fault) (held : Option (List ℕ)) (r : Result ℕ Stop)
+    → IsErrAnd r (λ s. s ≡ Faulty f) → IsNamespace interfaces tables ns → IsMethodAt ns word id m → IsBodyOf ns id m ts → Takes ns m arguments → IsMeant ns bytes id m (trees ts) arguments steps (Err f)
+    → Writes (EvaluatesTables bytes word arguments steps interfaces tables) tt tt held held r
+no_outcome bytes word arguments steps interfaces tables ns id m ts f held r is loaded names body takes meant =
+    after_body bytes word arguments steps interfaces tables ns id m (Ok ts) held held r loaded names body
+    (given (Fit ns m arguments) (λ _. Then (Obtains (IsMeant ns bytes id m (trees ts) arguments steps)) (λ o. Tells (evaluation_text ns.entries o) (outcome_status o.0))) tt tt held held tt r takes
+    (given_fault (IsMeant ns bytes id m (trees ts) arguments steps) (λ o. Tells (evaluation_text ns.entries o) (outcome_status o.0)) tt held f r is meant))
 
 -- what stands behind the inputs, behind the registers, and behind the arguments
-abbrev behind_inputs : {F : Type 0} → List ℕ → List Value → ℕ → Option (List ℕ) → Inputs → Step F ℕ
-behind_inputs word arguments steps osi inputs = Still (EvaluatesTables word arguments steps (interfaces_of osi) (tables_of inputs))
+abbrev behind_inputs : {F : Type 0} → Registers → List ℕ → List Value → ℕ → Option (List ℕ) → Inputs → Step F ℕ
+behind_inputs registers word arguments steps osi inputs = Still (EvaluatesTables (contents registers.file) word arguments steps (interfaces_of osi) (tables_of inputs))
 
-abbrev behind_registers : {F : Type 0} → Answers F → InputNames → List ℕ → ℕ → Option (List ℕ) → List Value → RegisterFile → Step F ℕ
-behind_registers answers names word steps osi arguments registers = Then (ReadsInputs answers names) (behind_inputs word arguments steps osi)
+abbrev behind_registers : {F : Type 0} → Answers F → InputNames → List ℕ → ℕ → Option (List ℕ) → List Value → Registers → Step F ℕ
+behind_registers answers names word steps osi arguments registers = Then (ReadsInputs answers names) (behind_inputs registers word arguments steps osi)
 
 abbrev behind_arguments : {F : Type 0} → Answers F → InputNames → List ℕ → Option (List ℕ) → ℕ → Option (List ℕ) → List Value → Step F ℕ
 behind_arguments answers names word regs steps osi arguments =
@@ -104,24 +105,24 @@ no_registers answers old new names word args regs arguments steps osi held f r i
     (quiet_fault (λ o x n. OpensRegisters answers o regs x n) (behind_registers answers names word steps osi arguments) old new held f r is opens)
 
 -- inputs that cannot be read
-pub no_inputs : {F : Type 0} (answers : Answers F) (old mid new : F) (names : InputNames) (word : List ℕ) (args regs : Option (List ℕ)) (arguments : List Value) (registers : RegisterFile) (steps : ℕ) (osi : Option (List ℕ)) (held : Option (List ℕ)) (f : Fault) (r : Result ℕ Stop)
+pub no_inputs : {F : Type 0} (answers : Answers F) (old mid new : F) (names : InputNames) (word : List ℕ) (args regs : Option (List ℕ)) (arguments : List Value) (registers : Registers) (steps : ℕ) (osi : Option (List ℕ)) (held : Option (List ℕ)) (f : Fault) (r : Result ℕ Stop)
     → IsErrAnd r (λ s. s ≡ Faulty f) → ListsArguments args arguments → OpensRegisters answers old regs (Ok registers) mid → OpensInputs answers mid names (Err f) new
     → Writes (EvaluatesFiles answers names word args regs steps osi) old new held held r
 no_inputs answers old mid new names word args regs arguments registers steps osi held f r is lists sets opens =
     given (ReadsArguments args) (behind_arguments answers names word regs steps osi) old new held held arguments r lists
     (quiet (λ o x n. OpensRegisters answers o regs x n) (behind_registers answers names word steps osi arguments) old mid new held held registers r sets
-    (quiet_fault (λ o x n. OpensInputs answers o names x n) (behind_inputs word arguments steps osi) mid new held f r is opens))
+    (quiet_fault (λ o x n. OpensInputs answers o names x n) (behind_inputs registers word arguments steps osi) mid new held f r is opens))
 
 -- inputs that were read
-pub inputs_evaluated : {F : Type 0} (answers : Answers F) (old mid new : F) (names : InputNames) (word : List ℕ) (args regs : Option (List ℕ)) (arguments : List Value) (registers : RegisterFile) (inputs : Inputs) (steps : ℕ) (osi : Option (List ℕ)) (held holds : Option (List ℕ)) (r : Result ℕ Stop)
+pub inputs_evaluated : {F : Type 0} (answers : Answers F) (old mid new : F) (names : InputNames) (word : List ℕ) (args regs : Option (List ℕ)) (arguments : List Value) (registers : Registers) (inputs : Inputs) (steps : ℕ) (osi : Option (List ℕ)) (held holds : Option (List ℕ)) (r : Result ℕ Stop)
     → ListsArguments args arguments → OpensRegisters answers old regs (Ok registers) mid → OpensInputs answers mid names (Ok inputs) new
-    → Writes (EvaluatesTables word arguments steps (interfaces_of osi) (tables_of inputs)) tt tt held holds r
+    → Writes (EvaluatesTables (contents registers.file) word arguments steps (interfaces_of osi) (tables_of inputs)) tt tt held holds r
     → Writes (EvaluatesFiles answers names word args regs steps osi) old new held holds r
 inputs_evaluated answers old mid new names word args regs arguments registers inputs steps osi held holds r lists sets opens does =
     given (ReadsArguments args) (behind_arguments answers names word regs steps osi) old new held holds arguments r lists
     (quiet (λ o x n. OpensRegisters answers o regs x n) (behind_registers answers names word steps osi arguments) old mid new held holds registers r sets
-    (quiet (λ o x n. OpensInputs answers o names x n) (behind_inputs word arguments steps osi) mid new new held holds inputs r opens
-    (still (EvaluatesTables word arguments steps (interfaces_of osi) (tables_of inputs)) new held holds r does)))
+    (quiet (λ o x n. OpensInputs answers o names x n) (behind_inputs registers word arguments steps osi) mid new new held holds inputs r opens
+    (still (EvaluatesTables (contents registers.file) word arguments steps (interfaces_of osi) (tables_of inputs)) new held holds r does)))
 
 -- what stands behind the inputs of `names`, and behind their load
 abbrev behind_tables : {F : Type 0} → Inputs → Step F ℕ

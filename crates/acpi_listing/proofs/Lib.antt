@@ -7,3 +7,4 @@ pub mod LineWords
 pub mod ByWords
 pub mod Chains
 pub mod Telling
+pub mod Started

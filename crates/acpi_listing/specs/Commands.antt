@@ -16,6 +16,8 @@ use Rattle.aml_contents.specs.FirstKinds.{greatest_of}
 use Rattle.aml_contents.specs.FirstContents.{first_contents, first_kinds}
 use Rattle.aml_meaning.specs.State as State
 use Rattle.aml_regions.specs.Events.{Event}
+use Rattle.aml_regions.specs.Registers.{contents}
+use Rattle.aml_registers.specs.Answers.{AnswerReads}
 use Rattle.aml_plain.specs.Methods.{Evaluates}
 use Rattle.aml_meaning.specs.declared.outcome.Outcome.{Outcome}
 use Rattle.aml_meaning.specs.declared.outcome.Outcome.TheVariants.{Done, AmlError, OutOfSteps}
@@ -97,14 +99,17 @@ Fit ns m arguments (Err f) = (Takes ns m arguments → ⊥) × (f ≡ nowhere ca
 abbrev pub names_first : Shown → State.Names
 names_first ns = record { contents = first_contents ns; kinds = first_kinds ns }
 
--- an outcome and the events until then, which the meaning has from what names hold first and no event, whatever names hold afterwards
-pub record IsOutcome (ns : Shown) (id : ℕ) (m : Method) (body : Trees) (arguments : List Value) (steps : ℕ) (outcome : Outcome) (events : List Event) : Type 0 where
+-- an outcome and the events until then, which the meaning has from what names hold first, whatever happened before, and whatever names
+-- hold afterwards; and the reads among the events are answered as registers of these bytes answer them
+pub record IsOutcome (ns : Shown) (bytes : ℕ → ℕ → ℕ) (id : ℕ) (m : Method) (body : Trees) (arguments : List Value) (steps : ℕ) (outcome : Outcome) (events : List Event) : Type 0 where
   pub names : State.Names
-  pub evaluates : Evaluates ns id m body arguments steps (names_first ns) [] (Ok outcome) names events
+  pub before : List Event
+  pub evaluates : Evaluates ns id m body arguments steps (names_first ns) before (Ok outcome) names (before ++ events)
+  pub answered : AnswerReads bytes events
 
-abbrev pub IsMeant : Shown → ℕ → Method → Trees → List Value → ℕ → Result (Outcome × List Event) Fault → Type 0
-IsMeant ns id m body arguments steps (Ok (outcome, events)) = IsOutcome ns id m body arguments steps outcome events
-IsMeant ns id m body arguments steps (Err f) = f ≡ nowhere cause.NoMemory
+abbrev pub IsMeant : Shown → (ℕ → ℕ → ℕ) → ℕ → Method → Trees → List Value → ℕ → Result (Outcome × List Event) Fault → Type 0
+IsMeant ns bytes id m body arguments steps (Ok (outcome, events)) = IsOutcome ns bytes id m body arguments steps outcome events
+IsMeant ns bytes id m body arguments steps (Err f) = f ≡ nowhere cause.NoMemory
 
 -- the lines of the events of an evaluation, and behind them that of its outcome
 abbrev pub evaluation_text : Entries → Outcome × List Event → List ℕ
@@ -126,28 +131,29 @@ ListsNames answers names =
 abbrev pub printed_path : Shown → ℕ → List ℕ
 printed_path ns id = path_text (path_of ns.entries id)
 
--- `eval` of a body: a refused one has its line; else the arguments must fit, and the events and the outcome have their lines
-abbrev pub EvaluatesBody : Shown → ℕ × Method → List Value → ℕ → Result (List Tree) Refusal → Step (Unit {0}) ℕ
-EvaluatesBody ns (id, m) arguments steps (Err refusal) = Tells (refusal_line (printed_path ns id) m.table refusal) 3
-EvaluatesBody ns (id, m) arguments steps (Ok ts) =
+-- `eval` of a body, over registers of these bytes: a refused one has its line; else the arguments must fit, and the events and the
+-- outcome have their lines
+abbrev pub EvaluatesBody : (ℕ → ℕ → ℕ) → Shown → ℕ × Method → List Value → ℕ → Result (List Tree) Refusal → Step (Unit {0}) ℕ
+EvaluatesBody bytes ns (id, m) arguments steps (Err refusal) = Tells (refusal_line (printed_path ns id) m.table refusal) 3
+EvaluatesBody bytes ns (id, m) arguments steps (Ok ts) =
     Then (Obtains (Fit ns m arguments)) (λ _.
-    Then (Obtains (IsMeant ns id m (trees ts) arguments steps)) (λ ended.
+    Then (Obtains (IsMeant ns bytes id m (trees ts) arguments steps)) (λ ended.
     Tells (evaluation_text ns.entries ended) (outcome_status ended.0)))
 
--- `eval` of tables, where `_OSI` knows these texts: the load, the method of that path, its body
-abbrev pub EvaluatesTables : List ℕ → List Value → ℕ → List (List ℕ) → List (List ℕ) → Step (Unit {0}) ℕ
-EvaluatesTables word arguments steps interfaces tables =
+-- `eval` of tables, over registers of these bytes, where `_OSI` knows these texts: the load, the method of that path, its body
+abbrev pub EvaluatesTables : (ℕ → ℕ → ℕ) → List ℕ → List Value → ℕ → List (List ℕ) → List (List ℕ) → Step (Unit {0}) ℕ
+EvaluatesTables bytes word arguments steps interfaces tables =
     Then (Obtains (Loads interfaces tables)) (λ ns.
     Then (Obtains (Finds ns word)) (λ found.
-    Then (Obtains (ReadsBody ns found.0 found.1)) (EvaluatesBody ns found arguments steps)))
+    Then (Obtains (ReadsBody ns found.0 found.1)) (EvaluatesBody bytes ns found arguments steps)))
 
--- `eval`: the arguments, the registers, the files, their tables, where `_OSI` knows the text of `--osi`
+-- `eval`: the arguments, the registers, the files, their tables over these registers, where `_OSI` knows the text of `--osi`
 abbrev pub EvaluatesFiles : {F : Type 0} → Answers F → InputNames → List ℕ → Option (List ℕ) → Option (List ℕ) → ℕ → Option (List ℕ) → Step F ℕ
 EvaluatesFiles answers names word args regs steps osi =
     Then (Obtains (ReadsArguments args)) (λ arguments.
     Then (ReadsRegisters answers regs) (λ registers.
     Then (ReadsInputs answers names) (λ inputs.
-    Still (EvaluatesTables word arguments steps (interfaces_of osi) (tables_of inputs)))))
+    Still (EvaluatesTables (contents registers.file) word arguments steps (interfaces_of osi) (tables_of inputs)))))
 
 -- what the words ask for, or why there is nothing
 abbrev pub Asks : List (List ℕ) → Result Request Fault → Type 0

@@ -5,7 +5,7 @@ use Rattle.aml_regions.specs.Registers.{contents}
 use Rattle.aml_regions.specs.Text.{FailsToSet, TextSets}
 use Rattle.aml_regions.specs.declared.fault.RegistersFault.{RegistersFault}
 use Rattle.aml_regions.specs.declared.fault.RegistersFault.TheVariants.{NoMemory, BadRegs}
-use Rattle.aml_regions.specs.declared.registers.RegisterFile.{RegisterFile}
+use Rattle.aml_registers.specs.declared.registers.Registers.{Registers}
 use Rattle.acpi_listing.specs.Faults.{in_line, nowhere}
 use Rattle.acpi_listing.specs.Files.{Answers, Opens}
 use Rattle.acpi_listing.specs.Steps.{Step, Quietly}
@@ -18,19 +18,19 @@ registers_fault NoMemory = nowhere cause.NoMemory
 registers_fault (BadRegs line) = in_line cause.BadRegs line
 
 -- the registers that a text sets, others being 0
-abbrev pub SetsRegisters : List ℕ → Result RegisterFile Fault → Type 0
-SetsRegisters text (Ok file) = TextSets text (contents file)
+abbrev pub SetsRegisters : List ℕ → Result Registers Fault → Type 0
+SetsRegisters text (Ok registers) = TextSets text (contents registers.file)
 SetsRegisters text (Err f) = (e : RegistersFault) × FailsToSet text e × (f ≡ registers_fault e)
 
 -- the registers of the file of a name; without one all are 0
-abbrev pub OpensRegisters : {F : Type 0} → Answers F → F → Option (List ℕ) → Result RegisterFile Fault → F → Type 0
-OpensRegisters answers old None (Ok file) new = SameBytes (λ _ _. 0) (contents file) × (new ≡ old)
+abbrev pub OpensRegisters : {F : Type 0} → Answers F → F → Option (List ℕ) → Result Registers Fault → F → Type 0
+OpensRegisters answers old None (Ok registers) new = SameBytes (λ _ _. 0) (contents registers.file) × (new ≡ old)
 OpensRegisters answers old None (Err f) new = ⊥
-OpensRegisters answers old (Some name) (Ok file) new =
-    (text : List ℕ) × Opens answers old name (Ok text) new × SetsRegisters text (Ok file)
+OpensRegisters answers old (Some name) (Ok registers) new =
+    (text : List ℕ) × Opens answers old name (Ok text) new × SetsRegisters text (Ok registers)
 OpensRegisters answers old (Some name) (Err f) new =
     Opens answers old name (Err f) new ⊎ ((text : List ℕ) × Opens answers old name (Ok text) new × SetsRegisters text (Err f))
 
 -- the same as a step of a command
-abbrev pub ReadsRegisters : {F : Type 0} → Answers F → Option (List ℕ) → Step F RegisterFile
+abbrev pub ReadsRegisters : {F : Type 0} → Answers F → Option (List ℕ) → Step F Registers
 ReadsRegisters answers name = Quietly (λ old r new. OpensRegisters answers old name r new)

@@ -36,6 +36,19 @@ pub fn read_arguments(alloc: Global, text: &str) -> Result<Vec<Value>, Fault>
     Ok(arguments)
 }
 
+/// The first element that is no value, with its number, from 0. None where memory is wanted for an
+/// element before it, or where each is a value.
+pub(crate) fn bad_argument(alloc: Global, text: &str) -> Option<(usize, &str)> {
+    for (number, element) in text.split(',').enumerate() {
+        match read_argument(alloc, element) {
+            Ok(_) => {}
+            Err(fault) if fault.cause == FaultCause::BadArgs => return Some((number, element)),
+            Err(_) => return None,
+        }
+    }
+    None
+}
+
 // The value of one element.
 fn read_argument(alloc: Global, element: &str) -> Result<Value, Fault>
     ensures { Tries (λ v. IsArgument element.now (view v))

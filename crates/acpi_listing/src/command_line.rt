@@ -8,19 +8,23 @@ ghost use Rattle.acpi_listing.specs.Faults.{nowhere};
 ghost use Rattle.acpi_listing.specs.declared.fault.FaultCause.TheVariants as cause;
 
 use crate::fault::{Fault, FaultCause};
-use crate::program::{report, run, run_words};
+use crate::folder::with_folders;
+use crate::notes::{Notes, StandardError};
+use crate::program::{report, run_noted, run_words_noted};
 use crate::source::Source;
-use crate::words::words_error;
 use acpi_text::RunFault;
 use std::alloc::Global;
 use std::env;
 use std::io::{BufWriter, ErrorKind, Read, Write};
-use std::rt::Env;
+use std::rt::{Env, Files};
 
-/// The words of the command line, behind the program's name.
+/// The words of the command line, behind the program's name; in place of a folder among the files the
+/// tables' files in it.
 ///
 /// Fault: E520 where one is no UTF-8.
-pub fn command_words<R: Env + AllocGlobal>(rt: &R) -> Result<Vec<String>, Fault>
+pub fn command_words<R: Env + Files + Eprint + AllocGlobal + Clone + Drop>(
+    rt: &R,
+) -> Result<Vec<String>, Fault>
     ensures { IfErr result (λ f. (f ≡ nowhere cause.CommandLine) ⊎ (f ≡ nowhere cause.NoMemory)) }
 {
     let mut words = Vec::new(rt.alloc());
@@ -29,7 +33,7 @@ pub fn command_words<R: Env + AllocGlobal>(rt: &R) -> Result<Vec<String>, Fault>
             for word in all.skip(1) {
                 words.push(word)?;
             }
-            Ok(words)
+            Ok(with_folders(rt, words)?)
         }
         Err(error) => Err(fault_of_unread(error.kind())),
     }
@@ -62,7 +66,7 @@ pub fn run_program<R: Read, F: Source, W: Write + Drop, N: Eprint>(
         (writer_buffer out.new) result }
     ensures status { result ≤ 3 }
 {
-    let ended = run_either(alloc, words, input, files, out, notes);
+    let ended = run_either(alloc, words, input, files, out, &StandardError::new(notes));
     write_held(out, notes);
     match ended {
         Ok(status) if out.buffer().is_empty() => status,
@@ -71,7 +75,7 @@ pub fn run_program<R: Read, F: Source, W: Write + Drop, N: Eprint>(
 }
 
 // By the words, or without words by standard input.
-fn run_either<R: Read, F: Source, W: Write, N: Eprint>(
+fn run_either<R: Read, F: Source, W: Write, N: Notes>(
     alloc: Global,
     words: Result<Vec<String>, Fault>,
     input: &mut R,
@@ -87,25 +91,17 @@ fn run_either<R: Read, F: Source, W: Write, N: Eprint>(
     let words = match words {
         Ok(words) => words,
         Err(fault) => {
-            let why = match fault.cause {
+            notes.tell(match fault.cause {
                 FaultCause::NoMemory => "no memory for the words",
                 _ => "a word is no UTF-8",
-            };
-            let _ = notes.eprint("acpicheck: ");
-            let _ = notes.eprintln(why);
+            });
             return report(alloc, out, fault);
         }
     };
     if words.is_empty() {
-        return run(alloc, input, out);
+        return run_noted(alloc, input, notes, out);
     }
-    let ended = run_words(alloc, words.as_slice(), files, out);
-    if let Ok(2) = ended
-        && let Some(error) = words_error(alloc, words.as_slice())
-    {
-        let _ = notes.eprint(&error);
-    }
-    ended
+    run_words_noted(alloc, words.as_slice(), files, notes, out)
 }
 
 // Writes out what is still held. Standard error tells why that fails, but where nobody reads on.

@@ -4,7 +4,7 @@ ghost use Rattle.std.specs.Prelude.{◌≡◌, IfOk, vec_items};
 ghost use Rattle.acpi_listing.specs.Input.{IsAllOf};
 
 use crate::input::{INPUT_LIMIT, read_input};
-use crate::source::{Hint, Source, SourceFault};
+use crate::source::{Source, SourceFault};
 use std::alloc::{AllocError, Global};
 use std::io::Read;
 use std::rt::Files;
@@ -38,17 +38,6 @@ impl<R: Files + Eprint + AllocGlobal> Source for Disk<'_, R> {
                 Err(SourceFault::from(unread))
             }
         }
-    }
-
-    fn tell(&self, hint: Hint) {
-        let Hint::DeadExternals { table, at } = hint;
-        let _ = self.rt.eprint("acpicheck: at byte ");
-        let _ = self.rt.eprint(at);
-        let _ = self.rt.eprint(" of table ");
-        let _ = self.rt.eprint(table);
-        let _ = self.rt.eprintln(
-            " stands an If (Zero) that iasl writes round Externals: with --dead-externals they are read",
-        );
     }
 }
 

@@ -12,6 +12,8 @@ ghost use Rattle.aml_operators.specs.Tree as terms;
 ghost use Rattle.aml_operators.specs.Tree.{views};
 ghost use Rattle.aml_bodies.specs.Methods.{AreStatementsOf};
 ghost use Rattle.aml_regions.specs.EventViews.{events_of};
+ghost use Rattle.aml_regions.specs.Registers.{contents};
+ghost use Rattle.aml_regions.specs.Text.{TextSets};
 ghost use Rattle.acpi_listing.specs.Steps.{Tells, Tries, Writes};
 ghost use Rattle.acpi_listing.specs.Inputs.{tables_of};
 ghost use Rattle.acpi_listing.specs.Loading.{interfaces_of};
@@ -24,8 +26,10 @@ use crate::arguments::read_arguments;
 use crate::fault::{Fault, FaultCause, Stop};
 use crate::inputs::Inputs;
 use crate::load::load_counted;
+use crate::notes::Notes;
 use crate::regs::read_registers;
 use crate::source::Source;
+use crate::tell::{tell_argument, tell_misfit, tell_object};
 use crate::words::EvalRequest;
 use acpi_text::{RunFault, list_evaluation, list_events, list_refusal};
 use aml_contents::Names;
@@ -34,17 +38,19 @@ use aml_namespace::{Method, Namespace, Width};
 use aml_operators::Term;
 use aml_paths::ObjectId;
 use aml_plain::evaluate_tree;
-use aml_regions::{Event, RegisterFile};
+use aml_regions::Event;
+use aml_registers::Registers;
 use aml_tree::{Refusal, TreeFault};
 use aml_values::Value;
 use std::alloc::Global;
 use std::io::Write;
 
 /// Evaluates a method with a number of steps, and prints its events and how that ended.
-pub fn evaluate<F: Source, W: Write>(
+pub fn evaluate<F: Source, N: Notes, W: Write>(
     alloc: Global,
     request: &EvalRequest<'_>,
     files: &mut F,
+    notes: &N,
     out: &mut W,
 ) -> Result<u8, Stop>
     ensures status { IfOk result (λ status. status ≤ 3) }
@@ -54,19 +60,29 @@ pub fn evaluate<F: Source, W: Write>(
         (option_map (λ text. text.now) request.now.osi))
         files.old files.new (W.contents out.old) (W.contents out.new) result }
 {
-    let arguments = arguments_of(alloc, request)?;
-    let registers = read_registers(alloc, request.regs, files)?;
+    let arguments = arguments_of(alloc, request, notes)?;
+    let registers = read_registers(alloc, request.regs, files, notes)?;
     let inputs = Inputs::read(alloc, &request.inputs, files)?;
-    evaluate_inputs(alloc, request, arguments, registers, &inputs, &*files, out)
+    evaluate_inputs(alloc, request, arguments, registers, &inputs, notes, out)
 }
 
-fn arguments_of(alloc: Global, request: &EvalRequest<'_>) -> Result<Vec<Value>, Fault>
+fn arguments_of<N: Notes>(
+    alloc: Global,
+    request: &EvalRequest<'_>,
+    notes: &N,
+) -> Result<Vec<Value>, Fault>
     ensures { let args = option_map (λ text. text.now) request.now.args in
         Tries (λ vs. ListsArguments args (map view (vec_items vs)))
         (λ f. (f ≡ nowhere cause.BadArgs) × ListsBadArguments args) result }
 {
     match request.args {
-        Some(text) => read_arguments(alloc, text),
+        Some(text) => {
+            let read = read_arguments(alloc, text);
+            if read.is_err() {
+                tell_argument(alloc, notes, text);
+            }
+            read
+        }
         None => Ok(Vec::new(alloc)),
     }
 }
@@ -85,24 +101,25 @@ fn interfaces_of<'a>(alloc: Global, osi: Option<&'a str>) -> Result<Vec<&'a [u8]
 }
 
 // Evaluates a method of the tables that were read, over registers.
-fn evaluate_inputs<F: Source, W: Write>(
+fn evaluate_inputs<N: Notes, W: Write>(
     alloc: Global,
     request: &EvalRequest<'_>,
     arguments: Vec<Value>,
-    registers: RegisterFile,
+    registers: Registers,
     inputs: &Inputs,
-    files: &F,
+    notes: &N,
     out: &mut W,
 ) -> Result<u8, Stop>
-    requires { registers.events.items ≡ [] }
+    requires set { TextSets registers.text.items (contents registers.file) }
+    requires fresh { registers.file.events.items ≡ [] }
     ensures status { IfOk result (λ status. status ≤ 3) }
-    ensures printed { Writes (EvaluatesTables request.now.method.now (map view (vec_items arguments))
-        request.now.steps (interfaces_of (option_map (λ text. text.now) request.now.osi))
-        (tables_of inputs.now)) tt tt (W.contents out.old) (W.contents out.new) result }
+    ensures printed { Writes (EvaluatesTables (contents registers.file) request.now.method.now
+        (map view (vec_items arguments)) request.now.steps
+        (interfaces_of (option_map (λ text. text.now) request.now.osi)) (tables_of inputs.now)) tt tt (W.contents out.old) (W.contents out.new) result }
 {
     let known = interfaces_of(alloc, request.osi)?;
-    let namespace = load_counted(alloc, inputs, known.as_slice(), files)?;
-    let (id, method) = find_method(&namespace, request.method)?;
+    let namespace = load_counted(alloc, inputs, &request.inputs, known.as_slice(), notes)?;
+    let (id, method) = find_method(alloc, &namespace, request.method, notes)?;
     let body = match namespace.tree(alloc, id) {
         Ok(body) => body,
         Err(TreeFault::NoMemory) => return Err(Stop::Fault(Fault::nowhere(FaultCause::NoMemory))),
@@ -111,6 +128,7 @@ fn evaluate_inputs<F: Source, W: Write>(
         }
     };
     if !fits(&namespace, method, &arguments) {
+        tell_misfit(alloc, notes, &namespace, request.method, method, &arguments);
         return Err(Stop::Fault(Fault::nowhere(FaultCause::ArgsDontFit)));
     }
     let mut world = registers;
@@ -126,15 +144,17 @@ fn outcome_of(
     id: ObjectId,
     body: Vec<Term>,
     arguments: Vec<Value>,
-    world: &mut RegisterFile,
+    world: &mut Registers,
     steps: u64,
 ) -> Result<Outcome, Fault>
     requires known { IsSome (method_at (shown namespace.now) id.0) }
     requires read { AreStatementsOf (shown namespace.now) id.0 (map terms.view body.items) }
-    requires fresh { world.old.events.items ≡ [] }
+    requires set { TextSets world.old.text.items (contents world.old.file) }
+    requires fresh { world.old.file.events.items ≡ [] }
     ensures { (m : Method) → method_at (shown namespace.now) id.0 ≡ Some m →
-        IsMeant (shown namespace.now) id.0 m (views body.items) (map view (vec_items arguments)) steps
-        (with_events result (events_of world.new.events.items)) }
+        IsMeant (shown namespace.now) (contents world.old.file) id.0 m (views body.items)
+        (map view (vec_items arguments)) steps
+        (with_events result (events_of world.new.file.events.items)) }
 {
     let mut names = Names::initial(alloc, namespace)?;
     let outcome = evaluate_tree(
@@ -194,18 +214,27 @@ fn tell_refusal<W: Write>(
 }
 
 // The method whose printed path, or an alias's, the word is.
-fn find_method(namespace: &Namespace<'_>, word: &str) -> Result<(ObjectId, Method), Fault>
+fn find_method<N: Notes>(
+    alloc: Global,
+    namespace: &Namespace<'_>,
+    word: &str,
+    notes: &N,
+) -> Result<(ObjectId, Method), Fault>
     ensures found { IfOk result
         (λ found. IsMethodAt (shown namespace.now) word.now found.0.0 found.1) }
     ensures none { IfErr result
         (λ f. IsNoMethodAt (shown namespace.now) word.now × (f ≡ nowhere cause.NoSuchObject)) }
 {
     let Some(id) = namespace.find(word.as_bytes()) else {
+        tell_object(alloc, notes, namespace, word);
         return Err(Fault::nowhere(FaultCause::NoSuchObject));
     };
     match namespace.method(id) {
         Some(method) => Ok((id, method)),
-        None => Err(Fault::nowhere(FaultCause::NoSuchObject)),
+        None => {
+            tell_object(alloc, notes, namespace, word);
+            Err(Fault::nowhere(FaultCause::NoSuchObject))
+        }
     }
 }
 

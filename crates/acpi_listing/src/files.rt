@@ -6,16 +6,19 @@ ghost use Rattle.acpi_listing.specs.Steps.{Writes};
 
 use crate::any_table::read_any_table;
 use crate::fault::{Fault, Stop};
+use crate::notes::Notes;
 use crate::source::{Source, read_within_limit};
+use crate::tell::tell_table;
 use acpi_text::list_tables;
 use std::alloc::Global;
 use std::io::Write;
 
 /// Lists files one by one, each read when those before it were listed.
-pub fn list_files<F: Source, W: Write>(
+pub fn list_files<F: Source, N: Notes, W: Write>(
     alloc: Global,
     names: &[&str],
     files: &mut F,
+    notes: &N,
     out: &mut W,
 ) -> Result<u8, Stop>
     ensures status { IfOk result (λ status. status ≤ 3) }
@@ -23,16 +26,17 @@ pub fn list_files<F: Source, W: Write>(
         files.old files.new (W.contents out.old) (W.contents out.new) result }
 {
     for (number, name) in names.iter().enumerate() {
-        list_file(alloc, number, name, files, out)?;
+        list_file(alloc, number, name, files, notes, out)?;
     }
     Ok(0)
 }
 
-fn list_file<F: Source, W: Write>(
+fn list_file<F: Source, N: Notes, W: Write>(
     alloc: Global,
     number: usize,
     name: &str,
     files: &mut F,
+    notes: &N,
     out: &mut W,
 ) -> Result<(), Stop>
     ensures { Writes (ListsFile F.answers number name.now)
@@ -41,6 +45,9 @@ fn list_file<F: Source, W: Write>(
     let bytes = read_within_limit(files, name)?;
     match read_any_table(&bytes) {
         Ok(table) => Ok(list_tables(alloc, out, &[table])?),
-        Err(fault) => Err(Stop::Fault(Fault::of_table(number, fault))),
+        Err(fault) => {
+            tell_table(alloc, notes, number, name, &bytes, fault);
+            Err(Stop::Fault(Fault::of_table(number, fault)))
+        }
     }
 }

@@ -11,14 +11,18 @@ mod fault;
 mod fault_line;
 mod files;
 mod first_line;
+mod folder;
 mod hex_lines;
 mod input;
 mod inputs;
+mod line_notes;
 mod load;
 mod names;
+mod notes;
 mod program;
 mod regs;
 mod source;
+mod tell;
 mod words;
 
 pub use acpi_text::{
@@ -32,5 +36,6 @@ pub use disk::{Disk, Unread, read_whole};
 pub use fault::{Fault, FaultCause, Where};
 pub use fault_line::list_fault;
 pub use input::{INPUT_LIMIT, Input, read_input};
-pub use program::{run, run_words};
-pub use source::{Hint, Source, SourceFault};
+pub use notes::{Notes, Silent, StandardError};
+pub use program::{run, run_noted, run_words, run_words_noted};
+pub use source::{Source, SourceFault};

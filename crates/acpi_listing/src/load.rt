@@ -7,25 +7,26 @@ ghost use Rattle.acpi_listing.specs.Steps.{Tries};
 ghost use Rattle.aml_namespace.specs.Shows.{bytes_in, shown};
 
 use crate::fault::Fault;
-use crate::inputs::Inputs;
-use crate::source::{Hint, Source};
-use aml_externals::is_dead_if;
-use aml_namespace::{Host, LoadCause, LoadFault, Namespace};
-use aml_tree::TreeCause;
+use crate::inputs::{InputNames, Inputs};
+use crate::notes::Notes;
+use crate::tell::tell_load;
+use acpi_notes::Files;
+use aml_namespace::{Host, LoadFault, Namespace};
 use std::alloc::{AllocError, Global};
 
 /// The text of `_OS_`.
 const OS_NAME: &[u8] = b"acpicheck";
 
-/// Loads the tables that were read, each with its number in the order of the files, with the texts that
-/// `_OSI` knows.
+/// Loads the tables that were read from files of these names, each with its number in the order of the
+/// files, with the texts that `_OSI` knows.
 ///
 /// Faults: E101 to E104, E201 to E209, E301 to E304, with table and place; E524.
-pub fn load<'a, F: Source>(
+pub fn load<'a, N: Notes>(
     alloc: Global,
     inputs: &'a Inputs,
+    names: &InputNames<'_>,
     osi: &'a [&'a [u8]],
-    files: &F,
+    notes: &N,
 ) -> Result<Namespace<'a>, Fault>
     ensures { let tables = tables_of inputs.now in
         Tries (λ ns. IsNamespace (bytes_in osi.entry.now) tables (shown ns)) (FailsToLoad tables) result }
@@ -35,7 +36,11 @@ pub fn load<'a, F: Source>(
     match Namespace::load(alloc, tables.as_slice(), host) {
         Ok(namespace) => Ok(namespace),
         Err(fault) => {
-            tell_way_out(inputs, fault, files);
+            if let LoadFault::Refused(refusal) = fault {
+                let names = names.files.as_slice();
+                let tables = inputs.files.as_slice();
+                tell_load(alloc, notes, Files { names, tables }, refusal);
+            }
             Err(Fault::from(fault))
         }
     }
@@ -45,34 +50,19 @@ pub fn load<'a, F: Source>(
 /// declare as others'.
 ///
 /// Faults: those of `load`.
-pub fn load_counted<'a, F: Source>(
+pub fn load_counted<'a, N: Notes>(
     alloc: Global,
     inputs: &'a Inputs,
+    names: &InputNames<'_>,
     osi: &'a [&'a [u8]],
-    files: &F,
+    notes: &N,
 ) -> Result<Namespace<'a>, Fault>
     ensures { let tables = tables_of inputs.now in
         Tries (λ ns. IsNamespace (bytes_in osi.entry.now) tables (shown ns)) (FailsToLoad tables) result }
 {
-    let mut namespace = load(alloc, inputs, osi, files)?;
+    let mut namespace = load(alloc, inputs, names, osi, notes)?;
     namespace.count_externals(alloc)?;
     Ok(namespace)
-}
-
-// Tells where a table is refused for an If that `--dead-externals` opens.
-fn tell_way_out<F: Source>(inputs: &Inputs, fault: LoadFault, files: &F) {
-    let LoadFault::Refused(refusal) = fault else {
-        return;
-    };
-    let Some(table) = inputs.files.get(refusal.table) else {
-        return;
-    };
-    if refusal.cause == LoadCause::Tree(TreeCause::ModuleCode) && is_dead_if(table, refusal.at) {
-        files.tell(Hint::DeadExternals {
-            table: refusal.table,
-            at: refusal.at,
-        });
-    }
 }
 
 fn slices_of(alloc: Global, files: &[Vec<u8>]) -> Result<Vec<&[u8]>, AllocError>

@@ -7,16 +7,18 @@ ghost use Rattle.acpi_listing.specs.Steps.{Writes};
 use crate::fault::Stop;
 use crate::inputs::{InputNames, Inputs};
 use crate::load::load;
+use crate::notes::Notes;
 use crate::source::Source;
 use acpi_text::list_names;
 use std::alloc::Global;
 use std::io::Write;
 
 /// Prints the names of a DSDT and its SSDTs.
-pub fn list_names_of<F: Source, W: Write>(
+pub fn list_names_of<F: Source, N: Notes, W: Write>(
     alloc: Global,
     names: &InputNames<'_>,
     files: &mut F,
+    notes: &N,
     out: &mut W,
 ) -> Result<u8, Stop>
     ensures status { IfOk result (λ status. status ≤ 3) }
@@ -24,7 +26,7 @@ pub fn list_names_of<F: Source, W: Write>(
         files.old files.new (W.contents out.old) (W.contents out.new) result }
 {
     let inputs = Inputs::read(alloc, names, files)?;
-    let namespace = load(alloc, &inputs, &[], &*files)?;
+    let namespace = load(alloc, &inputs, names, &[], notes)?;
     list_names(alloc, out, &namespace)?;
     Ok(0)
 }

@@ -10,8 +10,11 @@ use crate::fault_line::list_fault;
 use crate::files::list_files;
 use crate::first_line::read_first_line;
 use crate::input::read_input;
+use crate::line_notes::LineNotes;
 use crate::names::list_names_of;
+use crate::notes::{Notes, Silent};
 use crate::source::Source;
+use crate::tell::tell_end;
 use crate::words::{Request, read_words};
 use acpi_text::RunFault;
 use std::alloc::Global;
@@ -33,9 +36,27 @@ pub fn run_words<S: AsStr, F: Source, W: Write>(
     ensures printed { RunsWords F.answers (map S.text words.entry.now) files.old files.new
         (W.contents out.old) (W.contents out.new) result }
 {
-    match obey(alloc, words, files, out) {
+    run_words_noted(alloc, words, files, &Silent, out)
+}
+
+/// As [`run_words`], and tells of a fault more than its line.
+pub fn run_words_noted<S: AsStr, F: Source, N: Notes, W: Write>(
+    alloc: Global,
+    words: &[S],
+    files: &mut F,
+    notes: &N,
+    out: &mut W,
+) -> Result<u8, RunFault>
+    ensures status { IfOk result (λ status. status ≤ 3) }
+    ensures printed { RunsWords F.answers (map S.text words.entry.now) files.old files.new
+        (W.contents out.old) (W.contents out.new) result }
+{
+    match obey(alloc, words, files, notes, out) {
         Ok(status) => Ok(status),
-        Err(Stop::Fault(fault)) => report(alloc, out, fault),
+        Err(Stop::Fault(fault)) => {
+            tell_end(alloc, notes, words, fault);
+            report(alloc, out, fault)
+        }
         Err(Stop::Run(fault)) => Err(fault),
     }
 }
@@ -50,12 +71,33 @@ pub fn run<R: Read, W: Write>(alloc: Global, input: &mut R, out: &mut W) -> Resu
     ensures printed { RunsInput (R.remaining input.old) (R.remaining input.new)
         (W.contents out.old) (W.contents out.new) result }
 {
+    run_noted(alloc, input, &Silent, out)
+}
+
+/// As [`run`], and tells of a fault more than its line, a file by the number of its line.
+pub fn run_noted<R: Read, N: Notes, W: Write>(
+    alloc: Global,
+    input: &mut R,
+    notes: &N,
+    out: &mut W,
+) -> Result<u8, RunFault>
+    ensures status { IfOk result (λ status. status ≤ 3) }
+    ensures printed { RunsInput (R.remaining input.old) (R.remaining input.new)
+        (W.contents out.old) (W.contents out.new) result }
+{
     let Ok(input) = read_input(alloc, input) else {
+        notes.tell("no memory for standard input");
         return report(alloc, out, Fault::nowhere(FaultCause::NoMemory));
     };
+    let lines = LineNotes::new(&input, notes);
     match read_first_line(alloc, &input) {
-        Ok((words, mut files)) => run_words(alloc, words.as_slice(), &mut files, out),
-        Err(fault) => report(alloc, out, fault),
+        Ok((words, mut files)) => {
+            run_words_noted(alloc, words.as_slice(), &mut files, &lines, out)
+        }
+        Err(fault) => {
+            lines.tell_start(fault);
+            report(alloc, out, fault)
+        }
     }
 }
 
@@ -68,10 +110,11 @@ pub fn report<W: Write>(alloc: Global, out: &mut W, fault: Fault) -> Result<u8, 
     Ok(fault.status())
 }
 
-fn obey<S: AsStr, F: Source, W: Write>(
+fn obey<S: AsStr, F: Source, N: Notes, W: Write>(
     alloc: Global,
     words: &[S],
     files: &mut F,
+    notes: &N,
     out: &mut W,
 ) -> Result<u8, Stop>
     ensures status { IfOk result (λ status. status ≤ 3) }
@@ -79,8 +122,8 @@ fn obey<S: AsStr, F: Source, W: Write>(
         files.old files.new (W.contents out.old) (W.contents out.new) result }
 {
     match read_words(alloc, words)? {
-        Request::Tables { files: names } => list_files(alloc, names.as_slice(), files, out),
-        Request::Names(inputs) => list_names_of(alloc, &inputs, files, out),
-        Request::Eval(request) => evaluate(alloc, &request, files, out),
+        Request::Tables { files: names } => list_files(alloc, names.as_slice(), files, notes, out),
+        Request::Names(inputs) => list_names_of(alloc, &inputs, files, notes, out),
+        Request::Eval(request) => evaluate(alloc, &request, files, notes, out),
     }
 }

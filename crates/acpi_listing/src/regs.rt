@@ -1,38 +1,49 @@
 // The registers over which a method is evaluated.
 
-ghost use Rattle.std.specs.Prelude.{◌≡◌, [], IfOk, option_map};
+ghost use Rattle.std.specs.Prelude.{◌≡◌, [], IfOk, option_map, vec_items};
+ghost use Rattle.aml_regions.specs.Registers.{contents};
+ghost use Rattle.aml_regions.specs.Text.{TextSets};
 ghost use Rattle.acpi_listing.specs.Registers.{OpensRegisters, SetsRegisters};
 
 use crate::fault::Fault;
+use crate::notes::Notes;
 use crate::source::{Source, read_within_limit};
-use aml_regions::RegisterFile;
+use crate::tell::tell_registers;
+use aml_registers::Registers;
 use std::alloc::Global;
 
 /// The registers that the text of the file of that name sets; without a name all are 0.
 ///
 /// Faults: E523 of a file that cannot be read or is too large; E511 with the number of the first bad
 /// line; E524.
-pub fn read_registers<F: Source>(
+pub fn read_registers<F: Source, N: Notes>(
     alloc: Global,
     name: Option<&str>,
     files: &mut F,
-) -> Result<RegisterFile, Fault>
+    notes: &N,
+) -> Result<Registers, Fault>
     ensures read { OpensRegisters F.answers files.old (option_map (λ text. text.now) name.entry)
         result files.new }
-    ensures fresh { IfOk result (λ file. file.events.items ≡ []) }
+    ensures set { IfOk result (λ r. TextSets r.text.items (contents r.file)) }
+    ensures fresh { IfOk result (λ r. r.file.events.items ≡ []) }
 {
     let Some(name) = name else {
-        return Ok(RegisterFile::new(alloc));
+        return Ok(Registers::new(alloc));
     };
     let text = read_within_limit(files, name)?;
-    set_registers(alloc, text.as_slice())
+    let read = set_registers(alloc, text);
+    if let Err(fault) = &read {
+        tell_registers(alloc, notes, name, *fault);
+    }
+    read
 }
 
 // The registers that a text sets.
-fn set_registers(alloc: Global, text: &[u8]) -> Result<RegisterFile, Fault>
-    ensures sets { SetsRegisters text.now result }
-    ensures fresh { IfOk result (λ file. file.events.items ≡ []) }
+fn set_registers(alloc: Global, text: Vec<u8>) -> Result<Registers, Fault>
+    ensures sets { SetsRegisters (vec_items text) result }
+    ensures set { IfOk result (λ r. TextSets r.text.items (contents r.file)) }
+    ensures fresh { IfOk result (λ r. r.file.events.items ≡ []) }
 {
-    let file = RegisterFile::read_text(alloc, text)?;
-    Ok(file)
+    let registers = Registers::read_text(alloc, text)?;
+    Ok(registers)
 }

@@ -20,13 +20,6 @@ pub enum SourceFault {
     NoMemory,
 }
 
-/// What a user may want to know beside what is printed.
-#[derive(Clone, Copy, Debug, PartialEq, Eq)]
-pub enum Hint {
-    /// The table with that number is refused at this byte, at an If that `--dead-externals` opens.
-    DeadExternals { table: usize, at: usize },
-}
-
 /// Where a command's files come from.
 pub trait Source {
     // What a source may answer to a name, and the source that is then left. Where nothing is said,
@@ -36,9 +29,6 @@ pub trait Source {
     /// The bytes of the file of that name.
     fn read(&mut self, name: &str) -> Result<Vec<u8>, SourceFault>
         ensures { answers self.old name.now (bytes_of result) self.new };
-
-    /// Tells the user something beside what is printed; a source that has no way to does nothing.
-    fn tell(&self, _hint: Hint) {}
 }
 
 /// Reads a file of at most [`INPUT_LIMIT`] bytes.

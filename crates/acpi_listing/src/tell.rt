@@ -1,0 +1,123 @@
+// What is told of a fault beside its line.
+
+use crate::arguments::bad_argument;
+use crate::fault::{Fault, FaultCause, Where};
+use crate::notes::Notes;
+use crate::words::words_error;
+use acpi_notes::{
+    Files, argument_note, count_note, file_label, greatest_note, help_of, load_note, object_note,
+    registers_note, table_note,
+};
+use acpi_tables::TableFault;
+use aml_externals::is_dead_if;
+use aml_namespace::{LoadCause, LoadRefusal, Method, Namespace};
+use aml_tree::TreeCause;
+use aml_values::Value;
+use std::alloc::{AllocError, Global};
+use std::convert::AsStr;
+
+// Tells a note, if there is memory for it.
+fn tell<N: Notes>(notes: &N, note: Result<String, AllocError>) {
+    if let Ok(note) = note {
+        notes.tell(note.as_str());
+    }
+}
+
+/// Of a file that is no table.
+pub fn tell_table<N: Notes>(
+    alloc: Global,
+    notes: &N,
+    number: usize,
+    name: &str,
+    bytes: &[u8],
+    fault: TableFault,
+) {
+    let Ok(label) = file_label(alloc, name, number) else {
+        return;
+    };
+    tell(notes, table_note(alloc, label.as_str(), bytes, fault));
+}
+
+/// Of tables that cannot be loaded; where a table is refused for an If that `--dead-externals` opens, of
+/// that option too.
+pub fn tell_load<N: Notes>(alloc: Global, notes: &N, files: Files<'_>, refusal: LoadRefusal) {
+    if let Ok(label) = files.label(alloc, refusal.table) {
+        tell(notes, load_note(alloc, label.as_str(), files, refusal));
+    }
+    let Some(table) = files.tables.get(refusal.table) else {
+        return;
+    };
+    if refusal.cause == LoadCause::Tree(TreeCause::ModuleCode) && is_dead_if(table, refusal.at) {
+        notes.tell(
+            "there stands an If (Zero) that iasl writes round Externals: with --dead-externals they are read",
+        );
+    }
+}
+
+/// Of a text of `--args` that is no list of values.
+pub fn tell_argument<N: Notes>(alloc: Global, notes: &N, text: &str) {
+    if let Some((number, element)) = bad_argument(alloc, text) {
+        tell(notes, argument_note(alloc, number, element));
+    }
+}
+
+/// Of a line that sets no registers.
+pub fn tell_registers<N: Notes>(alloc: Global, notes: &N, name: &str, fault: Fault) {
+    let Where::Line(line) = fault.at else {
+        return;
+    };
+    let label = if name == "@" {
+        "the file of --regs"
+    } else {
+        name
+    };
+    tell(notes, registers_note(alloc, label, line));
+}
+
+/// Of a path that is no method's.
+pub fn tell_object<N: Notes>(alloc: Global, notes: &N, namespace: &Namespace<'_>, word: &str) {
+    tell(notes, object_note(alloc, namespace, word));
+}
+
+/// Of arguments that do not fit a method: their number, or the first integer that is too great.
+pub fn tell_misfit<N: Notes>(
+    alloc: Global,
+    notes: &N,
+    namespace: &Namespace<'_>,
+    word: &str,
+    method: Method,
+    arguments: &[Value],
+) {
+    if arguments.len() != usize::from(method.args) {
+        tell(notes, count_note(alloc, word, method.args, arguments.len()));
+        return;
+    }
+    let greatest = namespace.width().greatest();
+    for (number, argument) in arguments.iter().enumerate() {
+        if let Value::Int(given) = argument
+            && *given > greatest
+        {
+            tell(notes, greatest_note(alloc, number, *given, greatest));
+            return;
+        }
+    }
+}
+
+// Of words that are no command line: the help that they ask for, or what is wrong with them.
+fn tell_words<S: AsStr, N: Notes>(alloc: Global, notes: &N, words: &[S]) {
+    if let Some(help) = help_of(words) {
+        notes.help(help);
+    } else if let Some(error) = words_error(alloc, words) {
+        notes.show(&error);
+    }
+}
+
+/// Of a fault that ends a command, where nothing was told yet: the words, a file, or memory.
+pub fn tell_end<S: AsStr, N: Notes>(alloc: Global, notes: &N, words: &[S], fault: Fault) {
+    match fault.cause {
+        FaultCause::CommandLine => tell_words(alloc, notes, words),
+        FaultCause::File => notes.tell_unread(alloc),
+        FaultCause::NoMemory => notes.tell("out of memory"),
+        _ => {}
+    }
+}

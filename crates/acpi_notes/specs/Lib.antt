@@ -1,0 +1,9 @@
+pub mod Command
+pub mod Definitions
+pub mod Help
+pub mod Label
+pub mod Load
+pub mod Near
+pub mod Table
+pub mod Text
+pub mod Tree

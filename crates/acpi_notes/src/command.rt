@@ -1,0 +1,59 @@
+// What is told of the words of a command and of the texts that they name.
+
+ghost use Rattle.std.specs.Prelude.{◌≡◌, IfOk, string_bytes};
+ghost use Rattle.acpi_notes.specs.Command.{argument_note, count_note, greatest_note, line_note, registers_note};
+
+use std::alloc::{AllocError, Global};
+
+/// Of an element of `--args` that is no value: its number, from 0, and its text.
+#[tactic(auto, unfolding(crate::specs::Command::argument_note))]
+pub fn argument_note(alloc: Global, number: usize, text: &str) -> Result<String, AllocError>
+    ensures { IfOk result (λ note. string_bytes note ≡ argument_note number text.now) }
+{
+    format!(in alloc;
+        "element {number} of --args is '{text}', and a number below 2^64 as 41 or 0x29, buf:00a5, str:TEXT or pkg is wanted"
+    )
+}
+
+/// Of a number of arguments that is not the method's.
+#[tactic(auto, unfolding(crate::specs::Command::count_note))]
+pub fn count_note(alloc: Global, path: &str, wanted: u8, given: usize) -> Result<String, AllocError>
+    ensures { IfOk result (λ note. string_bytes note ≡ count_note path.now wanted given) }
+{
+    format!(in alloc; "{path}: --args lists {given} arguments, and the method takes {wanted}")
+}
+
+/// Of an argument above the greatest integer of the tables.
+#[tactic(auto, unfolding(crate::specs::Command::greatest_note))]
+pub fn greatest_note(
+    alloc: Global,
+    number: usize,
+    given: u64,
+    greatest: u64,
+) -> Result<String, AllocError>
+    ensures { IfOk result (λ note. string_bytes note ≡ greatest_note number given greatest) }
+{
+    format!(in alloc;
+        "element {number} of --args is {given}, and the greatest integer of the tables is {greatest}"
+    )
+}
+
+/// Of a line of the text of `--regs` that sets no registers: its number, from 1.
+#[tactic(auto, unfolding(crate::specs::Command::registers_note))]
+pub fn registers_note(alloc: Global, label: &str, line: usize) -> Result<String, AllocError>
+    ensures { IfOk result (λ note. string_bytes note ≡ registers_note label.now line) }
+{
+    format!(in alloc;
+        "{label}: line {line} is not SPACE ADDRESS BYTES, as io 60 1527: mem, io, pci, ec or cmos, hex without prefix"
+    )
+}
+
+/// Of a line of standard input that is no file: its number, from 0 behind the words.
+#[tactic(auto, unfolding(crate::specs::Command::line_note))]
+pub fn line_note(alloc: Global, number: usize) -> Result<String, AllocError>
+    ensures { IfOk result (λ note. string_bytes note ≡ line_note number) }
+{
+    format!(in alloc;
+        "file {number} of standard input: a line of hex text is wanted, two digits a byte"
+    )
+}

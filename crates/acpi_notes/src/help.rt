@@ -1,0 +1,126 @@
+// What each command and option is, with an example each.
+
+ghost use Rattle.std.specs.Prelude.{◌≡◌, map};
+ghost use Rattle.acpi_notes.specs.Help.{asks_for_help, help_by, help_for, help_of, help_text};
+
+use std::convert::AsStr;
+
+/// What the words ask to be told.
+#[derive(Clone, Copy, Debug, PartialEq, Eq)]
+pub enum Help {
+    /// What the program is, and which version.
+    Version,
+    /// Its commands.
+    Commands,
+    /// The options of a command.
+    Tables,
+    Names,
+    Eval,
+}
+
+const COMMANDS: &str = "\
+acpicheck reads ACPI tables, lists what they define and evaluates their methods.
+
+Usage: acpicheck COMMAND [OPTIONS] FILES
+
+  tables FILES    each file's header and contents
+                    acpicheck tables apic.dat
+  names FILES     each path of a DSDT and the SSDTs behind it, and what stands there
+                    acpicheck names dsdt.dat ssdt1.dat
+  eval FILES      the events of a method's evaluation, and how it ended
+                    acpicheck eval --method '\\_SB_.PCI0._STA' --plain 10000 dsdt.dat
+
+acpicheck COMMAND --help tells the options of a command. Without words the program takes them
+from the first line of standard input; there a file is @, the hex text of the next line.
+Status 0: done; 1: a fault; 2: the words; 3: AML stopped.
+";
+
+const TABLES: &str = "\
+Usage: acpicheck tables FILES
+
+Prints each file's header; of an RSDP, XSDT, FADT or MADT its contents too.
+  acpicheck tables dsdt.dat facp.dat apic.dat
+";
+
+const NAMES: &str = "\
+Usage: acpicheck names [OPTIONS] FILES
+
+Loads a DSDT and the SSDTs behind it, and prints each path with what stands there.
+  acpicheck names dsdt.dat ssdt1.dat
+
+  --dead-externals    reads Externals that stand in an If (Zero), as iasl writes them
+                        acpicheck names --dead-externals dsdt.dat
+";
+
+const EVAL: &str = "\
+Usage: acpicheck eval --method PATH --plain N [OPTIONS] FILES
+
+Loads a DSDT and the SSDTs behind it, evaluates a method, and prints its accesses and its value.
+  acpicheck eval --method '\\_SB_.PCI0._STA' --plain 10000 dsdt.dat ssdt1.dat
+
+  --method PATH       the method, as names prints it: --method '\\_SB_.PCI0._STA'
+  --plain N           at most so many steps: --plain 10000
+  --args TEXT         its arguments, by commas: --args 41,0x29,buf:00a5,str:ACPI,pkg
+  --regs FILE         lines SPACE ADDRESS BYTES that set registers, as io 60 1527: --regs board.regs
+  --osi TEXT          the one text that _OSI knows: --osi 'Windows 2015'
+  --dead-externals    reads Externals that stand in an If (Zero), as iasl writes them
+";
+
+const VERSION: &str = "acpicheck 0.1, ACPI 6.5\n";
+
+impl Help {
+    /// The text.
+    pub fn text(self) -> &'static str
+        ensures { result.now ≡ help_text self }
+    {
+        match self {
+            Help::Version => VERSION,
+            Help::Commands => COMMANDS,
+            Help::Tables => TABLES,
+            Help::Names => NAMES,
+            Help::Eval => EVAL,
+        }
+    }
+}
+
+/// Which help the words ask for: `--version` in front, or `--help` or `-h` first or last, of the command
+/// that is the first word.
+pub fn help_of<S: AsStr>(words: &[S]) -> Option<Help>
+    ensures { result ≡ help_of (map S.text words.now) }
+{
+    let (Some(first), Some(last)) = (words.first(), words.last()) else {
+        return None;
+    };
+    help_by(first.as_str(), last.as_str())
+}
+
+fn help_by(first: &str, last: &str) -> Option<Help>
+    ensures { result ≡ help_by first.now last.now }
+{
+    let asks = asks_for_help(first) || asks_for_help(last);
+    help_for(first, asks)
+}
+
+fn help_for(first: &str, asks: bool) -> Option<Help>
+    ensures { result ≡ help_for first.now asks }
+{
+    if first == "--version" {
+        Some(Help::Version)
+    } else if !asks {
+        None
+    } else if first == "tables" {
+        Some(Help::Tables)
+    } else if first == "names" {
+        Some(Help::Names)
+    } else if first == "eval" {
+        Some(Help::Eval)
+    } else {
+        Some(Help::Commands)
+    }
+}
+
+fn asks_for_help(word: &str) -> bool
+    ensures { result ≡ asks_for_help word.now }
+{
+    word == "--help" || word == "-h"
+}

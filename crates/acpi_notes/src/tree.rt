@@ -1,0 +1,95 @@
+// AML that cannot be read (ACPI 6.5, 20.2).
+
+ghost use Rattle.std.specs.Prelude.{◌≡◌, IfOk, string_bytes};
+ghost use Rattle.acpi_notes.specs.Table.{byte_at};
+ghost use Rattle.acpi_notes.specs.Tree.{lexical_note, module_note, opcode_note, tree_note};
+
+use crate::table::byte_at;
+use aml_lex::LexCause;
+use aml_tree::TreeCause;
+use std::alloc::{AllocError, Global};
+
+/// Where AML cannot be read: a byte of a file.
+#[derive(Clone, Copy, Debug)]
+pub struct TreePlace<'a> {
+    pub label: &'a str,
+    pub bytes: &'a [u8],
+    pub at: usize,
+}
+
+/// Of a fault of AML: its place, the byte there, and what is wanted of it.
+#[tactic(auto, unfolding(crate::specs::Tree::tree_note))]
+pub fn tree_note(
+    alloc: Global,
+    place: TreePlace<'_>,
+    cause: TreeCause,
+) -> Result<String, AllocError>
+    ensures { IfOk result (λ note. string_bytes note
+        ≡ tree_note place.entry.label.now place.entry.bytes.now place.entry.at cause) }
+{
+    let label = place.label;
+    let at = place.at;
+    let byte = byte_at(place.bytes, at);
+    match cause {
+        TreeCause::Lexical(part) => lexical_note(alloc, place, part),
+        TreeCause::UnknownOpcode => { opcode_note(alloc, label, at, byte) }
+        TreeCause::TooDeep => {
+            format!(in alloc; "{label}: the term at byte {at} is at depth 65, and 64 is the limit")
+        }
+        TreeCause::TooLarge => {
+            format!(in alloc;
+                "{label}: the data at byte {at} has more than 65536 bytes or 65535 elements"
+            )
+        }
+        TreeCause::ModuleCode => { module_note(alloc, label, at, byte) }
+    }
+}
+
+#[tactic(auto, unfolding(crate::specs::Tree::opcode_note))]
+fn opcode_note(alloc: Global, label: &str, at: usize, byte: u8) -> Result<String, AllocError>
+    ensures { IfOk result (λ note. string_bytes note ≡ opcode_note label.now at byte) }
+{
+    format!(in alloc;
+        "{label}: the opcode at byte {at}, 0x{byte:x}, is unknown or may not stand there"
+    )
+}
+
+#[tactic(auto, unfolding(crate::specs::Tree::module_note))]
+fn module_note(alloc: Global, label: &str, at: usize, byte: u8) -> Result<String, AllocError>
+    ensures { IfOk result (λ note. string_bytes note ≡ module_note label.now at byte) }
+{
+    format!(in alloc;
+        "{label}: at byte {at} stands 0x{byte:x}, code outside methods or data that is no literal"
+    )
+}
+
+#[tactic(auto, unfolding(crate::specs::Tree::lexical_note))]
+fn lexical_note(alloc: Global, place: TreePlace<'_>, part: LexCause) -> Result<String, AllocError>
+    ensures { IfOk result (λ note. string_bytes note
+        ≡ lexical_note place.entry.label.now place.entry.bytes.now place.entry.at part) }
+{
+    let label = place.label;
+    let at = place.at;
+    let byte = byte_at(place.bytes, at);
+    match part {
+        LexCause::Truncated => {
+            format!(in alloc; "{label}: the bytes end at {at} within a term that wants more")
+        }
+        LexCause::BadPkgLength => {
+            format!(in alloc; "{label}: the package length at byte {at} is less than its own bytes")
+        }
+        LexCause::BadName => {
+            format!(in alloc;
+                "{label}: byte {at} is 0x{byte:x}, where a name (A to Z or _ first), or an item of a field list, is wanted"
+            )
+        }
+        LexCause::BadString => {
+            format!(in alloc; "{label}: byte {at} is 0x{byte:x}, and a string has 0x1 to 0x7f")
+        }
+        LexCause::Overrun => {
+            format!(in alloc;
+                "{label}: the package at byte {at} goes past the end of what encloses it"
+            )
+        }
+    }
+}

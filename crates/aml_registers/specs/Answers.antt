@@ -1,0 +1,35 @@
+-- What registers answer to the reads among their events.
+use Rattle.std.specs.Prelude.{◌≡◌, ℕ, List, [], ◌∷◌, Option, Some, None, slice_get, take}
+use Rattle.aml_values.specs.Values.{Str}
+use Rattle.aml_regions.specs.Bytes.{SameBytes, unit_of, with_unit}
+use Rattle.aml_regions.specs.Events.{Event, Read, Written, Slept}
+use Rattle.aml_regions.specs.Text.{TextSets}
+use Rattle.aml_regions.specs.declared.access.Access.{Access}
+
+-- the bytes behind an event: a write puts its unit, any other event leaves them
+abbrev pub behind_event : (ℕ → ℕ → ℕ) → Event → ℕ → ℕ → ℕ
+behind_event bytes (Written access value) = with_unit bytes access value
+behind_event bytes event = bytes
+
+-- the bytes behind events, one after the other
+abbrev pub left_by : (ℕ → ℕ → ℕ) → List Event → ℕ → ℕ → ℕ
+left_by bytes [] = bytes
+left_by bytes (event ∷ rest) = left_by (behind_event bytes event) rest
+
+-- each read among events has the value that its unit had behind the events before it
+abbrev pub AnswerReads : (ℕ → ℕ → ℕ) → List Event → Type 0
+AnswerReads bytes events =
+    (i : ℕ) (access : Access) (value : ℕ) → slice_get events i ≡ Some (Read access value)
+    → value ≡ unit_of (left_by bytes (take i events)) access
+
+-- the same of the bytes that a text sets
+abbrev pub AnswerByText : List ℕ → List Event → Type 0
+AnswerByText text events = (bytes : ℕ → ℕ → ℕ) → TextSets text bytes → AnswerReads bytes events
+
+-- the registers hold what the events left of the bytes that a text sets
+abbrev pub HoldByText : List ℕ → List Event → (ℕ → ℕ → ℕ) → Type 0
+HoldByText text events held = (bytes : ℕ → ℕ → ℕ) → TextSets text bytes → SameBytes (left_by bytes events) held
+
+-- what stands in the log before the events: the text itself, as what a name holds
+abbrev pub start_of : List ℕ → Event
+start_of text = Slept 0 (Some (Some (Str text) ∷ []))
