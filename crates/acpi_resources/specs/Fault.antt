@@ -1,5 +1,5 @@
 -- Answers of readers of resource descriptors, and their refusals.
-use Rattle.std.specs.Prelude.{◌≡◌, ℕ, Result, Ok, Err}
+use Rattle.std.specs.Prelude.{◌≡◌, ◌≤◌, ℕ, Result, Ok, Err}
 use Rattle.acpi_resources.specs.declared.fault.ResourceCause.{ResourceCause}
 use Rattle.acpi_resources.specs.declared.fault.ResourceFault.{ResourceFault}
 use Rattle.acpi_resources.specs.declared.fault.ResourceFault.TheVariants.{NoMemory, Refused}
@@ -17,3 +17,8 @@ Fails (Refused refused) answer = answer ≡ Err refused
 abbrev pub ReadsAs : {X Y : Type 0} → (X → Y) → Result X ResourceFault → Result Y ResourceRefusal → Type 0
 ReadsAs view (Ok x) answer = answer ≡ Ok (view x)
 ReadsAs view (Err fault) answer = Fails fault answer
+
+-- the place of a refusal is no greater than the number of bytes
+abbrev pub StandsWithin : ℕ → ResourceFault → Type 0
+StandsWithin size NoMemory = Unit {0}
+StandsWithin size (Refused refused) = refused.at ≤ size

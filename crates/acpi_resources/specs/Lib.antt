@@ -3,3 +3,9 @@ pub mod Fault
 pub mod Signals
 pub mod Forms
 pub mod Items
+pub mod Spelling
+pub mod Laws
+pub mod Interrupts
+pub mod Mappings
+pub mod RouteFaults
+pub mod Routes

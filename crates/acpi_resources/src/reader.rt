@@ -1,7 +1,7 @@
 // Lists of resource descriptors, read from their bytes (ACPI 6.5, 6.4).
 
-ghost use Rattle.std.specs.Prelude.{◌≡◌, ◌≤◌, IfOk, length};
-ghost use Rattle.acpi_resources.specs.Fault.{ReadsAs};
+ghost use Rattle.std.specs.Prelude.{◌≡◌, ◌≤◌, IfErr, IfOk, length};
+ghost use Rattle.acpi_resources.specs.Fault.{ReadsAs, StandsWithin};
 ghost use Rattle.acpi_resources.specs.Items.{first_item, is_end, items_of};
 
 use crate::body::body;
@@ -19,7 +19,8 @@ use std::alloc::Global;
 /// numbers of an extended interrupt descriptor go past it. E403 where no end tag comes, at the end of
 /// the bytes. Or want of memory.
 pub fn items(alloc: Global, bytes: &[u8]) -> Result<Vec<Item>, ResourceFault>
-    ensures { ReadsAs (λ items. items.items) result (items_of bytes.now) }
+    ensures gives { ReadsAs (λ items. items.items) result (items_of bytes.now) }
+    ensures place { IfErr result (StandsWithin (length bytes.now)) }
 {
     let mut items = Vec::new(alloc);
     let mut at = 0;

@@ -1,0 +1,11 @@
+//! The texts of resource descriptors and of routes of interrupts, as they are printed.
+#![tactic(auto)]
+
+mod lines;
+mod numbers;
+mod resources;
+mod route_lines;
+mod words;
+
+pub use resources::list_resources;
+pub use route_lines::list_routes;
