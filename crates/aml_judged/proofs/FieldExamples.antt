@@ -1,11 +1,11 @@
 -- Bodies that make fields of buffers, and use their own names, judged.
-use Rattle.std.proofs.Common.{◌≡◌, ℕ, ◌+◌, ◌*◌, ◌^◌, ◌-◌, List, [], ◌∷◌, Option, Some, None, Ok, refl}
-use Rattle.std.specs.Prelude.{Bool, true, false, nat_le, if◌then◌else◌}
+use Rattle.std.proofs.Common.{◌≡◌, ℕ, ◌+◌, ◌*◌, ◌^◌, ◌-◌, [], refl}
+use Rattle.std.specs.Prelude.{true, false, nat_le, if◌then◌else◌}
 use Rattle.aml_operators.specs.declared.op.Op.TheVariants as op
 use Rattle.aml_operators.specs.Tree.{Tree, Trees, Node, none, more}
 use Rattle.aml_namespace.specs.declared.link.Link.{Link}
 use Rattle.aml_namespace.specs.declared.link.Link.TheVariants as link
-use Rattle.aml_kinds.specs.Kinds.{Kind, IntUpTo, BufOf}
+use Rattle.aml_kinds.specs.Kinds.{IntUpTo}
 use Rattle.aml_judged.specs.Causes as cause
 use Rattle.aml_judged.specs.Judged.{Always, Never}
 use Rattle.aml_judged.specs.Bodies.{judged_method, entry}
@@ -73,6 +73,16 @@ no_bits = refl
 no_bits_then : owning (three integer (bit_field 0) (stored (leaf op.String 61))) ≡ refused 71 cause.Region
 no_bits_then = refl
 
+no_bits_read : owning (three integer (bit_field 0) returned) ≡ refused 71 cause.Region
+no_bits_read = refl
+
+-- a field of at most 2,048 bits may be used
+many_bits : owning (three buffer (Node op.CreateField 45 49 (four (leaf op.NameString 51) (leaf op.Zero 46) (Node op.WordConst 47 47 (one (Node (op.Number 2049) 47 47 none))) (leaf op.NameString 48))) returned) ≡ refused 71 cause.Region
+many_bits = refl
+
+no_buffer_read : owning (three integer (bit_field 17) returned) ≡ refused 71 cause.WrongKind
+no_buffer_read = refl
+
 no_buffer : owning (three integer (bit_field 17) (stored (leaf op.String 61))) ≡ refused 71 cause.WrongKind
 no_buffer = refl
 
@@ -107,6 +117,16 @@ source_field = refl
 
 made_twice : owning (two buffer (field_of (leaf op.Local0 51) (leaf op.Local0 46) 52)) ≡ refused 45 cause.LocalName
 made_twice = refl
+
+-- a name with a prefix, or of more segments
+abbrev prefixed : Trees → Verdict
+prefixed body = verdict_of true late [] (judged_method (record (here owned known_here) { lone = λ at. false }) 36 body (entry []))
+
+name_prefixed : prefixed (one integer) ≡ refused 43 cause.LocalName
+name_prefixed = refl
+
+field_prefixed : prefixed (one (field_of (leaf op.Local0 51) (leaf op.Local0 46) 48)) ≡ refused 45 cause.LocalName
+field_prefixed = refl
 
 -- a definition below the top of a body, whatever its parts
 abbrev within_an_if : Tree → Trees

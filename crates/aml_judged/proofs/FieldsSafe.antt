@@ -1,5 +1,5 @@
 -- Fields of regions, read and stored into, as they are judged.
-use Rattle.std.proofs.Common.{◌≡◌, ℕ, ◌+◌, ◌/◌, List, [], length, Option, Some, None, Result, Ok, Err, sym, subst, arith}
+use Rattle.std.proofs.Common.{◌≡◌, ℕ, ◌+◌, ◌/◌, List, length, Option, Some, None, Result, Ok, Err, sym, subst, arith}
 use Rattle.std.specs.Prelude.{Bool, true, false, ◌==◌, ◌&&◌, if◌then◌else◌, nat_lt}
 use Rattle.std.proofs.lemmas.Bool.{eqb-true}
 use Rattle.aml_values.specs.Values.{Value, Int, Buf, Str, Pkg}
@@ -11,7 +11,6 @@ use Rattle.aml_meaning.specs.declared.error.AmlError.{AmlError}
 use Rattle.aml_meaning.specs.State as state
 use Rattle.aml_meaning.specs.State.{State, Out, Halts, NoAnswer, Spent, with_steps}
 use Rattle.aml_meaning.specs.Parts.{◌>>=◌, give, stop_with, lift, tick, paid, then_do}
-use Rattle.aml_meaning.specs.Owns.{field_at}
 use Rattle.aml_meaning.specs.Rules.{Place}
 use Rattle.aml_meaning.specs.Fields.{read_value, write_bits, read_count, write_count}
 use Rattle.aml_meaning.specs.FieldValues.{buffer_bits, given_bits, takes_buffer, wanted_field}

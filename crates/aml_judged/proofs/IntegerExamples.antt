@@ -1,8 +1,8 @@
 -- Which bodies evaluate integers alone.
-use Rattle.std.proofs.Common.{◌≡◌, ℕ, List, [], ◌∷◌, Option, Some, None, refl}
+use Rattle.std.proofs.Common.{◌≡◌, ℕ, [], ◌∷◌, Option, Some, None, refl}
 use Rattle.std.specs.Prelude.{Bool, true, false, ◌==◌, if◌then◌else◌}
 use Rattle.aml_operators.specs.declared.op.Op.TheVariants as op
-use Rattle.aml_operators.specs.Tree.{Tree, Trees, Node, none}
+use Rattle.aml_operators.specs.Tree.{Trees, Node, none}
 use Rattle.aml_namespace.specs.declared.link.Link.{Link}
 use Rattle.aml_namespace.specs.declared.link.Link.TheVariants as link
 use Rattle.aml_values.specs.Values.{Int}

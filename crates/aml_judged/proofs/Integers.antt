@@ -1,5 +1,5 @@
 -- Integer-only methods evaluate integers alone.
-use Rattle.std.proofs.Common.{◌≡◌, ℕ, zero, suc, ◌+◌, ◌/◌, ◌^◌, ◌-◌, List, [], ◌∷◌, Option, Some, None, Result, Ok, Err, refl, sym, ap, ◌∙◌, subst, arith}
+use Rattle.std.proofs.Common.{◌≡◌, ℕ, zero, suc, ◌+◌, ◌/◌, ◌^◌, ◌-◌, List, [], ◌∷◌, Option, Some, None, Result, Ok, Err, refl, sym, ap, ◌∙◌, subst}
 use Rattle.std.specs.Prelude.{Bool, true, false, ◌==◌, ◌&&◌, if◌then◌else◌, nat_le, slice_get, slice_set, length}
 use Rattle.std.proofs.lemmas.Bool.{and_parts}
 use Rattle.aml_operators.specs.declared.op.Op.{Op}
@@ -32,7 +32,7 @@ use Rattle.aml_meaning.specs.declared.error.AmlError.{AmlError}
 use Rattle.aml_meaning.specs.declared.mutex.TakenMutex.{TakenMutex}
 use Rattle.aml_meaning.specs.declared.part.BufferPart.{BufferPart}
 use Rattle.aml_meaning.specs.Actions.{action}
-use Rattle.aml_meaning.specs.BufferFields.{read_part, wanted_part, written_part, bytes_around, part_value, part_bit}
+use Rattle.aml_meaning.specs.BufferFields.{read_part, written_part, bytes_around}
 use Rattle.aml_meaning.specs.Calls.{framed, inside, left}
 use Rattle.aml_meaning.specs.Changes.{change, changed_or, held_by, holding, peek, peeked_or}
 use Rattle.aml_meaning.specs.Conversions.{converted}
@@ -40,10 +40,9 @@ use Rattle.aml_meaning.specs.Definitions.{definition, mean_body, mean_method, st
 use Rattle.aml_meaning.specs.Fields.{read_value, write_bits, read_count, write_count}
 use Rattle.aml_meaning.specs.FieldValues.{given_bits, wanted_field}
 use Rattle.aml_meaning.specs.Loops.{turned, turn_end, turns, loop, spent}
-use Rattle.aml_meaning.specs.Meaning.{Setting, at_of, act, mean, value, values, mean_all, block, otherwise, is_else, want, store, stored, put, named, named_target, invoked, held, field_read, field_stored, bits_stored, part_read, part_changed, asked, condition, is_there, notified_name, notified, tested, gives_value, changed_in_place, operator_action, place, place_at, outside, mutex, mutex_named, mutex_numbered}
+use Rattle.aml_meaning.specs.Meaning.{Setting, at_of, act, mean, value, values, mean_all, block, otherwise, is_else, want, store, stored, put, named, named_target, invoked, held, field_stored, bits_stored, part_read, part_changed, asked, condition, is_there, notified_name, notified, tested, gives_value, changed_in_place, operator_action, place, place_at, outside, mutex, mutex_named, mutex_numbered}
 use Rattle.aml_meaning.specs.Mutexes.{acquire, acquired_or, ended_or, none_held, release, released_or, without_last}
-use Rattle.aml_meaning.specs.Notices.{is_notifiable, notice, paused}
-use Rattle.aml_meaning.specs.Owns.{own_field}
+use Rattle.aml_meaning.specs.Notices.{notice, paused}
 use Rattle.aml_meaning.specs.Parts.{M, ◌>>=◌, give, stop_with, lift, tick, paid, take_step, then_do, get_local, get_arg, get_name, set_local, set_arg, set_name, make_event, sleep, woken, woken_or, content_or, stored_or, may_store}
 use Rattle.aml_meaning.specs.Rules as rules
 use Rattle.aml_meaning.specs.Rules.{Place, Division, integer, divisor, second, combined, transformed, compared, equal, negated, divided, truth}
@@ -51,7 +50,7 @@ use Rattle.aml_meaning.specs.State as state
 use Rattle.aml_meaning.specs.State.{State, Frame, Error, Returned, Broke, Continued, Out, Halts, NoAnswer, Spent, entered, held_level, slots, with_steps}
 use Rattle.aml_meaning.specs.Within.{Callee, Methods, call_within, callee_or, setting_for}
 use Rattle.aml_judged.specs.Events.{Costs}
-use Rattle.aml_judged.specs.Integers.{is_integer, are_integers, is_narrow, is_narrow_part, makes_nothing, integer_name, integer_called, integer_asked, integers, integers_by, integers_in, integer_only_by, AreIntegerOnly, IsInteger, IsIntegerIfAny, AreIntegersIfAny, AreIntegers, HoldIntegers, LeavesIntegers, IsIntegral, StaysIntegral, GivesInteger, IntegersAlone}
+use Rattle.aml_judged.specs.Integers.{is_integer, are_integers, is_narrow, is_narrow_part, makes_nothing, integer_name, integer_called, integers, integers_by, integers_in, integer_only_by, AreIntegerOnly, IsInteger, IsIntegerIfAny, AreIntegersIfAny, AreIntegers, HoldIntegers, LeavesIntegers, IsIntegral, StaysIntegral, GivesInteger, IntegersAlone}
 use Rattle.aml_judged.specs.Judged.{Accepted}
 use Rattle.aml_judged.specs.Verdicts.{Judging}
 use Rattle.aml_judged.proofs.Events.{fields_cost}
@@ -60,7 +59,7 @@ use Rattle.aml_judged.proofs.Tame.{else_action}
 use Rattle.aml_judged.specs.KindRules.{field_kind}
 use Rattle.aml_judged.specs.Safe.{IsOf}
 use Rattle.aml_kinds.specs.Fits.{fits}
-use Rattle.aml_kinds.specs.Kinds.{Kind, IntUpTo, BufOf}
+use Rattle.aml_kinds.specs.Kinds.{IntUpTo, BufOf}
 
 -- rules over integers give integers
 abbrev GivesInt : Result Value AmlError → Type 0

@@ -1,5 +1,5 @@
 -- Calls of accepted methods and of `_OSI`, as they are judged.
-use Rattle.std.proofs.Common.{◌≡◌, ℕ, ◌-◌, List, [], ◌∷◌, Option, Some, None, refl, sym, ap, ◌∙◌, subst, arith, ◌≤◌}
+use Rattle.std.proofs.Common.{◌≡◌, ℕ, List, [], ◌∷◌, Option, Some, None, refl, sym, ap, ◌∙◌, subst, arith, ◌≤◌}
 use Rattle.std.specs.Prelude.{Bool, true, false, if◌then◌else◌, nat_le}
 use Rattle.aml_operators.specs.Tree.{Trees, none, more}
 use Rattle.aml_namespace.specs.declared.link.Link.{Link}
@@ -11,7 +11,6 @@ use Rattle.aml_regions.specs.Events.{Event}
 use Rattle.aml_meaning.specs.State as state
 use Rattle.aml_meaning.specs.State.{State, Out, Halts, NoAnswer, Spent, Error, Returned, Broke, Continued, greatest_level, held_level}
 use Rattle.aml_meaning.specs.Parts.{M, ◌>>=◌, give}
-use Rattle.aml_meaning.specs.Owns.{field_at}
 use Rattle.aml_meaning.specs.Rules.{Place}
 use Rattle.aml_meaning.specs.Interfaces.{answered}
 use Rattle.aml_meaning.specs.Meaning.{interface_asked, place_at, Setting, at_of, invoked}
@@ -19,7 +18,7 @@ use Rattle.aml_judged.specs.Causes as causes
 use Rattle.aml_judged.specs.Known.{Env, within, Held, These, Different}
 use Rattle.aml_judged.specs.Judge as judge
 use Rattle.aml_judged.specs.Judge.{wanted, are_within, not_reaching, with_result, is_accepted, not_deep, judged_call, judged_invoked, judged_interface, holding_by, is_level, level_or, judged_levels, calling}
-use Rattle.aml_judged.specs.Judged.{NameKinds, Yield, Always, Sometimes, Never, Accepted, Seen, Around, Judged, Goes, Stops, Rule, then_judge, pays, goes}
+use Rattle.aml_judged.specs.Judged.{NameKinds, Yield, Always, Sometimes, Never, Accepted, Seen, Around, Judged, Goes, Stops, Rule, then_judge, goes}
 use Rattle.aml_judged.specs.KindRules.{interface_kind}
 use Rattle.aml_judged.proofs.FieldsSafe.{around_of, field_safe}
 use Rattle.aml_judged.proofs.PartsSafe.{part_safe}

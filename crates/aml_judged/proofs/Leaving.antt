@@ -1,10 +1,9 @@
 -- Return, Break and Continue, as they are judged.
-use Rattle.std.proofs.Common.{◌≡◌, ℕ, ◌-◌, List, [], ◌∷◌, Option, None, arith}
+use Rattle.std.proofs.Common.{◌≡◌, ℕ, List, [], ◌∷◌, Option, arith}
 use Rattle.std.specs.Prelude.{Bool, true, false}
 use Rattle.aml_values.specs.Values.{Value}
 use Rattle.aml_kinds.specs.Kinds.{Kind}
 use Rattle.aml_regions.specs.Events.{Event}
-use Rattle.aml_meaning.specs.declared.action.Action.TheVariants.{Return}
 use Rattle.aml_meaning.specs.State.{State, Returned, Broke, Continued, Out, Halts}
 use Rattle.aml_meaning.specs.Parts.{stop_with, then_do}
 use Rattle.aml_meaning.specs.Mutexes.{ended_or, none_held}

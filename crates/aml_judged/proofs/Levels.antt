@@ -1,9 +1,8 @@
 -- What is held where ways meet, and the levels that are taken.
-use Rattle.std.proofs.Common.{◌≡◌, ◌≤◌, ℕ, min, max, List, [], ◌∷◌, Option, Some, None, refl, sym, ap, ◌∙◌, subst, arith}
+use Rattle.std.proofs.Common.{◌≡◌, ◌≤◌, ℕ, min, max, List, [], ◌∷◌, Option, Some, None, refl, sym, ◌∙◌, subst, arith}
 use Rattle.std.specs.Prelude.{Bool, true, false, ◌==◌, ◌&&◌, nat_le, if◌then◌else◌}
 use Rattle.std.proofs.lemmas.Bool.{and_parts, eqb-true, leb-true}
 use Rattle.std.proofs.lemmas.Bool.Decides.{nat_tests}
-use Rattle.aml_paths.specs.declared.scope.ObjectId.{ObjectId}
 use Rattle.aml_meaning.specs.declared.mutex.TakenMutex.{TakenMutex}
 use Rattle.aml_meaning.specs.State.{greatest_level}
 use Rattle.aml_judged.specs.Known.{Held, These, Different, same_mutexes, same_held, join_held}

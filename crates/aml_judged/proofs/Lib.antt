@@ -27,6 +27,8 @@ pub mod Edges
 pub mod MutexExamples
 pub mod FieldExamples
 pub mod Rows
+pub mod OperatorExamples
+pub mod CauseExamples
 pub mod IntegerExamples
 pub mod Order
 pub mod Fine
@@ -34,3 +36,4 @@ pub mod InPlace
 pub mod Chains
 pub mod Mutexes
 pub mod Whole
+pub mod WholeMutex

@@ -1,6 +1,6 @@
 -- Bodies that take and release mutexes, judged as the worked rows say.
-use Rattle.std.proofs.Common.{◌≡◌, ℕ, ◌+◌, ◌*◌, ◌%◌, ◌^◌, ◌-◌, List, [], ◌∷◌, Option, Some, None, Ok, refl}
-use Rattle.std.specs.Prelude.{Bool, true, false, ◌==◌, if◌then◌else◌}
+use Rattle.std.proofs.Common.{◌≡◌, ℕ, ◌%◌, List, [], ◌∷◌, Option, Some, None, Ok, refl}
+use Rattle.std.specs.Prelude.{true, false, ◌==◌, if◌then◌else◌}
 use Rattle.aml_operators.specs.declared.op.Op.{Op}
 use Rattle.aml_operators.specs.declared.op.Op.TheVariants as op
 use Rattle.aml_operators.specs.Tree.{Tree, Trees, Node, none, more, joined}
@@ -10,10 +10,10 @@ use Rattle.aml_namespace.specs.declared.object.Object.{Object}
 use Rattle.aml_namespace.specs.declared.object.Object.TheVariants as object
 use Rattle.aml_kinds.specs.Kinds.{Kind, IntUpTo}
 use Rattle.aml_judged.specs.Causes as cause
-use Rattle.aml_judged.specs.Judged.{Yield, Always, Never, Accepted, Seen, Around}
+use Rattle.aml_judged.specs.Judged.{Yield, Always, Never, Seen}
 use Rattle.aml_judged.specs.Bodies.{judged_method, entry}
 use Rattle.aml_judged.specs.Verdicts.{verdict_of, Verdict}
-use Rattle.aml_judged.proofs.Examples.{here, known_here, late, one, two, three, leaf, byte, nothing, refused, stored_zero}
+use Rattle.aml_judged.proofs.Examples.{here, known_here, late, one, two, three, leaf, byte, refused, stored_zero}
 
 abbrev mutex : ℕ → Link
 mutex k = link.Object (record { 0 = k })
@@ -125,6 +125,10 @@ both_take = refl
 
 one_returns : asking (four (takes 40 43) (if_asked 50 (two (drops 60 63) (returns 65)) none) (drops 70 73) (returns 80)) ≡ Ok (record { args = IntUpTo 1 ∷ []; result = Always (IntUpTo 1); bound = 9; least = Some 3 })
 one_returns = refl
+
+-- a Return in a block holds nothing, whatever the other block holds
+returned_held : asking (two (if_asked 50 (two (takes 60 63) (returns 65)) none) (returns 80)) ≡ refused 65 cause.StillHeld
+returned_held = refl
 
 -- and where none counts, what the first holds goes on
 first_goes_on : asking (three (takes 40 43) (if_asked 50 (three (drops 60 63) (returns 65) (takes 70 73)) (two (drops 80 83) (returns 85))) (drops 90 93)) ≡ Ok (record { args = IntUpTo 1 ∷ []; result = Always (IntUpTo 1); bound = 8; least = Some 3 })

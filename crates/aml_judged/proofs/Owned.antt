@@ -29,7 +29,7 @@ use Rattle.aml_judged.specs.Known.{Env, greatest}
 use Rattle.aml_judged.specs.Judge.{stops}
 use Rattle.aml_judged.specs.Judged.{NameKinds, Seen, Judged, Goes, Stops, no_exits, after, then_judge, goes, Exits, Rule}
 use Rattle.aml_judged.specs.Safe.{IsWord, IsOf, FitNames, FitsState, FitsStop, IsSafe}
-use Rattle.aml_judged.specs.Bodies.{grown_kinds, unless_computed, first_kind_by, judged_data, judged_made, Made, Nothing, Holding, Field, judged_own_source, judged_source, judged_field_made}
+use Rattle.aml_judged.specs.Bodies.{grown_kinds, unless_computed, first_kind_by, judged_data, judged_made, Made, Holding, Field, judged_own_source, judged_source, judged_field_made}
 use Rattle.aml_judged.proofs.Fits.{both, fits_by, in_range, in_greatest}
 use Rattle.aml_judged.proofs.Turns.{value_of}
 use Rattle.aml_judged.proofs.FieldsSafe.{around_of}

@@ -1,5 +1,5 @@
 -- What a term reads is of the kind that it is judged to be.
-use Rattle.std.proofs.Common.{◌≡◌, ℕ, ◌-◌, List, Option, Some, None, Result, Ok, Err, refl, arith, subst}
+use Rattle.std.proofs.Common.{◌≡◌, ℕ, List, Option, Some, None, Result, Ok, Err, refl, arith, subst}
 use Rattle.std.specs.Prelude.{slice_get}
 use Rattle.aml_operators.specs.Tree.{Tree, Node}
 use Rattle.aml_namespace.specs.declared.link.Link.{Link}
@@ -10,7 +10,7 @@ use Rattle.aml_contents.specs.Contents.{content_at, kind_at}
 use Rattle.aml_regions.specs.Events.{Event}
 use Rattle.aml_meaning.specs.declared.error.AmlError.{AmlError}
 use Rattle.aml_meaning.specs.declared.action.Action.{Action}
-use Rattle.aml_meaning.specs.declared.action.Action.TheVariants.{SizeOf, Local, Argument, Name, NoTarget}
+use Rattle.aml_meaning.specs.declared.action.Action.TheVariants.{Local, Argument, Name, NoTarget}
 use Rattle.aml_meaning.specs.Actions.{action}
 use Rattle.aml_meaning.specs.State as state
 use Rattle.aml_meaning.specs.State.{State, Out}

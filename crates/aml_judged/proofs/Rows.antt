@@ -1,13 +1,12 @@
 -- Worked rows: bodies at their bytes' places, with the verdicts that stand in the tables of rows.
-use Rattle.std.proofs.Common.{◌≡◌, ℕ, ◌+◌, ◌*◌, ◌^◌, ◌-◌, List, [], ◌∷◌, Option, Some, None, Ok, refl}
-use Rattle.std.specs.Prelude.{Bool, true, false, ◌==◌, nat_le, if◌then◌else◌}
+use Rattle.std.proofs.Common.{◌≡◌, ℕ, ◌+◌, ◌^◌, ◌-◌, List, [], ◌∷◌, Option, Some, None, Ok, refl}
+use Rattle.std.specs.Prelude.{Bool, true, false, ◌==◌, if◌then◌else◌}
 use Rattle.aml_operators.specs.declared.op.Op.TheVariants as op
 use Rattle.aml_operators.specs.Tree.{Tree, Trees, Node, none, more}
 use Rattle.aml_namespace.specs.declared.link.Link.{Link}
 use Rattle.aml_namespace.specs.declared.link.Link.TheVariants as link
 use Rattle.aml_values.specs.Values.{Buf}
 use Rattle.aml_kinds.specs.Kinds.{Kind, IntUpTo, BufOf}
-use Rattle.aml_contents.specs.Contents.{ContentKinds}
 use Rattle.aml_regions.specs.declared.field.AnyField.{AnyField}
 use Rattle.aml_regions.specs.declared.field.AnyField.TheVariants.{Plain}
 use Rattle.aml_regions.specs.declared.field.OtherBits.{OtherBits}
@@ -15,7 +14,7 @@ use Rattle.aml_regions.specs.declared.field.OtherBits.TheVariants as others
 use Rattle.aml_regions.specs.declared.field.UnitWidth.TheVariants as unit
 use Rattle.aml_meaning.specs.Fields.{read_count, write_count, plan_reads, plan_writes, plan_of, region_plan}
 use Rattle.aml_judged.specs.Causes as cause
-use Rattle.aml_judged.specs.Judged.{Yield, Always, Sometimes, Never, Accepted, Seen, Around}
+use Rattle.aml_judged.specs.Judged.{Yield, Always, Never, Around}
 use Rattle.aml_judged.specs.Bodies.{shared_only, judged_method, entry}
 use Rattle.aml_judged.specs.Verdicts.{verdict_of, Verdict}
 use Rattle.aml_judged.proofs.Examples.{here, known_here, late, one, two, three, leaf, byte, nothing, refused, stored_zero}

@@ -1,5 +1,5 @@
 -- A body that is judged fine meets no error, and takes no more steps than it costs.
-use Rattle.std.proofs.Common.{◌≡◌, ℕ, ◌-◌, ◌^◌, ◌≤◌, ◌<◌, List, Option, Some, None, refl, sym, subst, arith}
+use Rattle.std.proofs.Common.{◌≡◌, ℕ, ◌^◌, ◌≤◌, ◌<◌, List, Option, Some, None, refl, sym, subst, arith}
 use Rattle.std.specs.Prelude.{Bool, true, false, ◌==◌, if◌then◌else◌, slice_get, unwrap_or}
 use Rattle.aml_operators.specs.Shape.{operator_of}
 use Rattle.aml_operators.specs.Literal.{literal_in}
@@ -22,7 +22,7 @@ use Rattle.aml_meaning.specs.Notices.{notice}
 use Rattle.aml_operators.specs.declared.op.Op.{Op}
 use Rattle.aml_contents.specs.BodyData.{computed_size}
 use Rattle.aml_contents.specs.FirstKinds.{kind_by}
-use Rattle.aml_meaning.specs.Meaning.{indexed, untargeted, dereferenced, led, place_at, Setting, at_of, act, mean, value, values, mean_all, block, otherwise, is_else, store, stored, held, tested, gives_value, takes_operand, operator_action, place, outside}
+use Rattle.aml_meaning.specs.Meaning.{indexed, untargeted, dereferenced, led, place_at, Setting, at_of, act, mean, value, values, mean_all, block, otherwise, is_else, store, stored, tested, gives_value, takes_operand, operator_action, place, outside}
 use Rattle.aml_judged.specs.Causes as causes
 use Rattle.aml_judged.specs.Known.{Env}
 use Rattle.aml_judged.specs.Judge as judge

@@ -1,5 +1,5 @@
 -- What a test tells, where it held.
-use Rattle.std.proofs.Common.{◌≡◌, ℕ, suc, ◌-◌, List, Option, Some, Result, Ok, Err, refl, arith}
+use Rattle.std.proofs.Common.{◌≡◌, ℕ, suc, List, Option, Some, Result, Ok, Err, refl, arith}
 use Rattle.aml_operators.specs.Tree.{Tree, Trees, Node, none, more}
 use Rattle.aml_values.specs.Values.{Value}
 use Rattle.aml_kinds.specs.Kinds.{Kind}
@@ -25,7 +25,7 @@ use Rattle.aml_judged.proofs.KindRules.{plain, Follows, IsBelow, integer_follows
 use Rattle.aml_judged.specs.Safe.{IsOf, FitsState, FitsYield, IsSafe}
 use Rattle.aml_judged.proofs.Fits.{lower_fits}
 use Rattle.aml_judged.proofs.Parts.{safe_then}
-use Rattle.aml_judged.proofs.Shapes.{OnGoes, BelowBy, BelowAct, BelowTree, test_tells, tells}
+use Rattle.aml_judged.proofs.Shapes.{OnGoes, BelowBy, BelowAct, BelowTree, test_tells}
 use Rattle.aml_judged.proofs.Loops.{Held}
 
 module _ (here : Setting) (kinds : NameKinds) (callee : ℕ → Seen) (above : ℕ) (script : List Event) where

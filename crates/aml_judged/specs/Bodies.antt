@@ -30,7 +30,8 @@ use Rattle.aml_meaning.specs.Owns.{field_at}
 abbrev pub shared_only : ContentKinds → NameKinds
 shared_only kinds = record { shared = kinds; owns = []; fields = [] }
 
--- what a statement at the top of a body makes: nothing, a name that holds what is of a kind, or a field of a buffer
+-- what a statement at the top of a body makes: nothing, a name that holds what is of a kind, or a
+-- field of a buffer
 pub data Made : Type 0 where
   Nothing : Made
   Holding : (kind : Kind) → Made
@@ -39,8 +40,10 @@ pub data Made : Type 0 where
 -- with one own name more
 abbrev pub grown_kinds : NameKinds → Made → NameKinds
 grown_kinds kinds Nothing = kinds
-grown_kinds kinds (Holding k) = record kinds { owns = kinds.owns ++ Some k ∷ []; fields = kinds.fields ++ None ∷ [] }
-grown_kinds kinds (Field f) = record kinds { owns = kinds.owns ++ None ∷ []; fields = kinds.fields ++ Some f ∷ [] }
+grown_kinds kinds (Holding k) =
+    record kinds { owns = kinds.owns ++ Some k ∷ []; fields = kinds.fields ++ None ∷ [] }
+grown_kinds kinds (Field f) =
+    record kinds { owns = kinds.owns ++ None ∷ []; fields = kinds.fields ++ Some f ∷ [] }
 
 abbrev pub grown : Around → Made → Around
 grown here k = record here { kinds = grown_kinds here.kinds k }
@@ -70,14 +73,16 @@ judged_source here at (link.Data id) = goes (link.Data id)
 judged_source here at (link.Own k) = judged_own_source here at k (field_at here.kinds.fields k)
 judged_source here at l = stops here cause.OutsideProfile at
 
--- a field of a buffer is made, where its source is a name, and its index and its size are integer literals (own)
+-- a field of a buffer is made, where its source is a name, and its index and its size are integer
+-- literals (own)
 abbrev pub judged_field_made : Around → ℕ → Option ℕ → Option ℕ → Option BufferFieldSize → Rule Made
 judged_field_made here at (Some from) (Some index) (Some counted) = do
   source ← judged_source here at (here.link from)
   goes (Field (made_part here.width source counted index))
 judged_field_made here at from index counted = stops here cause.OutsideProfile at
 
--- whether a definition makes an own name, by the place of its name: that is one segment without prefix, and no own name has it yet
+-- whether a definition makes an own name, by the place of its name: that is one segment without
+-- prefix, and no own name has it yet
 abbrev pub may_make : Around → ℕ → Bool
 may_make here at = here.lone at && not (is_own (here.link at))
 
@@ -87,10 +92,13 @@ judged_made here makes.Name at (more name (more held none)) = if may_make here (
   k ← judged_data here held
   goes (Holding k)) else stops here cause.LocalName at
 judged_made here (makes.Field counted) at (more source (more index (more name none))) =
-    if may_make here (at_of name) then judged_field_made here at (source_of source) (literal_of index) (Some counted)
+    if may_make here (at_of name)
+    then judged_field_made here at (source_of source) (literal_of index) (Some counted)
     else stops here cause.LocalName at
 judged_made here makes.CountedField at (more source (more index (more count (more name none)))) =
-    if may_make here (at_of name) then judged_field_made here at (source_of source) (literal_of index) (option_map size.Bits (literal_of count))
+    if may_make here (at_of name)
+    then judged_field_made here at (source_of source) (literal_of index)
+    (option_map size.Bits (literal_of count))
     else stops here cause.LocalName at
 judged_made here what at ts = stops here cause.OutsideProfile at
 
@@ -112,7 +120,8 @@ judged_body here (more t ts) = do
   made ← judged_statement here t
   judged_body (grown here made) ts
 
--- a method: its statements, and then the body's end, where it counts: no mutex is held there, which is told at the Method opcode
+-- a method: its statements, and then the body's end, where it counts: no mutex is held there, which
+-- is told at the Method opcode
 abbrev pub judged_method : Around → ℕ → Trees → Rule (Unit {0})
 judged_method here opcode ts = do
   _ ← judged_body here ts
@@ -125,4 +134,10 @@ kind_slots (suc n) (k ∷ ks) = Some k ∷ kind_slots n ks
 
 -- what is known where a method begins, which holds no mutex
 abbrev pub entry : List Kind → Env
-entry ks = record { locals = kind_slots 8 []; args = kind_slots 7 ks; held = These []; counts = true; looped = false }
+entry ks = record {
+  locals = kind_slots 8 [];
+  args = kind_slots 7 ks;
+  held = These [];
+  counts = true;
+  looped = false;
+}

@@ -1,5 +1,6 @@
--- Methods that evaluate integers alone: each term of such a method that has a value has an integer, names, locals and arguments that are
--- read or written by what they hold, and it makes no own name (own).
+-- Methods that evaluate integers alone: each term of such a method that has a value has an integer,
+-- names, locals and arguments that are read or written by what they hold, and it makes no own name
+-- (own).
 use Rattle.std.specs.Prelude.{◌≡◌, ℕ, ◌&&◌, nat_le, List, [], ◌∷◌, Option, Some, None, slice_get, Bool, true, false}
 use Rattle.aml_operators.specs.Tree.{Tree, Trees, Node, none, more}
 use Rattle.aml_namespace.specs.declared.link.Link.{Link}
@@ -18,7 +19,7 @@ use Rattle.aml_meaning.specs.declared.definition.Definition.TheVariants as makes
 use Rattle.aml_meaning.specs.declared.part.BufferPart.{BufferPart}
 use Rattle.aml_meaning.specs.Actions.{action}
 use Rattle.aml_meaning.specs.Definitions.{definition}
-use Rattle.aml_meaning.specs.Meaning.{at_of, mean, value}
+use Rattle.aml_meaning.specs.Meaning.{Setting, at_of, mean, value}
 use Rattle.aml_meaning.specs.Rules.{Place}
 use Rattle.aml_meaning.specs.State as state
 use Rattle.aml_meaning.specs.State.{State, Frame, Names, Error, Returned, Broke, Continued, Out, Halts, NoAnswer, Spent}
@@ -47,7 +48,8 @@ abbrev pub makes_nothing : Definition → Bool
 makes_nothing makes.Nothing = true
 makes_nothing what = false
 
--- in a method's body, where data names are of these kinds, and these methods evaluate integers alone
+-- in a method's body, where data names are of these kinds, and these methods evaluate integers
+-- alone
 module _ (methods : Methods) (m : Callee) (kinds : ContentKinds) (only : ℕ → Bool) where
   -- what a name holds, or has as a field
   abbrev pub integer_name : Link → Bool
@@ -81,7 +83,8 @@ module _ (methods : Methods) (m : Callee) (kinds : ContentKinds) (only : ℕ →
     integers_by Index at parts = false
     integers_by (Convert conversion.ToBuffer) at parts = false
     integers_by Name at parts = integer_name (m.link at)
-    integers_by Invoke at (more name arguments) = integer_called (m.link (at_of name)) && integers_in arguments
+    integers_by Invoke at (more name arguments) =
+        integer_called (m.link (at_of name)) && integers_in arguments
     integers_by CondRefOf at (more (Node o from stop parts) ts) = integer_asked (m.link from)
     integers_by Notify at (more o ts) = integers_in ts
     integers_by Acquire at parts = true
@@ -95,7 +98,8 @@ module _ (methods : Methods) (m : Callee) (kinds : ContentKinds) (only : ℕ →
 
 module _ (all : Judging) where
   abbrev pub integer_only_by : (ℕ → Bool) → ℕ → Option Accepted → Option Callee → Bool
-  integer_only_by only k (Some a) (Some m) = are_integers (all.args k) && integers_in all.methods m all.kinds only m.body
+  integer_only_by only k (Some a) (Some m) =
+      are_integers (all.args k) && integers_in all.methods m all.kinds only m.body
   integer_only_by only k known m = false
 
   -- the accepted methods that are integer-only, by those that they call
@@ -121,11 +125,14 @@ AreIntegers (v ∷ vs) = IsInteger v × AreIntegers vs
 module _ (kinds : ContentKinds) where
   -- names of integers hold integers
   abbrev pub HoldIntegers : Contents → Type 0
-  HoldIntegers contents = (i : ℕ) → is_integer (kind_at kinds i) ≡ true → IsIntegerIfAny (content_at contents i)
+  HoldIntegers contents =
+      (i : ℕ) → is_integer (kind_at kinds i) ≡ true → IsIntegerIfAny (content_at contents i)
 
   -- contents that a Sleep left do so, too
   pub record LeavesIntegers (script : List Event) : Type 0 where
-    pub left : (i milliseconds : ℕ) (contents : Contents) → slice_get script i ≡ Some (Slept milliseconds (Some contents)) → HoldIntegers contents
+    pub left :
+        (i milliseconds : ℕ) (contents : Contents) →
+        slice_get script i ≡ Some (Slept milliseconds (Some contents)) → HoldIntegers contents
 
   -- locals and arguments hold nothing or integers, and so do names of integers
   pub record IsIntegral (s : State) : Type 0 where
@@ -133,7 +140,8 @@ module _ (kinds : ContentKinds) where
     pub args : AreIntegersIfAny s.frame.args
     pub names : HoldIntegers s.names.contents
 
-  -- goes on with what is wanted, or leaves by a Return of an integer, a Break or a Continue; the state is still such
+  -- goes on with what is wanted, or leaves by a Return of an integer, a Break or a Continue; the
+  -- state is still such
   abbrev pub StaysIntegral : {V : Type 0} → (V → Type 0) → Out V → Type 0
   StaysIntegral P (state.Goes v s) = P v × IsIntegral s
   StaysIntegral P (Halts (Error e) s) = Unit {0}
@@ -145,27 +153,36 @@ module _ (kinds : ContentKinds) where
 
   -- a call gives an integer, if anything, and leaves the frame alone
   abbrev pub GivesInteger : Frame → Out (Option Value) → Type 0
-  GivesInteger frame (state.Goes v s) = IsIntegerIfAny v × (s.frame ≡ frame) × HoldIntegers s.names.contents
+  GivesInteger frame (state.Goes v s) =
+      IsIntegerIfAny v × (s.frame ≡ frame) × HoldIntegers s.names.contents
   GivesInteger frame (Halts (Error e) s) = Unit {0}
   GivesInteger frame (Halts stop s) = ⊥
   GivesInteger frame (NoAnswer s) = Unit {0}
   GivesInteger frame (Spent s) = Unit {0}
 
--- in an integer-only method each statement, and each operand, leaves integers alone in locals, arguments and names of integers, and an
--- operand is an integer; and so is what the method gives
+-- where a method's body stands, with so many more methods active in one another
+abbrev pub setting_within : Judging → ℕ → Callee → Setting
+setting_within all d m = setting_for all.methods (call_within all.methods d) m
+
+-- in an integer-only method each statement, and each operand, leaves integers alone in locals,
+-- arguments and names of integers, and an operand is an integer; and so is what the method gives
 pub record IntegersAlone : Type 0 where
   pub statements :
-      (all : Judging) (known : ℕ → Option Accepted) (only : ℕ → Bool) → AreIntegerOnly all known only →
+      (all : Judging) (known : ℕ → Option Accepted) (only : ℕ → Bool) →
+      AreIntegerOnly all known only →
       (d : ℕ) (m : Callee) (t : Tree) → integers all.methods m all.kinds only t ≡ true →
       (script : List Event) → LeavesIntegers all.kinds script → (s : State) → IsIntegral all.kinds s →
-      StaysIntegral all.kinds IsIntegerIfAny ((mean (setting_for all.methods (call_within all.methods d) m) t).run script s)
+      StaysIntegral all.kinds IsIntegerIfAny ((mean (setting_within all d m) t).run script s)
   pub operands :
-      (all : Judging) (known : ℕ → Option Accepted) (only : ℕ → Bool) → AreIntegerOnly all known only →
+      (all : Judging) (known : ℕ → Option Accepted) (only : ℕ → Bool) →
+      AreIntegerOnly all known only →
       (d : ℕ) (m : Callee) (t : Tree) → integers all.methods m all.kinds only t ≡ true →
       (script : List Event) → LeavesIntegers all.kinds script → (s : State) → IsIntegral all.kinds s →
-      StaysIntegral all.kinds IsInteger ((value (setting_for all.methods (call_within all.methods d) m) t).run script s)
+      StaysIntegral all.kinds IsInteger ((value (setting_within all d m) t).run script s)
   pub calls :
-      (all : Judging) (known : ℕ → Option Accepted) (only : ℕ → Bool) → AreIntegerOnly all known only →
+      (all : Judging) (known : ℕ → Option Accepted) (only : ℕ → Bool) →
+      AreIntegerOnly all known only →
       (d : ℕ) (p : Place) (k : ℕ) (values : List Value) → only k ≡ true → AreIntegers values →
-      (script : List Event) → LeavesIntegers all.kinds script → (s : State) → HoldIntegers all.kinds s.names.contents →
+      (script : List Event) → LeavesIntegers all.kinds script →
+      (s : State) → HoldIntegers all.kinds s.names.contents →
       GivesInteger all.kinds s.frame ((call_within all.methods d p k values).run script s)

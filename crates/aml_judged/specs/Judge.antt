@@ -1,4 +1,5 @@
--- The kind rules and the bound: how a term changes what is known, what it costs, and where it could go wrong.
+-- The kind rules and the bound: how a term changes what is known, what it costs, and where it could
+-- go wrong.
 use Rattle.std.specs.Prelude.{ℕ, suc, ◌+◌, ◌-◌, ◌*◌, ◌%◌, ◌^◌, ◌==◌, ◌&&◌, ◌||◌, ◌++◌, not, nat_le, List, [], ◌∷◌, Option, Some, None, unwrap_or, slice_get, Bool, true, false, if◌then◌else◌}
 use Rattle.aml_operators.specs.Shape.{operator_of}
 use Rattle.aml_operators.specs.Literal.{literal_in}
@@ -143,7 +144,8 @@ module _ (here : Around) where
   judged_put Name at k = judged_target (here.link at) at k
   judged_put other at k = stops cause.OutsideProfile at
 
-  -- the place of the name that a written Index is of: alone, or with arguments, which are not judged
+  -- the place of the name that a written Index is of: alone, or with arguments, which are not
+  -- judged
   abbrev pub judged_bound : Link → ℕ → Rule ℕ
   judged_bound link.Missing at = stops cause.Unresolved at
   judged_bound l at = goes at
@@ -225,9 +227,11 @@ module _ (here : Around) where
   judged_untargeted at NoTarget = goes tt
   judged_untargeted at into = stops cause.OutsideProfile at
 
-  -- the mutex that the object with a number is, named at a place, for an operator at another; the global lock is outside
+  -- the mutex that the object with a number is, named at a place, for an operator at another; the
+  -- global lock is outside
   abbrev pub judged_mutex_numbered : ℕ → ℕ → ℕ → Option Object → Rule TakenMutex
-  judged_mutex_numbered at from k (Some (object.Mutex level)) = goes (record { object = record { 0 = k }; level = level })
+  judged_mutex_numbered at from k (Some (object.Mutex level)) =
+      goes (record { object = record { 0 = k }; level = level })
   judged_mutex_numbered at from k (Some object.GlobalLock) = stops cause.OutsideProfile at
   judged_mutex_numbered at from k o = stops cause.WrongKind from
 
@@ -236,8 +240,8 @@ module _ (here : Around) where
   judged_mutex_named at from (link.Object id) = judged_mutex_numbered at from id.0 (here.object id.0)
   judged_mutex_named at from l = stops cause.WrongKind from
 
-  -- the mutex that an operand of Acquire or Release at a place is, which stands at another; a local and an argument are none, and are
-  -- not read
+  -- the mutex that an operand of Acquire or Release at a place is, which stands at another; a local
+  -- and an argument are none, and are not read
   abbrev pub judged_mutex : ℕ → Action → ℕ → Rule TakenMutex
   judged_mutex at Name from = judged_mutex_named at from (here.link from)
   judged_mutex at (Local k) from = stops cause.WrongKind from
@@ -396,7 +400,8 @@ module _ (here : Around) where
   falls l (Binary arithmetic.Subtract) (more a (more b (more g none))) = acts (is_local l) g && (acts (is_local l) a && is_one b)
   falls l a parts = false
 
-  -- just one step stands in a list, the local is no target beside it, and no Continue stands before it
+  -- just one step stands in a list, the local is no target beside it, and no Continue stands before
+  -- it
   abbrev pub steps : (ℕ → Action → Trees → Bool) → ℕ → Trees → Bool
   steps moves l none = false
   steps moves l (more (Node o at stop parts) ts) =
@@ -439,10 +444,11 @@ module _ (here : Around) where
   exit_holds None start = true
   exit_holds (Some env) start = holds_as env start
 
-  -- what goes back to the test holds what the loop began with, and what breaks holds what is held behind the test; the tests of such
-  -- loops take and release nothing, so these are the same
+  -- what goes back to the test holds what the loop began with, and what breaks holds what is held
+  -- behind the test; the tests of such loops take and release nothing, so these are the same
   abbrev pub holds_back : Env → Exits → Env → Env → Bool
-  holds_back end x start tested = holds_as end start && (exit_holds x.continued start && exit_holds x.broke tested)
+  holds_back end x start tested =
+      holds_as end start && (exit_holds x.continued start && exit_holds x.broke tested)
 
   -- behind a loop stands what stood behind its failed test and at its Breaks
   abbrev pub after_loop : Option Env → Env → Env
@@ -454,7 +460,8 @@ module _ (here : Around) where
 
   -- a loop that ends in its first turn, from its test
   abbrev pub once_ended : Bool → ℕ → Env → Judged (Unit {0}) → Judged (Unit {0})
-  once_ended outer at et (Goes u eb x m) = agreed (exit_holds x.broke et) (refusal cause.HeldDiffers at) (past outer et x m)
+  once_ended outer at et (Goes u eb x m) =
+      agreed (exit_holds x.broke et) (refusal cause.HeldDiffers at) (past outer et x m)
   once_ended outer at et (Stops r) = Stops r
 
   abbrev pub once : Bool → ℕ → Judged Env → Rule (Unit {0}) → Judged (Unit {0})
@@ -463,11 +470,13 @@ module _ (here : Around) where
 
   -- one that makes so many turns at most: kinds are asked first, and then what is held
   abbrev pub closed : Bool → ℕ → ℕ → Bool → Bool → Env → Exits → ℕ → Judged (Unit {0})
-  closed outer turns at true holds et x n = agreed holds (refusal cause.HeldDiffers at) (past outer et x (turns * n))
+  closed outer turns at true holds et x n =
+      agreed holds (refusal cause.HeldDiffers at) (past outer et x (turns * n))
   closed outer turns at false holds et x n = Stops (refusal cause.WrongKind at)
 
   abbrev pub turned : Bool → ℕ → ℕ → ℕ → Env → Env → Judged (Unit {0}) → Judged (Unit {0})
-  turned outer turns at n start et (Goes u eb x m) = closed outer turns at (comes_back eb x.continued start) (holds_back eb x start et) et x (n + m)
+  turned outer turns at n start et (Goes u eb x m) =
+      closed outer turns at (comes_back eb x.continued start) (holds_back eb x start et) et x (n + m)
   turned outer turns at n start et (Stops r) = Stops r
 
   abbrev pub often : Bool → ℕ → ℕ → Env → Judged Env → Rule (Unit {0}) → Judged (Unit {0})
@@ -485,7 +494,8 @@ module _ (here : Around) where
   judged_loop (Down l c) at ts test body env = falling (slice_get env.locals l) c at ts test body env
   judged_loop Endless at ts test body env = Stops (refusal cause.LoopShape at)
 
-  -- where LLess (X, c) held, X a local or an argument and c a literal that is not zero, X is below c
+  -- where LLess (X, c) held, X a local or an argument and c a literal that is not zero, X is below
+  -- c
   abbrev pub narrowed_by : Action → Option ℕ → Env → Env
   narrowed_by (Local i) (Some (suc n)) env = record env { locals = lower env.locals i n }
   narrowed_by (Argument i) (Some (suc n)) env = record env { args = lower env.args i n }

@@ -20,22 +20,23 @@ pub data Yield : Type 0 where
   Sometimes : (kind : Kind) → Yield
   Never : Yield
 
--- an accepted method: the kinds of its arguments, what a call gives, how many steps it takes at most, and the least level of a mutex
--- that it takes, or a method that it calls, if they take any
+-- an accepted method: the kinds of its arguments, what a call gives, how many steps it takes at
+-- most, and the least level of a mutex that it takes, or a method that it calls, if they take any
 pub record Accepted : Type 0 where
   pub args : List Kind
   pub result : Yield
   pub bound : ℕ
   pub least : Option ℕ
 
--- what a caller sees of a method: whether it reaches the caller, whether a chain of 64 begins with it, and what it is, where it is
--- accepted
+-- what a caller sees of a method: whether it reaches the caller, whether a chain of 64 begins with
+-- it, and what it is, where it is accepted
 pub record Seen : Type 0 where
   pub reaches : Bool
   pub deep : Bool
   pub accepted : Option Accepted
 
--- the kinds of data names, and of the own names made so far: of each the kind of what it holds, or the field of a buffer that it is
+-- the kinds of data names, and of the own names made so far: of each the kind of what it holds, or
+-- the field of a buffer that it is
 pub record NameKinds : Type 0 where
   pub shared : ContentKinds
   pub owns : ContentKinds
@@ -54,7 +55,8 @@ pub record Around : Type 0 where
   pub kinds : NameKinds
   pub callee : ℕ → Seen
 
--- what is known at the exits that count; and the least level of a mutex that is taken, by a way that counts or by one that doesn't
+-- what is known at the exits that count; and the least level of a mutex that is taken, by a way
+-- that counts or by one that doesn't
 pub record Exits : Type 0 where
   pub broke : Option Env
   pub continued : Option Env
@@ -81,7 +83,8 @@ join_exits a b = record {
   least = either min a.least b.least;
 }
 
--- goes on with something of a kind and in an environment, or leaves by its exits, at such a cost; or the first cause
+-- goes on with something of a kind and in an environment, or leaves by its exits, at such a cost;
+-- or the first cause
 pub data Judged (K : Type 0) : Type 0 where
   Goes : (kind : K) (env : Env) (exits : Exits) (cost : ℕ) → Judged K
   Stops : (refusal : Refusal) → Judged K
@@ -123,9 +126,11 @@ abbrev pub agreed : {K : Type 0} → Bool → Refusal → Judged K → Judged K
 agreed true r j = j
 agreed false r j = Stops r
 
--- either of two, of which the first is judged first; ends that count hold the same mutexes, or this is refused
+-- either of two, of which the first is judged first; ends that count hold the same mutexes, or this
+-- is refused
 abbrev pub meet : {K : Type 0} → Refusal → Judged K → Judged K → Judged K
-meet r (Goes k a x n) (Goes j b y m) = agreed (ends_agree a b) r (Goes k (join_env a b) (join_exits x y) (max n m))
+meet r (Goes k a x n) (Goes j b y m) =
+    agreed (ends_agree a b) r (Goes k (join_env a b) (join_exits x y) (max n m))
 meet r (Goes k a x n) (Stops q) = Stops q
 meet r (Stops q) j = Stops q
 

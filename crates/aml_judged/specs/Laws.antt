@@ -16,7 +16,8 @@ use Rattle.aml_judged.specs.Verdicts.{accepted_of, Judging, is_among, every, is_
 use Rattle.aml_meaning.specs.State as state
 
 module _ (all : Judging) where
-  -- what literals of data hold: integers of the width, bytes, and packages that have not too many elements
+  -- what literals of data hold: integers of the width, bytes, and packages that have not too many
+  -- elements
   abbrev pub AreSmall : Type 0
   AreSmall =
       (k : ℕ) (m : Callee) → all.methods.callee k ≡ Some m →
@@ -44,7 +45,8 @@ module _ (all : Judging) where
 
   -- it is done, or has no answer: no error, and not out of steps
   abbrev pub IsDone : Accepted → Out (Option Value) → Type 0
-  IsDone a (state.Goes v s) = FitsYield all.methods.width v a.result × FitNames all.methods.width all.kinds s.names
+  IsDone a (state.Goes v s) =
+      FitsYield all.methods.width v a.result × FitNames all.methods.width all.kinds s.names
   IsDone a (Halts stop s) = ⊥
   IsDone a (NoAnswer s) = Unit {0}
   IsDone a (Spent s) = ⊥
@@ -55,14 +57,16 @@ HasNoError (Halts stop s) = ⊥
 HasNoError (NoAnswer s) = Unit {0}
 HasNoError (Spent s) = Unit {0}
 
--- no evaluation of an accepted method, however many steps it has, meets an error, where callers hold no level above the least that it
--- takes; and with as many steps as its verdict says it is done, or some read has no answer
+-- no evaluation of an accepted method, however many steps it has, meets an error, where callers
+-- hold no level above the least that it takes; and with as many steps as its verdict says it is
+-- done, or some read has no answer
 pub record VerdictsMean : Type 0 where
   pub bounds :
       (all : Judging) (known : ℕ → Option Accepted) → AreVerdicts all known →
       (k : ℕ) (a : Accepted) (m : Callee) (values : List Value) (script : List Event) (s : State) →
       IsCallable all known k a m values script s →
-      IsCalled all.methods.width (shared_only all.kinds) a s.frame s.steps (evaluation all m values script s)
+      IsCalled all.methods.width (shared_only all.kinds) a s.frame s.steps
+      (evaluation all m values script s)
   pub no_error :
       (all : Judging) (known : ℕ → Option Accepted) → AreVerdicts all known →
       (k : ℕ) (a : Accepted) (m : Callee) (values : List Value) (script : List Event) (s : State) →
@@ -100,7 +104,8 @@ module _ (all : Judging) where
       (every (λ j. is_among j done) (all.calls k) ≡ true) ×
       (is_among k done ≡ false) × IsBehindCallees (k ∷ done) ks
 
--- judged in such an order, where the methods that are left out reach a cycle or begin too long a chain, they are the answer
+-- judged in such an order, where the methods that are left out reach a cycle or begin too long a
+-- chain, they are the answer
 abbrev pub OrderAnswers : Type 0
 OrderAnswers =
     (all : Judging) (order : List ℕ) → IsBehindCallees all [] order →

@@ -22,7 +22,8 @@ AreBytes (b ∷ bytes) = (b < 256) × AreBytes bytes
 
 module _ (width : ℕ) where
   abbrev mutual
-    -- a value whose integers have the width, whose bytes are bytes, and whose packages have not too many elements, at every depth
+    -- a value whose integers have the width, whose bytes are bytes, and whose packages have not too
+    -- many elements, at every depth
     pub IsWord : Value → Type 0
     IsWord (Int n) = n < 2 ^ width
     IsWord (Buf bytes) = AreBytes bytes
@@ -88,7 +89,8 @@ abbrev pub FitsHeld : List TakenMutex → Held → Type 0
 FitsHeld ms (These ns) = ms ≡ ns
 FitsHeld ms Different = Unit {0}
 
--- mutexes may be taken where others are held up to a level, if the least that is taken is at least that
+-- mutexes may be taken where others are held up to a level, if the least that is taken is at least
+-- that
 abbrev pub Allows : Option ℕ → ℕ → Type 0
 Allows None level = Unit {0}
 Allows (Some least) level = level ≤ least
@@ -121,7 +123,8 @@ module _ (width : ℕ) (kinds : NameKinds) (above : ℕ) where
   FitsStop x (Broke at) s = FitsExit x.broke s
   FitsStop x (Continued at) s = FitsExit x.continued s
 
-  -- from so many steps: no error but for what callers hold, as the rules say, within the cost, and short of steps only where fewer were there
+  -- from so many steps: no error but for what callers hold, as the rules say, within the cost, and
+  -- short of steps only where fewer were there
   abbrev pub IsSafe : {V K : Type 0} → (V → K → State → Type 0) → ℕ → Judged K → Out V → Type 0
   IsSafe P before (Stops r) out = Unit {0}
   IsSafe P before (Goes k env x n) (state.Goes v s) = P v k s × FitsState env s × (before ≤ s.steps + n)
@@ -130,8 +133,9 @@ module _ (width : ℕ) (kinds : NameKinds) (above : ℕ) where
   IsSafe P before (Goes k env x n) (Spent s) = before < n
 
 module _ (width : ℕ) (kinds : NameKinds) where
-  -- a call of an accepted method gives what is known of it within its bound, and leaves the frame alone; it meets no error, but
-  -- where the caller or its callers hold a level above the least that the method takes
+  -- a call of an accepted method gives what is known of it within its bound, and leaves the frame
+  -- alone; it meets no error, but where the caller or its callers hold a level above the least that
+  -- the method takes
   abbrev pub IsCalled : Accepted → Frame → ℕ → Out (Option Value) → Type 0
   IsCalled m frame before (state.Goes v s) =
       FitsYield width v m.result × (s.frame ≡ frame) × FitNames width kinds.shared s.names × (before ≤ s.steps + m.bound)
@@ -141,7 +145,11 @@ module _ (width : ℕ) (kinds : NameKinds) where
   IsCalled m frame before (Spent s) = before < m.bound
 
   pub record AreCalls (callee : ℕ → Seen) (call : Place → ℕ → List Value → M (Option Value)) : Type 0 where
-    pub each : (p : Place) (k : ℕ) (m : Accepted) (vs : List Value) (script : List Event) (s : State) → (callee k).accepted ≡ Some m → FitAll width vs m.args → FitNames width kinds.shared s.names → FitScript width kinds.shared script → IsCalled m s.frame s.steps ((call p k vs).run script s)
+    pub each :
+        (p : Place) (k : ℕ) (m : Accepted) (vs : List Value) (script : List Event) (s : State) →
+        (callee k).accepted ≡ Some m → FitAll width vs m.args →
+        FitNames width kinds.shared s.names → FitScript width kinds.shared script →
+        IsCalled m s.frame s.steps ((call p k vs).run script s)
 
 -- whatever a call is, it leaves its caller's frame alone, and stops by an error or not at all
 abbrev pub IsTame : Frame → Out (Option Value) → Type 0

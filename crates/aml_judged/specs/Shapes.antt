@@ -18,7 +18,8 @@ abbrev pub is_operand : Action → Trees → Bool
 is_operand Store (more a (more g none)) = takes_operand (action (operator_of g))
 is_operand a parts = true
 
--- how often a loop turns: once, as often as a local rises to a number or falls to one, or nobody knows
+-- how often a loop turns: once, as often as a local rises to a number or falls to one, or nobody
+-- knows
 pub data Shape : Type 0 where
   Once : Shape
   Up : (local limit : ℕ) → Shape
@@ -66,7 +67,8 @@ outside_targets is a o parts = false
 -- whether there is such a target anywhere in a term
 abbrev mutual
   pub assigns : (Action → Bool) → Tree → Bool
-  assigns is (Node o at stop parts) = (targets is (action o) parts || outside_targets is (action o) o parts) || assigns_in is parts
+  assigns is (Node o at stop parts) =
+      (targets is (action o) parts || outside_targets is (action o) o parts) || assigns_in is parts
 
   pub assigns_in : (Action → Bool) → Trees → Bool
   assigns_in is none = false

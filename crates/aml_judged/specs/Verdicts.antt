@@ -33,15 +33,17 @@ bounded false r a = Err r
 
 -- the verdict of a method whose body is judged: V11 is told last, at the method's opcode
 abbrev pub verdict_of : Bool → Refusal → List Kind → Judged (Unit {0}) → Verdict
-verdict_of short late args (Goes u env x n) = bounded (short && (none_left x.broke x.continued && nat_lt n most_steps)) late (record { args = args; result = result_of env.counts x.returned; bound = n; least = x.least })
+verdict_of short late args (Goes u env x n) =
+    bounded (short && (none_left x.broke x.continued && nat_lt n most_steps)) late
+    (record { args = args; result = result_of env.counts x.returned; bound = n; least = x.least })
 verdict_of short late args (Stops r) = Err r
 
 abbrev pub accepted_of : Option Verdict → Option Accepted
 accepted_of (Some (Ok a)) = Some a
 accepted_of v = None
 
--- a namespace's methods, the kinds of its names, which arguments each method has, which methods it calls
--- (reached or not), and whether a chain leads from one to another
+-- a namespace's methods, the kinds of its names, which arguments each method has, which methods it
+-- calls (reached or not), and whether a chain leads from one to another
 pub record Judging : Type 0 where
   pub methods : Methods
   pub kinds : ContentKinds
@@ -65,15 +67,36 @@ module _ (all : Judging) where
 
   -- what a method sees of one that it calls
   abbrev pub seen_from : (ℕ → Option Accepted) → ℕ → ℕ → Seen
-  seen_from known k j = record { reaches = all.reaches j k; deep = not (is_short 63 j); accepted = if is_among j (all.calls k) then known j else None }
+  seen_from known k j = record {
+    reaches = all.reaches j k;
+    deep = not (is_short 63 j);
+    accepted = if is_among j (all.calls k) then known j else None;
+  }
 
   abbrev pub around_for : (ℕ → Option Accepted) → ℕ → Callee → Around
-  around_for known k m = record { table = m.table; width = all.methods.width; link = m.link; lone = m.lone; object = all.methods.object; field = all.methods.field; buffer_field = all.methods.buffer_field; literal = m.literal; kinds = shared_only all.kinds; callee = seen_from known k }
+  around_for known k m = record {
+    table = m.table;
+    width = all.methods.width;
+    link = m.link;
+    lone = m.lone;
+    object = all.methods.object;
+    field = all.methods.field;
+    buffer_field = all.methods.buffer_field;
+    literal = m.literal;
+    kinds = shared_only all.kinds;
+    callee = seen_from known k;
+  }
+
+  -- a bound that is too large is told at the Method opcode
+  abbrev pub too_large : Callee → Refusal
+  too_large m = record { table = m.table; at = m.opcode; why = cause.BoundTooLarge }
 
   -- a method's verdict, where its body parses, by those of the methods that it calls
   abbrev pub verdict_by : (ℕ → Option Accepted) → ℕ → Option Callee → Option Verdict
   verdict_by known k None = None
-  verdict_by known k (Some m) = Some (verdict_of (is_short 64 k) (record { table = m.table; at = m.opcode; why = cause.BoundTooLarge }) (all.args k) (judged_method (around_for known k m) m.opcode m.body (entry (all.args k))))
+  verdict_by known k (Some m) = Some (
+      verdict_of (is_short 64 k) (too_large m) (all.args k)
+      (judged_method (around_for known k m) m.opcode m.body (entry (all.args k))))
 
   -- the accepted methods
   pub record AreAccepted (known : ℕ → Option Accepted) : Type 0 where

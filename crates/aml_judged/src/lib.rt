@@ -4,8 +4,8 @@
 //! The text to believe stands in `specs/`: `Known` (what is known of a frame), `Judged` (what judging
 //! gives), `KindRules` (the kinds of what operators give), `Shapes` (what stands in a loop), `Judge`
 //! (a clause an operator, in the order of causes, beside `aml_meaning`'s `Meaning`), `Bodies`,
-//! `Verdicts`, and in `Safe` and `Laws` what a verdict means. `docs/VERDICTS.md` tells the same in
-//! plain words, and which operators no rule judges yet.
+//! `Verdicts`, `Integers` (which methods evaluate integers alone), and in `Safe` and `Laws` what a
+//! verdict means. `docs/VERDICTS.md` tells the same in plain words, with the clause for each cause.
 #![tactic(auto)]
 
 ghost use Rattle.std.specs.Prelude.{Option};
