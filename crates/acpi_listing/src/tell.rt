@@ -24,7 +24,7 @@ fn tell<N: Notes>(notes: &N, note: Result<String, AllocError>) {
 }
 
 /// Of a file that is no table.
-pub fn tell_table<N: Notes>(
+pub(crate) fn tell_table<N: Notes>(
     alloc: Global,
     notes: &N,
     number: usize,
@@ -40,7 +40,12 @@ pub fn tell_table<N: Notes>(
 
 /// Of tables that cannot be loaded; where a table is refused for an If that `--dead-externals` opens, of
 /// that option too.
-pub fn tell_load<N: Notes>(alloc: Global, notes: &N, files: Files<'_>, refusal: LoadRefusal) {
+pub(crate) fn tell_load<N: Notes>(
+    alloc: Global,
+    notes: &N,
+    files: Files<'_>,
+    refusal: LoadRefusal,
+) {
     if let Ok(label) = files.label(alloc, refusal.table) {
         tell(notes, load_note(alloc, label.as_str(), files, refusal));
     }
@@ -55,14 +60,14 @@ pub fn tell_load<N: Notes>(alloc: Global, notes: &N, files: Files<'_>, refusal: 
 }
 
 /// Of a text of `--args` that is no list of values.
-pub fn tell_argument<N: Notes>(alloc: Global, notes: &N, text: &str) {
+pub(crate) fn tell_argument<N: Notes>(alloc: Global, notes: &N, text: &str) {
     if let Some((number, element)) = bad_argument(alloc, text) {
         tell(notes, argument_note(alloc, number, element));
     }
 }
 
 /// Of a line that sets no registers.
-pub fn tell_registers<N: Notes>(alloc: Global, notes: &N, name: &str, fault: Fault) {
+pub(crate) fn tell_registers<N: Notes>(alloc: Global, notes: &N, name: &str, fault: Fault) {
     let Where::Line(line) = fault.at else {
         return;
     };
@@ -75,12 +80,17 @@ pub fn tell_registers<N: Notes>(alloc: Global, notes: &N, name: &str, fault: Fau
 }
 
 /// Of a path that is no method's.
-pub fn tell_object<N: Notes>(alloc: Global, notes: &N, namespace: &Namespace<'_>, word: &str) {
+pub(crate) fn tell_object<N: Notes>(
+    alloc: Global,
+    notes: &N,
+    namespace: &Namespace<'_>,
+    word: &str,
+) {
     tell(notes, object_note(alloc, namespace, word));
 }
 
 /// Of arguments that do not fit a method: their number, or the first integer that is too great.
-pub fn tell_misfit<N: Notes>(
+pub(crate) fn tell_misfit<N: Notes>(
     alloc: Global,
     notes: &N,
     namespace: &Namespace<'_>,
@@ -113,7 +123,7 @@ fn tell_words<S: AsStr, N: Notes>(alloc: Global, notes: &N, words: &[S]) {
 }
 
 /// Of a fault that ends a command, where nothing was told yet: the words, a file, or memory.
-pub fn tell_end<S: AsStr, N: Notes>(alloc: Global, notes: &N, words: &[S], fault: Fault) {
+pub(crate) fn tell_end<S: AsStr, N: Notes>(alloc: Global, notes: &N, words: &[S], fault: Fault) {
     match fault.cause {
         FaultCause::CommandLine => tell_words(alloc, notes, words),
         FaultCause::File => notes.tell_unread(alloc),
