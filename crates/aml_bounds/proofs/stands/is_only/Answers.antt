@@ -1,0 +1,7 @@
+use Rattle.std.proofs.Common.{sym, arith}
+use Rattle.aml_bounds.specs.Shapes.{acts, is_local}
+use Rattle.aml_bounds.proofs.OneByOne.{not_one}
+use Rattle.aml_bounds.proofs.stands.is_only.Goals as goal
+
+pub returns-in-empty-2 : goal.returns-in-empty-2
+returns-in-empty-2 c = sym (not_one (acts (is_local c.args.local)) c.args.parts.now (λ e. omega (arith, e, c.in-empty.len_at_least)))

@@ -1,0 +1,7 @@
+pub mod Shapes
+pub mod Loops
+pub mod Chains
+pub mod Pairs
+pub mod Search
+pub mod Spread
+pub mod Steps

@@ -1,0 +1,178 @@
+// Who calls whom.
+
+use aml_bounds::{call_order, chains_are_counted, reaches};
+use aml_paths::ObjectId;
+use std::alloc::{AllocError, Global};
+use std::process::Abort;
+use std::test::Fail;
+
+/// A method and those that it calls, by their numbers.
+type Row<'a> = (usize, &'a [usize]);
+
+type Pairs = Vec<(ObjectId, Vec<ObjectId>)>;
+
+fn ids(alloc: Global, numbers: &[usize]) -> Result<Vec<ObjectId>, AllocError> {
+    let mut ids = Vec::new(alloc);
+    for number in numbers {
+        ids.push(ObjectId(*number))?;
+    }
+    Ok(ids)
+}
+
+fn pairs_of(alloc: Global, rows: &[Row<'_>]) -> Result<Pairs, AllocError> {
+    let mut pairs = Vec::new(alloc);
+    for (method, callees) in rows {
+        pairs.push((ObjectId(*method), ids(alloc, callees)?))?;
+    }
+    Ok(pairs)
+}
+
+/// The order of some pairs, asked for again where memory was wanted.
+fn compare(
+    rt: &impl Abort,
+    alloc: Global,
+    pairs: &Pairs,
+    ordered: &[ObjectId],
+    others: &[ObjectId],
+) {
+    let answer = match call_order(alloc, pairs) {
+        Ok(answer) => Ok(answer),
+        Err(_) => call_order(alloc, pairs),
+    };
+    match answer {
+        Ok((first, rest)) => {
+            assert_eq!(rt; first.as_slice(), ordered);
+            assert_eq!(rt; rest.as_slice(), others);
+        }
+        Err(_) => assert!(rt; false, "want of memory"),
+    }
+}
+
+#[test]
+fn rows_of_call_orders(rt: HostRuntime) -> Result<(), Fail> {
+    let rows: &[(&[Row<'_>], &[usize], &[usize])] = &[
+        (&[], &[], &[]),
+        // a chain, and two ways to one method
+        (&[(0, &[1]), (1, &[2]), (2, &[])], &[2, 1, 0], &[]),
+        (
+            &[(7, &[3, 5]), (3, &[9]), (5, &[9]), (9, &[])],
+            &[9, 3, 5, 7],
+            &[],
+        ),
+        // one method calls another twice
+        (&[(1, &[2, 2]), (2, &[])], &[2, 1], &[]),
+        // one calls itself, and one calls that and another
+        (&[(4, &[4]), (5, &[4, 6]), (6, &[])], &[6], &[4, 5]),
+        // a cycle, what leads to it, and what it leads to
+        (
+            &[(0, &[1]), (1, &[2]), (2, &[1, 3]), (3, &[])],
+            &[3],
+            &[0, 1, 2],
+        ),
+        // without a pair a method calls none; of two pairs the first counts
+        (&[(0, &[8]), (0, &[0])], &[8, 0], &[]),
+    ];
+    for (pairs, ordered, others) in rows {
+        let pairs = pairs_of(rt.alloc(), pairs)?;
+        let ordered = ids(rt.alloc(), ordered)?;
+        let others = ids(rt.alloc(), others)?;
+        compare(&rt, rt.alloc(), &pairs, &ordered, &others);
+    }
+    chains_are_counted();
+    Ok(())
+}
+
+/// Whether one method reaches another, asked again where memory was wanted.
+fn reached(alloc: Global, pairs: &Pairs, from: usize, to: usize) -> Option<bool> {
+    let (from, to) = (ObjectId(from), ObjectId(to));
+    match reaches(alloc, pairs, from, to) {
+        Ok(answer) => Some(answer),
+        Err(_) => reaches(alloc, pairs, from, to).ok(),
+    }
+}
+
+#[test]
+fn rows_of_reach(rt: HostRuntime) -> Result<(), Fail> {
+    let graph: &[Row<'_>] = &[(0, &[1, 1]), (1, &[2]), (2, &[1, 3]), (3, &[]), (4, &[0])];
+    let pairs = pairs_of(rt.alloc(), graph)?;
+    let rows: &[(usize, usize, bool)] = &[
+        (0, 0, true),
+        (0, 1, true),
+        (0, 3, true),
+        (2, 1, true),
+        (1, 0, false),
+        (3, 1, false),
+        (0, 4, false),
+        (4, 3, true),
+        // numbers of no method
+        (9, 9, true),
+        (9, 1, false),
+        (1, 9, false),
+    ];
+    for (from, to, answer) in rows {
+        assert_eq!(rt; reached(rt.alloc(), &pairs, *from, *to), Some(*answer));
+    }
+    Ok(())
+}
+
+/// So many methods, each of which calls the next, and the last of which calls another, if any.
+fn chain(alloc: Global, count: usize, last: &[usize]) -> Result<Pairs, AllocError> {
+    let mut pairs = Vec::new(alloc);
+    for i in 0..count {
+        let next = i + 1;
+        let callees = if next < count {
+            ids(alloc, &[next])?
+        } else {
+            ids(alloc, last)?
+        };
+        pairs.push((ObjectId(i), callees))?;
+    }
+    Ok(pairs)
+}
+
+/// So many methods that all call one.
+fn star(alloc: Global, count: usize) -> Result<Pairs, AllocError> {
+    let mut pairs = Vec::new(alloc);
+    for i in 0..count {
+        pairs.push((ObjectId(i), ids(alloc, &[count])?))?;
+    }
+    Ok(pairs)
+}
+
+/// The methods from one number on, up to another.
+fn between(alloc: Global, from: usize, to: usize) -> Result<Vec<ObjectId>, AllocError> {
+    let mut ids = Vec::new(alloc);
+    for i in from..to {
+        ids.push(ObjectId(i))?;
+    }
+    Ok(ids)
+}
+
+/// So many methods, each of which calls all behind it, or all.
+fn complete(alloc: Global, count: usize, all: bool) -> Result<Pairs, AllocError> {
+    let mut pairs = Vec::new(alloc);
+    for i in 0..count {
+        let from = if all { 0 } else { i + 1 };
+        pairs.push((ObjectId(i), between(alloc, from, count)?))?;
+    }
+    Ok(pairs)
+}
+
+#[test]
+fn large_graphs(rt: HostRuntime) -> Result<(), Fail> {
+    let alloc = rt.alloc();
+    let graphs = vec![in alloc;
+        (chain(alloc, 60_000, &[])?, 60_000, 0),
+        (chain(alloc, 60_000, &[0])?, 0, 60_000),
+        (star(alloc, 60_000)?, 60_001, 0),
+        (complete(alloc, 300, false)?, 300, 0),
+        (complete(alloc, 300, true)?, 0, 300),
+    ]?;
+    for (pairs, ordered, others) in &graphs {
+        let order = call_order(alloc, pairs)?;
+        assert_eq!(rt; order.0.len(), *ordered);
+        assert_eq!(rt; order.1.len(), *others);
+        assert!(rt; reaches(alloc, pairs, ObjectId(0), ObjectId(299))? || *ordered > 60_000);
+    }
+    Ok(())
+}

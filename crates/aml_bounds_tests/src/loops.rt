@@ -1,0 +1,110 @@
+// How often loops turn.
+
+use aml_bounds::{Turns, loop_shape};
+use aml_namespace::Width;
+use aml_tree::{NoArguments, Span, read_body};
+use std::test::Fail;
+
+#[test]
+fn rows_of_loops(rt: HostRuntime) -> Result<(), Fail> {
+    let up = |limit: u64| Some(Turns::Up { local: 0, limit });
+    let down = |limit: u64| Some(Turns::Down { local: 0, limit });
+    let rows: &[(&[u8], Option<Turns>)] = &[
+        // While (LLess (Local0, 4)) { Increment (Local0) }
+        (&[0xA2, 0x07, 0x95, 0x60, 0x0A, 0x04, 0x75, 0x60], up(4)),
+        // .. { Add (Local0, One, Local0) } and { Add (One, Local0, Local0) }
+        (
+            &[0xA2, 0x09, 0x95, 0x60, 0x0A, 0x04, 0x72, 0x60, 0x01, 0x60],
+            up(4),
+        ),
+        (
+            &[0xA2, 0x09, 0x95, 0x60, 0x0A, 0x04, 0x72, 0x01, 0x60, 0x60],
+            up(4),
+        ),
+        // .. { Increment (Local0) Continue }, but not with the Continue first
+        (
+            &[0xA2, 0x08, 0x95, 0x60, 0x0A, 0x04, 0x75, 0x60, 0x9F],
+            up(4),
+        ),
+        (
+            &[0xA2, 0x08, 0x95, 0x60, 0x0A, 0x04, 0x9F, 0x75, 0x60],
+            None,
+        ),
+        // an inner loop's Continue is its own: .. { While (LLess (Local1, 2)) { Increment (Local1) Continue } Increment (Local0) }
+        (
+            &[
+                0xA2, 0x10, 0x95, 0x60, 0x0A, 0x04, 0xA2, 0x08, 0x95, 0x61, 0x0A, 0x02, 0x75, 0x61,
+                0x9F, 0x75, 0x60,
+            ],
+            up(4),
+        ),
+        // .. { Increment (Local0) Increment (Local0) } and { Increment (Local0) Store (One, Local0) }
+        (
+            &[0xA2, 0x09, 0x95, 0x60, 0x0A, 0x04, 0x75, 0x60, 0x75, 0x60],
+            None,
+        ),
+        (
+            &[
+                0xA2, 0x0A, 0x95, 0x60, 0x0A, 0x04, 0x75, 0x60, 0x70, 0x01, 0x60,
+            ],
+            None,
+        ),
+        // another local, an argument
+        (&[0xA2, 0x07, 0x95, 0x60, 0x0A, 0x04, 0x75, 0x61], None),
+        (&[0xA2, 0x07, 0x95, 0x68, 0x0A, 0x04, 0x75, 0x68], None),
+        // While (One) { Break }, { Return (One) } and { If (One) { Continue } Break }
+        (&[0xA2, 0x03, 0x01, 0xA5], Some(Turns::Once)),
+        (&[0xA2, 0x04, 0x01, 0xA4, 0x01], Some(Turns::Once)),
+        (&[0xA2, 0x07, 0x01, 0xA0, 0x03, 0x01, 0x9F, 0xA5], None),
+        // a loop that would count up, but ends in its first turn: .. { Increment (Local0) Break }
+        (
+            &[0xA2, 0x08, 0x95, 0x60, 0x0A, 0x04, 0x75, 0x60, 0xA5],
+            Some(Turns::Once),
+        ),
+        // While (Local0) { Decrement (Local0) }
+        (&[0xA2, 0x04, 0x60, 0x76, 0x60], down(0)),
+        // While (LGreater (Local0, 2)) { Subtract (Local0, One, Local0) }, but not One less the local
+        (
+            &[0xA2, 0x09, 0x94, 0x60, 0x0A, 0x02, 0x74, 0x60, 0x01, 0x60],
+            down(2),
+        ),
+        (
+            &[0xA2, 0x09, 0x94, 0x60, 0x0A, 0x02, 0x74, 0x01, 0x60, 0x60],
+            None,
+        ),
+        // While (One) { Noop }, and what is no loop
+        (&[0xA2, 0x03, 0x01, 0xA3], None),
+        (&[0xA3], None),
+    ];
+    for (bytes, turns) in rows {
+        let span = Span {
+            at: 0,
+            end: bytes.len(),
+        };
+        let body = read_body(rt.alloc(), bytes, span, &NoArguments)?;
+        for term in &body {
+            assert_eq!(rt; loop_shape(term, Width::Bits64), *turns);
+        }
+    }
+    Ok(())
+}
+
+#[test]
+fn limits_by_width(rt: HostRuntime) -> Result<(), Fail> {
+    // While (LLess (Local0, 0x100000003)) { Increment (Local0) }
+    let bytes = [
+        0xA2, 0x0E, 0x95, 0x60, 0x0E, 0x03, 0, 0, 0, 0x01, 0, 0, 0, 0x75, 0x60,
+    ];
+    let body = read_body(rt.alloc(), &bytes, Span { at: 0, end: 15 }, &NoArguments)?;
+    let rows: &[(Width, u64)] = &[(Width::Bits32, 3), (Width::Bits64, 0x1_0000_0003)];
+    for (width, limit) in rows {
+        for term in &body {
+            let turns = Turns::Up {
+                local: 0,
+                limit: *limit,
+            };
+            assert_eq!(rt; loop_shape(term, *width), Some(turns));
+        }
+    }
+    Ok(())
+}
