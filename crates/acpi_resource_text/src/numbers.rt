@@ -1,8 +1,8 @@
 // The numbers of interrupts that an item lists.
 
-ghost use Rattle.std.specs.Prelude.{◌≡◌, ◌++◌, IfOk, OnOk, string_bytes};
-ghost use Rattle.std.specs.List.{flat_map};
-ghost use Rattle.acpi_resources.specs.Interrupts.{irqs};
+ghost use Rattle.std.specs.Prelude.{◌≡◌, ◌<◌, [], ◌∷◌, ◌++◌, IfOk, OnOk, string_bytes};
+ghost use Rattle.std.specs.List.{filter, flat_map};
+ghost use Rattle.acpi_resources.specs.Interrupts.{has_irq, irqs};
 ghost use Rattle.acpi_resource_text.specs.Lines.{behind_comma, numbers_text};
 
 use acpi_resources::has_irq;
@@ -15,12 +15,21 @@ pub(crate) fn irqs(alloc: Global, mask: u16) -> Result<Vec<u32>, AllocError>
 {
     let mut numbers = Vec::new(alloc);
     for irq in 0..16 {
-        let is_set = has_irq(mask, irq);
-        if is_set {
-            numbers.push(u32::from(irq))?;
-        }
+        push_irq(&mut numbers, mask, irq)?;
     }
     Ok(numbers)
+}
+
+// Adds an interrupt, if the mask has it.
+fn push_irq(numbers: &mut Vec<u32>, mask: u16, irq: u8) -> Result<(), AllocError>
+    requires { irq < 16 }
+    ensures { OnOk result
+        (numbers.new.items ≡ numbers.old.items ++ filter (has_irq mask) (irq ∷ [])) }
+{
+    if has_irq(mask, irq) {
+        numbers.push(u32::from(irq))?;
+    }
+    Ok(())
 }
 
 /// Numbers with commas between them, `-` where there are none.

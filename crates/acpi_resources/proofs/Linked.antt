@@ -1,5 +1,5 @@
 -- The interrupts of links, as they are looked up.
-use Rattle.std.proofs.Common.{◌≡◌, refl, ap, sym, ◌∙◌, subst, ℕ, zero, suc, ◌+◌, ◌-◌, ◌<◌, ◌≤◌, List, [], ◌∷◌, Bool, true, false, Option, Some, None, length, drop, get_or, arith, add-one, drop-cons, cond, slice_index, slice_set, inl, inr}
+use Rattle.std.proofs.Common.{◌≡◌, refl, ap, sym, ◌∙◌, ℕ, zero, suc, ◌+◌, ◌-◌, ◌<◌, ◌≤◌, List, [], ◌∷◌, Bool, true, false, Option, Some, None, length, drop, get_or, arith, add-one, drop-cons, cond, slice_index, slice_set, inl, inr}
 use Rattle.std.specs.Prelude.{◌==◌, Vec, find, vec_items}
 use Rattle.std.specs.BTreeMap.{BTreeMap, Updates, get, is_at}
 use Rattle.std.specs.List.{filter, range_with_len}
@@ -10,7 +10,7 @@ use Rattle.std.proofs.lemmas.Bool.{cases_lt}
 use Rattle.std.proofs.lemmas.Bool.Decides.{nat_tests}
 use Rattle.std.proofs.lemmas.Grind.{get_or-set_at}
 use Rattle.std.proofs.lemmas.List.{get_or-set_other}
-use Rattle.acpi_resources.specs.Interrupts.{by_signal, crs_of_links, first_interrupt, first_of, flat, has_irq, interrupt_of_device, irqs, is_of_interrupts, items_of_device, link_interrupt}
+use Rattle.acpi_resources.specs.Interrupts.{by_signal, crs_of_links, first_interrupt, first_of, flat, has_irq, irqs, is_of_interrupts, items_of_device, link_interrupt}
 use Rattle.acpi_resources.specs.declared.item.Item.{Item}
 use Rattle.acpi_resources.specs.declared.item.Item.TheVariants as item
 use Rattle.acpi_resources.specs.declared.route.GlobalInterrupt.{GlobalInterrupt}

@@ -1,15 +1,15 @@
 -- What is read of bytes is what they spell.
-use Rattle.std.proofs.Common.{◌≡◌, refl, ap, sym, ◌∙◌, subst, ℕ, zero, suc, ◌+◌, ◌%◌, ◌<◌, ◌≤◌, List, [], ◌∷◌, ◌++◌, Bool, true, false, Option, Some, None, Result, Ok, Err, length, take, drop, arith, inl, inr, length-append, append_assoc}
-use Rattle.std.specs.Prelude.{◌⊎◌, ◌↔◌, IfErr, nat_lt}
+use Rattle.std.proofs.Common.{◌≡◌, refl, ap, sym, ◌∙◌, subst, ℕ, zero, suc, ◌+◌, ◌%◌, ◌<◌, ◌≤◌, List, [], ◌∷◌, ◌++◌, true, false, Option, Some, None, Result, Ok, Err, length, take, drop, arith, inl, inr, length-append, append_assoc}
+use Rattle.std.specs.Prelude.{◌⊎◌, IfErr, nat_lt}
 use Rattle.std.proofs.Math.Seq.{take-append_seam, drop-append_seam}
-use Rattle.std.proofs.lemmas.Bool.{cases_Bool, cases_lt, lt-ltb}
+use Rattle.std.proofs.lemmas.Bool.{cases_Bool, cases_lt}
 use Rattle.std.proofs.lemmas.Bool.Decides.{nat_tests}
 use Rattle.std.proofs.lemmas.List.{take-append-drop, length-take-le}
 use Rattle.acpi_tables.specs.Bytes.{number_at}
 use Rattle.acpi_resources.specs.Fault.{ReadsAs, StandsWithin, refusal}
 use Rattle.acpi_resources.specs.Forms.{small_form, large_form, may_have}
-use Rattle.acpi_resources.specs.Items.{first_item, head_of, in_front, is_end, item_and_rest, item_or_truncated, item_with, items_from, items_of, said, said_or_bad, sized}
-use Rattle.acpi_resources.specs.Spelling.{AreRefused, Begin, HasBadLength, IsCutBody, IsCutLead, IsLargeLead, IsLead, IsSmallLead, IsWrong, SaysNothing, Spells}
+use Rattle.acpi_resources.specs.Items.{first_item, head_of, in_front, is_end, item_and_rest, item_or_truncated, item_with, items_from, items_of, said}
+use Rattle.acpi_resources.specs.Spelling.{AreRefused, Begin, HasBadLength, IsCutBody, IsCutLead, IsLead, IsWrong, SaysNothing, Spells}
 use Rattle.acpi_resources.specs.Laws.{ItemsAreSpelled, RefusalsAreFirst, RefusalsAreWithin}
 use Rattle.acpi_resources.specs.declared.fault.ResourceCause.{ResourceCause}
 use Rattle.acpi_resources.specs.declared.fault.ResourceCause.TheVariants.{Truncated, BadItem, NoEnd}

@@ -1,6 +1,5 @@
 -- Answers of calls that follow a _PRT, and their refusals.
-use Rattle.std.specs.Prelude.{◌≡◌, ℕ, List, Result, Ok, Err}
-use Rattle.acpi_resources.specs.declared.route.Route.{Route}
+use Rattle.std.specs.Prelude.{◌≡◌, ℕ, Result, Ok, Err}
 use Rattle.acpi_resources.specs.declared.route_fault.RouteCause.{RouteCause}
 use Rattle.acpi_resources.specs.declared.route_fault.RouteFault.{RouteFault}
 use Rattle.acpi_resources.specs.declared.route_fault.RouteFault.TheVariants.{NoMemory, Refused}

@@ -1,0 +1,2 @@
+pub mod Irqs
+pub mod Listed
