@@ -180,8 +180,9 @@ fn told_of_a_front(alloc: Global, whole: usize, there: usize) -> Result<String, 
 fn descriptors_that_are_cut(rt: HostRuntime) -> Result<(), Fail> {
     for (descriptor, line) in DESCRIPTORS {
         let bytes = ended(rt.alloc(), descriptor)?;
-        for there in 0..bytes.len() - 2 {
-            let text = told(rt.alloc(), &bytes[..there])?;
+        for there in 0..descriptor.len() + 2 {
+            let front = bytes.get(..there).ok_or("a front")?;
+            let text = told(rt.alloc(), front)?;
             let wanted = told_of_a_front(rt.alloc(), descriptor.len(), there)?;
             assert_eq!(rt; text.as_slice(), wanted.as_bytes(), "at {line}");
         }
