@@ -1,9 +1,15 @@
 -- What stands in a term: the locals that it assigns, the Continues of a loop, its last statement.
-use Rattle.std.specs.Prelude.{ℕ, ◌==◌, ◌||◌, Bool, true, false}
+use Rattle.std.specs.Prelude.{ℕ, ◌==◌, ◌&&◌, ◌||◌, List, [], ◌∷◌, Bool, true, false}
+use Rattle.aml_operators.specs.declared.op.Op.{Op}
+use Rattle.aml_operators.specs.declared.row.Letter.{Letter}
+use Rattle.aml_operators.specs.declared.row.Letter.TheVariants.{One}
+use Rattle.aml_operators.specs.declared.row.Piece.TheVariants as piece
+use Rattle.aml_operators.specs.declared.row.Spot.TheVariants as spot
 use Rattle.aml_operators.specs.Shape.{operator_of}
+use Rattle.aml_operators.specs.Table.{letters_of}
 use Rattle.aml_operators.specs.Tree.{Tree, Trees, Node, none, more}
 use Rattle.aml_meaning.specs.declared.action.Action.{Action}
-use Rattle.aml_meaning.specs.declared.action.Action.TheVariants.{Local, Argument, Binary, Unary, ByOne, Divide, Convert, Concatenate, Store, Return, While, Break, Continue}
+use Rattle.aml_meaning.specs.declared.action.Action.TheVariants.{Local, Argument, Binary, Unary, ByOne, Divide, Convert, Concatenate, Store, Return, While, Break, Continue, CondRefOf, Index, Unwritten}
 use Rattle.aml_meaning.specs.Actions.{action}
 use Rattle.aml_meaning.specs.Meaning.{takes_operand}
 
@@ -56,12 +62,29 @@ targets is Divide parts = third_or_fourth (acts is) parts
 targets is (Convert f) parts = second (acts is) parts
 targets is Concatenate parts = third (acts is) parts
 targets is Store parts = second (acts is) parts
+targets is CondRefOf parts = second (acts is) parts
+targets is Index parts = third (acts is) parts
 targets is a parts = false
+
+abbrev pub is_target : Letter → Bool
+is_target (One (piece.Term spot.Target)) = true
+is_target l = false
+
+-- the same of an operator outside the profile, by the letters of its row
+abbrev pub lettered : (Action → Bool) → List Letter → Trees → Bool
+lettered is letters none = false
+lettered is [] (more t ts) = false
+lettered is (l ∷ letters) (more t ts) = (is_target l && acts is t) || lettered is letters ts
+
+abbrev pub outside_targets : (Action → Bool) → Action → Op → Trees → Bool
+outside_targets is Unwritten o parts = lettered is (letters_of o) parts
+outside_targets is a o parts = false
 
 -- whether there is such a target anywhere in a term
 abbrev mutual
   pub assigns : (Action → Bool) → Tree → Bool
-  assigns is (Node o at stop parts) = targets is (action o) parts || assigns_in is parts
+  assigns is (Node o at stop parts) =
+      (targets is (action o) parts || outside_targets is (action o) o parts) || assigns_in is parts
 
   pub assigns_in : (Action → Bool) → Trees → Bool
   assigns_in is none = false

@@ -1,13 +1,14 @@
 // What stands in terms: the locals that they assign, the Continues of a loop, the last statement.
 
-ghost use Rattle.std.specs.Prelude.{◌≡◌};
+ghost use Rattle.std.specs.Prelude.{◌≡◌, ◌||◌};
+ghost use Rattle.aml_operators.specs.declared.row.Letter.TheVariants as letters;
 ghost use Rattle.aml_operators.specs.Tree.{view, views};
 ghost use Rattle.aml_meaning.specs.declared.action.Action.TheVariants as does;
 ghost use Rattle.aml_meaning.specs.Actions.{action};
-ghost use Rattle.aml_bounds.specs.Shapes.{acts, assigns, assigns_in, continues, continues_by, continues_in, is_leave, is_local, leaves, only, second, targets, third, third_or_fourth};
+ghost use Rattle.aml_bounds.specs.Shapes.{acts, assigns, assigns_in, continues, continues_by, continues_in, is_leave, is_local, is_target, leaves, lettered, only, outside_targets, second, targets, third, third_or_fourth};
 
 use aml_meaning::{Action, action_of};
-use aml_operators::{Op, Term};
+use aml_operators::{Letter, Op, Piece, Spot, Term, row_of};
 
 /// Whether an operator is just a local.
 fn is_local_by(op: Op, local: u8) -> bool
@@ -67,20 +68,75 @@ fn is_third_or_fourth(parts: &[Term], local: u8) -> bool
     }
 }
 
-/// Whether a local is a target of an operator.
-fn is_target(op: Op, parts: &[Term], local: u8) -> bool
+/// Whether a local is a target of an operator that has a meaning.
+fn is_written(op: Op, parts: &[Term], local: u8) -> bool
     ensures { result ≡ targets (is_local local) (action op) (views parts.now) }
 {
     match action_of(op) {
         Action::Binary(_) => is_third(parts, local),
         Action::Concatenate => is_third(parts, local),
+        Action::Index => is_third(parts, local),
         Action::Unary(_) => is_second(parts, local),
         Action::Convert(_) => is_second(parts, local),
         Action::Store => is_second(parts, local),
+        Action::CondRefOf => is_second(parts, local),
         Action::ByOne(_) => is_only(parts, local),
         Action::Divide => is_third_or_fourth(parts, local),
         _ => false,
     }
+}
+
+/// Whether a letter is that of a target.
+fn is_target(letter: Letter) -> bool
+    ensures { result ≡ is_target letter }
+{
+    match letter {
+        Letter::One(piece) => is_target_piece(piece),
+        _ => false,
+    }
+}
+
+/// Whether an operand is a target.
+fn is_target_piece(piece: Piece) -> bool
+    ensures { result ≡ is_target (letters.One piece) }
+{
+    match piece {
+        Piece::Term(Spot::Target) => true,
+        _ => false,
+    }
+}
+
+/// Whether a local is one of the parts that have a target's letter.
+fn is_lettered(letters: &[Letter], parts: &[Term], local: u8) -> bool
+    ensures { result ≡ lettered (is_local local) letters.now (views parts.now) }
+{
+    match parts {
+        [] => false,
+        [part, others @ ..] => match letters {
+            [] => false,
+            [letter, behind @ ..] => {
+                (is_target(*letter) && is_local(part, local)) || is_lettered(behind, others, local)
+            }
+        },
+    }
+}
+
+/// Whether a local is a target of an operator that has no meaning.
+fn is_outside(op: Op, parts: &[Term], local: u8) -> bool
+    ensures { result ≡ outside_targets (is_local local) (action op) op (views parts.now) }
+{
+    match action_of(op) {
+        Action::Unwritten => is_lettered(row_of(op).letters, parts, local),
+        _ => false,
+    }
+}
+
+/// Whether a local is a target of an operator.
+fn is_assigned(op: Op, parts: &[Term], local: u8) -> bool
+    ensures { result ≡ (targets (is_local local) (action op) (views parts.now)
+        || outside_targets (is_local local) (action op) op (views parts.now)) }
+{
+    is_written(op, parts, local) || is_outside(op, parts, local)
 }
 
 /// Whether a local is a target anywhere in a term.
@@ -90,7 +146,7 @@ pub fn assigns(term: &Term, local: u8) -> bool
     ensures { result ≡ assigns (is_local local) (view term.now) }
 {
     let parts = term.parts.as_slice();
-    if is_target(term.op, parts, local) {
+    if is_assigned(term.op, parts, local) {
         return true;
     }
     assigns_in(parts, local)
