@@ -89,10 +89,10 @@ fn numbers(paths: &Paths, scope: usize, name: &[u8]) -> [Option<usize>; 2] {
 
 /// How many of the paths have their segments.
 fn right_paths(alloc: Global, paths: &Paths) -> Result<usize, AllocError> {
-    let mut right = 0;
+    let mut right = 0usize;
     for (at, wanted) in SEGMENTS.iter().enumerate() {
         if has_segments(alloc, paths, at, wanted)? {
-            right += 1;
+            right = right.saturating_add(1);
         }
     }
     Ok(right)
