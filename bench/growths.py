@@ -68,7 +68,7 @@ __attribute__((destructor)) static void tell(void)
 """
 
 NO_MEMORY = b"fault E524 NoMemory\n"
-NOTE = re.compile(rb"(acpicheck: [^\n]*memory[^\n]*\n)?")
+NOTE = re.compile(rb"(acpicheck: [^\n]*memory[^\n]*\n)*")
 NAMED = re.compile(r"\bfn ((?:rows_of_|want_of_memory)\w*)")
 
 
