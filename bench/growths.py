@@ -7,7 +7,8 @@ A test whose name begins with `rows_of_` or `want_of_memory` makes a call again 
 compares the answer, so it passes whichever growth is refused. Every crate of crates.txt whose sources have such a test
 is taken. A row is taken that stands under `growths` in its file (bench/rows.py). The built program is run on it, and
 whichever growth is refused, it must end as the row says or tell want of memory: with status 1, and on standard output
-a beginning of what the row says, behind which `fault E524 NoMemory` may stand.
+a beginning of what the row says, behind which `fault E524 NoMemory` may stand; on standard error whole lines of the
+program's own, since it may have told of the row's fault, or of the file, before memory was wanted.
 
 The programs are those that `make test` leaves in crates/NAME/out; one that is missing, or older than the sources that
 it is built from, is a failure. The N-th growth of a run is refused by a `malloc` of this script's own, for which a C
@@ -68,7 +69,7 @@ __attribute__((destructor)) static void tell(void)
 """
 
 NO_MEMORY = b"fault E524 NoMemory\n"
-NOTE = re.compile(rb"(acpicheck: [^\n]*memory[^\n]*\n)*")
+NOTE = re.compile(rb"(acpicheck: [^\n]+\n)*")
 NAMED = re.compile(r"\bfn ((?:rows_of_|want_of_memory)\w*)")
 
 
@@ -156,7 +157,7 @@ def run_row(shim, program, row, room, number):
 
 
 def wants_memory(answer, output):
-    """Whether an answer of the program tells want of memory, behind a beginning of what the row says."""
+    """Whether an answer of the program is one to want of memory, behind a beginning of what the row says."""
     status, written, notes = answer
     return status == 1 and output.startswith(written.removesuffix(NO_MEMORY)) and bool(NOTE.fullmatch(notes))
 
