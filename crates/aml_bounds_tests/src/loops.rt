@@ -6,7 +6,7 @@ use aml_tree::{NoArguments, Span, read_body};
 use std::test::Fail;
 
 #[test]
-fn rows_of_loops(rt: HostRuntime) -> Result<(), Fail> {
+fn turns_of_loops(rt: HostRuntime) -> Result<(), Fail> {
     let up = |limit: u64| Some(Turns::Up { local: 0, limit });
     let down = |limit: u64| Some(Turns::Down { local: 0, limit });
     let rows: &[(&[u8], Option<Turns>)] = &[

@@ -31,7 +31,7 @@ impl Costs for Everywhere {
 }
 
 #[test]
-fn rows_of_steps(rt: HostRuntime) -> Result<(), Fail> {
+fn steps_of_terms(rt: HostRuntime) -> Result<(), Fail> {
     let four = Everywhere {
         turns: TurnCount::AtMost(4),
         named: 100,
