@@ -32,6 +32,9 @@ pub mod OperatorExamples
 pub mod CauseExamples
 pub mod IntegerExamples
 pub mod Order
+pub mod Costs
+pub mod Sums
+pub mod Seen
 pub mod Fine
 pub mod InPlace
 pub mod Mutexes

@@ -1,5 +1,5 @@
 -- What a verdict means, and that there is one: the laws.
-use Rattle.std.specs.Prelude.{◌==◌, ◌≡◌, ℕ, ◌≤◌, List, [], ◌∷◌, Option, Some, None, false, if◌then◌else◌}
+use Rattle.std.specs.Prelude.{◌==◌, ◌≡◌, ℕ, ◌≤◌, List, [], ◌∷◌, Option, Some, None, false, if◌then◌else◌, true, false}
 use Rattle.aml_operators.specs.Tree.{Trees}
 use Rattle.aml_namespace.specs.declared.width.Width.{Width}
 use Rattle.aml_namespace.specs.Widths.{bits_of}
@@ -9,11 +9,12 @@ use Rattle.aml_regions.specs.Events.{Event}
 use Rattle.aml_meaning.specs.State.{State, held_level, Out, Halts, NoAnswer, Spent}
 use Rattle.aml_meaning.specs.Within.{Callee, call_within, most_within, setting_for}
 use Rattle.aml_meaning.specs.Whole.{evaluated}
-use Rattle.aml_judged.specs.Judged.{Accepted}
+use Rattle.aml_judged.specs.Known.{Env}
+use Rattle.aml_judged.specs.Judged.{Accepted, Around}
 use Rattle.aml_judged.specs.Safe.{Allows, IsWord, FitScript, FitAll, FitNames, FitsYield, IsCalled}
-use Rattle.aml_judged.specs.Bodies.{shared_only}
+use Rattle.aml_judged.specs.Bodies.{judged_method, shared_only}
 use Rattle.aml_bounds.specs.Chains.{is_among, is_short, IsBehindCallees}
-use Rattle.aml_judged.specs.Verdicts.{accepted_of, called_from, Judging, verdict_by, AreAccepted}
+use Rattle.aml_judged.specs.Verdicts.{accepted_of, around_for, called_from, Judging, seen_from, TellsChains, verdict_by, AreAccepted}
 use Rattle.aml_meaning.specs.State as state
 
 module _ (all : Judging) where
@@ -105,3 +106,26 @@ OrderAnswers =
     (all : Judging) (order : List ℕ) → IsBehindCallees (called_from all) [] order →
     ((k : ℕ) → is_among k order ≡ false → is_short (called_from all) 64 k ≡ false) →
     AreAccepted all (judged_in_order all (λ k. None) order)
+
+module _ (all : Judging) where
+  -- what a method would know of all methods, whether it calls them or not
+  abbrev pub seeing_all : (ℕ → Option Accepted) → ℕ → Callee → Around
+  seeing_all known k m = record (around_for all known k m) {
+    callee = λ j. record (seen_from all known k j) { accepted = known j };
+  }
+
+-- the methods that a body calls, as read from its statements, are all that judging it asks of
+abbrev pub CallsAreSeen : Type 0
+CallsAreSeen =
+    (all : Judging) (known : ℕ → Option Accepted) (k : ℕ) (m : Callee) →
+    all.methods.callee k ≡ Some m → (env : Env) →
+    judged_method (around_for all known k m) m.opcode m.body env ≡
+    judged_method (seeing_all all known k m) m.opcode m.body env
+
+-- where chains are told rightly, a method from which they are short is called by none that it calls:
+-- V5 refuses no other methods than those of cycles
+abbrev pub CyclesAreLong : Type 0
+CyclesAreLong =
+    (all : Judging) → TellsChains all → (k j : ℕ) →
+    is_short (called_from all) 64 k ≡ true → is_among j (called_from all k) ≡ true →
+    all.reaches j k ≡ false

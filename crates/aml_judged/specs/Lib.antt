@@ -9,6 +9,7 @@ pub mod Verdicts
 pub mod Integers
 pub mod Safe
 pub mod Laws
+pub mod Sums
 pub mod Events
 pub mod Fine
 pub mod Keeps

@@ -16,7 +16,8 @@ ghost use Rattle.aml_judged.specs.Fine.{FineParts};
 ghost use Rattle.aml_judged.specs.InPlace.{ExitsAreJoined, PartsAreJoined};
 ghost use Rattle.aml_judged.specs.Integers.{IntegersAlone};
 ghost use Rattle.aml_judged.specs.Keeps.{TermsKeepLocals};
-ghost use Rattle.aml_judged.specs.Laws.{OrderAnswers, VerdictsAreOne, VerdictsMean};
+ghost use Rattle.aml_judged.specs.Laws.{CallsAreSeen, CyclesAreLong, OrderAnswers, VerdictsAreOne, VerdictsMean};
+ghost use Rattle.aml_judged.specs.Sums.{CostsAreSums};
 
 /// A method that is accepted meets no error, where its callers hold no mutex above the least level that it
 /// takes, and ends within its bound, or a read of it has no answer.
@@ -28,6 +29,19 @@ pub fn verdicts_mean()
 pub fn verdicts_are_found()
     ensures one { VerdictsAreOne }
     ensures found { OrderAnswers }
+{}
+
+/// The cost that judging a body carries is the sum over the body, by how often each loop turns and what
+/// each name costs; so the bound of an accepted method is that sum.
+pub fn costs_are_sums()
+    ensures { CostsAreSums }
+{}
+
+/// The methods that a body calls, as read from its statements, are all that judging it asks of; and where
+/// chains are told rightly, none of them reaches a method from which all chains are short.
+pub fn calls_are_seen()
+    ensures seen { CallsAreSeen }
+    ensures cycles { CyclesAreLong }
 {}
 
 /// A local that is no target in a term is kept by it, and a turn is ended early only by a Continue in
