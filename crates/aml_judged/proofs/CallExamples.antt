@@ -3,17 +3,19 @@ use Rattle.std.proofs.Common.{◌≡◌, ◌+◌, ℕ, zero, suc, [], ◌∷◌,
 use Rattle.std.proofs.lemmas.Bool.{and_parts, eqb-true, ltb-true}
 use Rattle.std.specs.Prelude.{Bool, true, false, ◌==◌, ◌&&◌, ◌||◌, nat_lt, if◌then◌else◌}
 use Rattle.aml_operators.specs.declared.op.Op.TheVariants as op
-use Rattle.aml_operators.specs.Tree.{Node}
+use Rattle.aml_operators.specs.Tree.{Tree, Node, more}
+use Rattle.aml_namespace.specs.declared.link.Link.{Link}
 use Rattle.aml_namespace.specs.declared.link.Link.TheVariants as link
 use Rattle.aml_values.specs.Values.{Int}
 use Rattle.aml_meaning.specs.Within.{Callee}
+use Rattle.aml_bounds.specs.Calls.{calls_of}
 use Rattle.aml_bounds.specs.Chains.{is_among, Reaches, TellsReach}
 use Rattle.aml_bounds.proofs.Among.{not_both, or_left, or_right, same_number}
 use Rattle.aml_bounds.proofs.ChainLaws.{reached_inside, reaches_itself}
 use Rattle.aml_judged.specs.Causes as cause
 use Rattle.aml_judged.specs.Judged.{Accepted}
 use Rattle.aml_judged.specs.Verdicts.{accepted_of, AreAccepted, called_from, calls_by, Judging, TellsChains, verdict_by, Verdict}
-use Rattle.aml_judged.proofs.Examples.{leaf, one, refused}
+use Rattle.aml_judged.proofs.Examples.{leaf, one, refused, three, two}
 
 -- Return (the method with a number), at its bytes' places behind a Method's opcode
 abbrev calling : ℕ → ℕ → Callee
@@ -122,3 +124,14 @@ tells from to false e = λ r. not_both (reaching from to) (reached_inside (calle
 
 row_16_tells : TellsChains all
 row_16_tells = record { each = λ from to. tells from to (reaching from to) refl }
+
+-- what a body calls: behind a Return, within arguments, and where an Index is of it that is written; not `_OSI`,
+-- and not what stands as no term
+abbrev links : ℕ → Link
+links at = if at == 50 then link.Method (record { 0 = 4 }) else (if at == 56 then link.Method (record { 0 = 5 }) else (if at == 70 then link.OsInterfaces else (if at == 80 then link.Method (record { 0 = 6 }) else link.Missing)))
+
+abbrev calls_in_an_index : Tree
+calls_in_an_index = Node op.Store 46 64 (two (leaf op.One 47) (Node op.Index 48 64 (three (Node op.Invocation 50 60 (two (leaf op.NameString 50) (Node op.Invocation 56 60 (one (leaf op.NameString 56))))) (leaf op.Zero 61) (leaf op.NullName 62))))
+
+body_calls : calls_of links (more (Node op.Return 43 45 (one (leaf op.One 44))) (three calls_in_an_index (Node op.Invocation 70 75 (two (leaf op.NameString 70) (leaf op.String 74))) (Node op.Store 78 84 (two (leaf op.One 79) (leaf op.NameString 80))))) ≡ 4 ∷ 5 ∷ []
+body_calls = refl

@@ -33,7 +33,9 @@ pub mod CauseExamples
 pub mod IntegerExamples
 pub mod Order
 pub mod Costs
+pub mod LoopPlaces
 pub mod Sums
+pub mod SumExamples
 pub mod Seen
 pub mod Fine
 pub mod InPlace

@@ -41,6 +41,7 @@ use Rattle.aml_judged.specs.Bodies as top
 use Rattle.aml_judged.specs.Bodies.{entry, grown, judged_body, judged_made, judged_method, judged_stated, judged_statement}
 use Rattle.aml_judged.specs.Verdicts.{accepted_of, around_for, bounded, verdict_by, verdict_of}
 use Rattle.aml_judged.specs.Sums.{AreTurns, behind, before_test, CostsAreSums, falling_loop, known_costs, Loop, loop_of, loops_by, loops_in, loops_in_all, loops_in_block, loops_in_body, loops_in_else, only_calls_take, calls_alone_take, takes_rightly, test_of, turns_among}
+use Rattle.aml_judged.proofs.LoopPlaces.{own_places}
 use Rattle.aml_judged.proofs.Costs.{Costs, act_costs, after_costs, costs_same, if_costs, lone_sum, none_held_free, ruled_then, stopped_costs, then_costs, then_free, then_stopped, value_costs, values_from, values_sum}
 
 -- turns of loops of two parts
@@ -320,7 +321,7 @@ pub costs_are_sums : CostsAreSums
 costs_are_sums = record {
   cost = λ here turns body env end x n takes told e.
       gone_costs _ n tt end x (judged_body here body env) e (body_costs here turns body env takes told) ∙ all_values here turns body;
-  turns = turns_found;
+  turns = λ here body env e. turns_found (loops_in_body here body env) (own_places here body env e);
   bound = λ all known are k a m is there turns takes told.
       let found : accepted_of (verdict_by all known k (all.methods.callee k)) ≡ Some a = sym (are.each k) ∙ is in
       verdict_bound _ _ (all.args k) (steps_of_all (known_costs (around_for all known k m) turns) m.body) a

@@ -122,8 +122,8 @@ CallsAreSeen =
     judged_method (around_for all known k m) m.opcode m.body env ≡
     judged_method (seeing_all all known k m) m.opcode m.body env
 
--- where chains are told rightly, a method from which they are short is called by none that it calls:
--- V5 refuses no other methods than those of cycles
+-- where chains are told rightly, a method from which they are short is reached by none that it
+-- calls: V5 refuses no other methods than those of cycles
 abbrev pub CyclesAreLong : Type 0
 CyclesAreLong =
     (all : Judging) → TellsChains all → (k j : ℕ) →

@@ -1,6 +1,6 @@
 -- The cost that the judgement of a body carries is the sum that `aml_bounds` makes of the body, by
 -- how often each loop turns and what each name costs.
-use Rattle.std.specs.Prelude.{◌≡◌, ℕ, ◌-◌, ◌&&◌, ◌++◌, List, [], ◌∷◌, Option, Some, None, map, slice_get, ◌==◌, Bool, true, false, if◌then◌else◌}
+use Rattle.std.specs.Prelude.{◌≡◌, ℕ, ◌-◌, ◌&&◌, ◌++◌, List, [], ◌∷◌, Option, Some, None, slice_get, ◌==◌, Bool, true, false, if◌then◌else◌}
 use Rattle.aml_operators.specs.Shape.{operator_of}
 use Rattle.aml_operators.specs.Tree.{Tree, Trees, Node, none, more}
 use Rattle.aml_namespace.specs.declared.link.Link.{Link}
@@ -144,6 +144,19 @@ module _ (links : ℕ → Link) where
     only_calls_take none = true
     only_calls_take (more t ts) = calls_alone_take t && only_calls_take ts
 
+-- the places of the Whiles in a term, and in statements
+abbrev pub while_place : Action → ℕ → List ℕ
+while_place While at = at ∷ []
+while_place a at = []
+
+abbrev mutual
+  pub while_places : Tree → List ℕ
+  while_places (Node o at stop parts) = while_place (action o) at ++ while_places_in parts
+
+  pub while_places_in : Trees → List ℕ
+  while_places_in none = []
+  while_places_in (more t ts) = while_places t ++ while_places_in ts
+
 -- each of these loops turns as often as is told of its place
 abbrev pub AreTurns : (ℕ → TurnCount) → List Loop → Type 0
 AreTurns turns [] = Unit {0}
@@ -159,10 +172,10 @@ pub record CostsAreSums : Type 0 where
       (here : Around) (turns : ℕ → TurnCount) (body : Trees) (env end : Env) (x : Exits) (n : ℕ) →
       only_calls_take here.link body ≡ true → AreTurns turns (loops_in_body here body env) →
       judged_body here body env ≡ Goes tt end x n → n ≡ steps_of_all (known_costs here turns) body
-  -- which may be looked up by place, where each loop has its own
+  -- which may be looked up by place, where each While of the body has its own
   pub turns :
-      (loops : List Loop) → has_cycle (map (λ l. l.at) loops) ≡ false →
-      AreTurns (turns_among loops) loops
+      (here : Around) (body : Trees) (env : Env) → has_cycle (while_places_in body) ≡ false →
+      AreTurns (turns_among (loops_in_body here body env)) (loops_in_body here body env)
   -- so the bound of an accepted method is that sum
   pub bound :
       (all : Judging) (known : ℕ → Option Accepted) → AreAccepted all known →

@@ -44,8 +44,8 @@ abbrev pub accepted_of : Option Verdict → Option Accepted
 accepted_of (Some (Ok a)) = Some a
 accepted_of v = None
 
--- a namespace's methods, the kinds of its names, which arguments each method has, and whether a chain
--- of calls leads from one method to another
+-- a namespace's methods, the kinds of its names, which arguments each method has, and whether a
+-- chain of calls leads from one method to another
 pub record Judging : Type 0 where
   pub methods : Methods
   pub kinds : ContentKinds
