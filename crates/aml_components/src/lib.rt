@@ -1,0 +1,7 @@
+//! How long chains of calls are, so that a caller who asks at each call searches nothing (ACPI 6.5,
+//! 19.6, Method; the limit on chains is the project's own).
+#![tactic(auto)]
+
+mod heights;
+
+pub use heights::Heights;
