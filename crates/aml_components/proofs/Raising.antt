@@ -171,8 +171,7 @@ pub calls_none : (ps : List Pair) (k : ℕ) → is_among k (named ps) ≡ false 
 calls_none [] k e = refl
 calls_none (p ∷ ps) k e =
     let two = or_parts (k == p.0.0) (is_among k (numbers p.1.items ++ named ps)) e in
-    let more =
-    or_parts (is_among k (numbers p.1.items)) (is_among k (named ps))
+    let more = or_parts (is_among k (numbers p.1.items)) (is_among k (named ps))
     (sym (among_append k (numbers p.1.items) (named ps)) ∙ two.1) in
     by (p.0.0 == k) (nat_eq_equiv.symm p.0.0 k ∙ two.0) (calls_none ps k more.1)
   where

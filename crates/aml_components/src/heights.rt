@@ -96,10 +96,10 @@ fn raised(
 }
 
 impl Heights {
-    /// How long chains of calls are that begin with each method, where each of the methods that pairs
-    /// name stands in `ordered` behind all that it calls, or in `others`, where a chain that begins
-    /// with it has a cycle, as `call_order` answers them. Time and memory go with the number of pairs,
-    /// the number of callees and the greatest number of a method.
+    /// How long chains of calls are that begin with each method. Each of the methods that pairs name
+    /// stands in `ordered` behind all that it calls, or in `others`, where a chain that begins with
+    /// it has a cycle, as `call_order` answers them. Time and memory go with the number of pairs, the
+    /// number of callees and the greatest number of a method.
     ///
     /// # Errors
     ///
@@ -122,9 +122,9 @@ impl Heights {
         }
     }
 
-    /// Whether no chain of calls that begins with a method has more methods than so many. Of a chain
-    /// that has a cycle, or has more than 64, it is asked only up to 64. A method that no pair names
-    /// calls none.
+    /// Whether no chain of calls that begins with a method has more methods than so many, which are
+    /// at most 64; above that, chains with a cycle and longer ones are taken to have 65. A method
+    /// that no pair names calls none.
     #[must_use]
     pub fn is_short(&self, method: ObjectId, most: u8) -> bool
         ensures { result ≡ is_short_in self.now most method.0 }

@@ -8,8 +8,7 @@ use Rattle.aml_components.proofs.heights.raise.Goals as goal
 pub bounds-heights-method : goal.bounds-heights-method
 bounds-heights-method c =
     c.ordered.invariant.room _ (among_at c.args.ordered.now c.ordered.method-index (record {
-      0 =
-          0;
+      0 = 0;
     }) c.ordered-test.true)
 
 pub ordered-preserved : goal.ordered-preserved
