@@ -1,0 +1,5 @@
+pub mod Digits
+pub mod Filled
+pub mod Lines
+pub mod Named
+pub mod Told

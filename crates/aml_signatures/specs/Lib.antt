@@ -1,0 +1,4 @@
+pub mod ArgumentKinds
+pub mod Causes
+pub mod Signed
+pub mod Text
