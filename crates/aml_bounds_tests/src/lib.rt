@@ -4,6 +4,12 @@
 #[cfg(test)]
 mod calls;
 #[cfg(test)]
+mod components;
+#[cfg(test)]
+mod graphs;
+#[cfg(test)]
+mod heights;
+#[cfg(test)]
 mod loops;
 #[cfg(test)]
 mod step_counts;

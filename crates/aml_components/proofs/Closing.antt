@@ -41,8 +41,8 @@ module _ (calls : ℕ → List ℕ) (marks : List Mark) (opened front : List ℕ
       (is_false (is_among k (drop root opened)) (λ f. out (drop_at root opened k f))) ∙ e
     where
       out : Stands opened root k → ⊥
-      out t = let lt = low t.place (sym e ∙ s.marked k t.place t.at) in let le =
-          t.behind in absurd (omega (arith, lt, le))
+      out t = let lt = low t.place (sym e ∙ s.marked k t.place t.at) in
+          let le = t.behind in absurd (omega (arith, lt, le))
 
   was_open : (k p : ℕ) → mark_at now k ≡ Open p → (mark_at marks k ≡ Open p) × (p < root)
   was_open k p e = by (is_among k (drop root opened)) refl
@@ -123,8 +123,8 @@ module _ (calls : ℕ → List ℕ) (marks : List Mark) (opened front : List ℕ
       (λ old. let low = closed_below n (mark_at marks j) (s.falls i j n old called) in
       at_most_closed n low.number (mark_at now j) (kept_closed j low.number low.closed) low.low)
       (λ p at le same.
-      fresh p at le same (s.passed i j p at called (is_false (waits waiting p j) (λ f. let lt =
-      done p (caller_of waiting p j f) in absurd (omega (arith, lt, le))))))
+      fresh p at le same (s.passed i j p at called (is_false (waits waiting p j) (λ f.
+      let lt = done p (caller_of waiting p j f) in absurd (omega (arith, lt, le))))))
     where
       fresh : (p : ℕ) → mark_at marks i ≡ Open p → root ≤ p → n ≡ closed →
           LeadsTo roots p (mark_at marks j) → is_at_most n (mark_at now j) ≡ true
@@ -134,39 +134,38 @@ module _ (calls : ℕ → List ℕ) (marks : List Mark) (opened front : List ℕ
           (closes j q f
           (leads_open roots p q (mark_at marks j) f l root
           (among_back root front (root ∷ []) (first_among root [])) le)) (omega (arith, same)))
-          (λ m f. at_most_closed n m (mark_at now j) (kept_closed j m f) (let lt =
-          s.below j m f in omega (arith, lt, same)))
+          (λ m f. at_most_closed n m (mark_at now j) (kept_closed j m f) (
+          let lt = s.below j m f in omega (arith, lt, same)))
 
   pub close : IsSearch calls now (take root opened) front waiting (closed + 1)
   close = record {
     room = λ i j e. let below = s.room i j e in let same = h.sized in omega (arith, below, same);
-    stands = λ k p e. let was =
-        was_open k p e in take_at root opened p k was.1 (s.stands k p was.0);
+    stands = λ k p e.
+        let was = was_open k p e in take_at root opened p k was.1 (s.stands k p was.0);
     marked = λ k p e. let t = at_take root opened p k e in kept_open k p (s.marked k p t.1) t.0;
     rooted = λ some.
         let long = length-take-le root opened root_within in
-        either_part (is_among 0 front ≡ true) 0 front (root ∷ []) (s.rooted (let le =
-        root_within in omega (arith, some, long, le)))
+        either_part (is_among 0 front ≡ true) 0 front (root ∷ []) (s.rooted (
+        let le = root_within in omega (arith, some, long, le)))
         (λ e. e)
         (λ e. among_cases (is_among 0 front ≡ true) 0 root [] e
         (λ same. absurd (omega (arith, same, some, long))) (λ g. absurd cc));
-    within = λ r e. let long = length-take-le root opened root_within in let le =
-        at_most_last front root r s.rising (among_front r front (root ∷ []) e) in
+    within = λ r e. let long = length-take-le root opened root_within in
+        let le = at_most_last front root r s.rising (among_front r front (root ∷ []) e) in
         omega (arith, long, le);
     rising = (split front (root ∷ []) s.rising).first;
     in_turn = s.in_turn;
-    caller = λ p j e. let c =
-        s.caller p j e in
+    caller = λ p j e. let c = s.caller p j e in
         record {
           caller = c.caller;
           stands = kept_open c.caller p c.stands (done p (caller_of waiting p j e));
           called = c.called;
         };
-    reach = λ i j p q e f l. let was =
-        was_open i p e in s.reach i j p q was.0 (was_open j q f).0 (more p q was.1 l);
+    reach = λ i j p q e f l.
+        let was = was_open i p e in s.reach i j p q was.0 (was_open j q f).0 (more p q was.1 l);
     passed = close_passed;
-    below = λ k n e. was_closed (n < closed + 1) k n e (λ old. let lt =
-        s.below k n old in omega (arith, lt)) (λ p at le same. omega (arith, same));
+    below = λ k n e. was_closed (n < closed + 1) k n e (λ old.
+        let lt = s.below k n old in omega (arith, lt)) (λ p at le same. omega (arith, same));
     together = close_together;
     falls = close_falls;
   }

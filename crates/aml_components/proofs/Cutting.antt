@@ -70,8 +70,8 @@ last_most (x ∷ []) (suc n) y e r among = absurd (omega (arith, e))
 last_most (x ∷ z ∷ zs) zero y e r among = absurd (omega (arith, e))
 last_most (x ∷ z ∷ zs) (suc n) y e r among =
     among_cases (y ≤ unwrap_or (slice_get (z ∷ zs) n) 0) y x (z ∷ zs) among
-    (λ same. let le = r.0 z (first_among z zs) in let more =
-    last_most (z ∷ zs) n z (omega (arith, e)) r.1 (first_among z zs) in
+    (λ same. let le = r.0 z (first_among z zs) in
+    let more = last_most (z ∷ zs) n z (omega (arith, e)) r.1 (first_among z zs) in
     omega (arith, same, le, more))
     (λ f. last_most (z ∷ zs) n y (omega (arith, e)) r.1 f)
 
@@ -107,8 +107,7 @@ cut_done old place now low h = record {
     below r le =
         elim (leb_tells r place) [
           | inl e ↦ e.0
-          | inr e ↦ absurd (let lt =
-              e.1 in omega (arith, lt, le))
+          | inr e ↦ absurd (let lt = e.1 in omega (arith, lt, le))
         ]
 
     not_below : (r : ℕ) → (r ≤ place → ⊥) → nat_le r place ≡ false
@@ -159,8 +158,8 @@ closed_more row i d number old now lt below h =
           (λ other. mark_other now m k (Closed number) other ∙ h.are k
           ∙ ap (λ b. if b then Closed number else mark_at old k)
           (sym (not_last k other (numbers (take i row)))));
-      fewer = let one = no_more_new now m (Closed number) inside refl in let le =
-          h.fewer in omega (arith, one, le);
+      fewer = let one = no_more_new now m (Closed number) inside refl in
+          let le = h.fewer in omega (arith, one, le);
     })
   where
     m : ℕ

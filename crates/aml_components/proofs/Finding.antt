@@ -35,8 +35,8 @@ module _ (calls : ℕ → List ℕ) (marks : List Mark) (opened roots : List ℕ
   place_below k p e = slice_get_within opened p k (s.stands k p e)
 
   caller_below : (p : ℕ) → is_among p (callers waiting) ≡ true → p < length opened
-  caller_below p e = let j = called_by waiting p e in let c =
-      s.caller p j.0 j.1 in place_below c.caller p c.stands
+  caller_below p e = let j = called_by waiting p e in
+      let c = s.caller p j.0 j.1 in place_below c.caller p c.stands
 
   -- a method is begun behind all that are open, which reach it
   module _ (k : ℕ) (row : List ObjectId) (callees : numbers row ≡ calls k) (lt : k < length marks)
@@ -80,8 +80,7 @@ module _ (calls : ℕ → List ℕ) (marks : List Mark) (opened roots : List ℕ
     begin_caller : (p j : ℕ) → waits (waiting ++ calls_from here row) p j ≡ true →
         Caller calls now p j
     begin_caller p j e = waits_cases (Caller calls now p j) waiting (calls_from here row) p j e
-        (λ f. let c =
-        s.caller p j f in
+        (λ f. let c = s.caller p j f in
         record {
           caller = c.caller;
           stands = kept c.caller (Open p) c.stands (open_not_new (Open p) p refl);
@@ -98,8 +97,8 @@ module _ (calls : ℕ → List ℕ) (marks : List Mark) (opened roots : List ℕ
     begin_reach i j p q e f l = was_open (Reaches calls i j) i p e
         (λ same at. was_open (Reaches calls i j) j q f
         (λ same' at'. subst (λ n. Reaches calls i n) (same ∙ sym same') (reaches_itself calls i))
-        (λ g. let below = place_below j q g in let le =
-        l here (among_last here roots) (omega (arith, at)) in
+        (λ g. let below = place_below j q g in
+        let le = l here (among_last here roots) (omega (arith, at)) in
         absurd (omega (arith, below, le))))
         (λ g. was_open (Reaches calls i j) j q f
         (λ same' at'. subst (λ n. Reaches calls i n) (sym same') (there i p g))
@@ -154,8 +153,7 @@ module _ (calls : ℕ → List ℕ) (marks : List Mark) (opened roots : List ℕ
           (λ at same. ap (mark_at now) same ∙ mark_same marks k (Open here) lt ∙ ap Open (sym at));
       rooted = λ some. elim (leb_tells 1 here) [
         | inl e ↦ among_front 0 roots (here ∷ []) (s.rooted e.1)
-        | inr e ↦ (let none : here ≡ 0 =
-            omega (arith, e.1) in
+        | inr e ↦ (let none : here ≡ 0 = omega (arith, e.1) in
             subst (λ n. is_among 0 (roots ++ n ∷ []) ≡ true) (sym none) (among_last 0 roots))
       ];
       within = λ r e. let long = length-append opened (k ∷ []) in
@@ -164,8 +162,8 @@ module _ (calls : ℕ → List ℕ) (marks : List Mark) (opened roots : List ℕ
           (λ f. among_cases (r ≤ length (opened ++ k ∷ [])) r here [] f
           (λ same. omega (arith, same, long)) (λ g. absurd cc));
       rising = rising_push roots here s.rising s.within;
-      in_turn = in_turn_more waiting here row s.in_turn (λ p e. let below =
-          caller_below p e in omega (arith, below));
+      in_turn = in_turn_more waiting here row s.in_turn (λ p e.
+          let below = caller_below p e in omega (arith, below));
       caller = begin_caller;
       reach = begin_reach;
       passed = begin_passed;
@@ -178,8 +176,8 @@ module _ (calls : ℕ → List ℕ) (marks : List Mark) (opened roots : List ℕ
     begin_keeps = record {
       sized = length-set marks k (Open here);
       begun = λ i e.
-          ap is_new (kept i (mark_at marks i) refl (λ f. absurd (let clash : false ≡ true =
-          sym e ∙ ap is_new f in cc))) ∙ e;
+          ap is_new (kept i (mark_at marks i) refl (λ f. absurd (
+          let clash : false ≡ true = sym e ∙ ap is_new f in cc))) ∙ e;
     }
 
   -- the roots behind a place are cut off, to which a method calls that all roots stand at or before
@@ -191,8 +189,7 @@ module _ (calls : ℕ → List ℕ) (marks : List Mark) (opened roots : List ℕ
         h.are r ∙ two (is_among r roots) (nat_le r q) e
         (elim (leb_tells r q) [
           | inl f ↦ f.0
-          | inr f ↦ absurd (let lt =
-              f.1 in omega (arith, lt, le))
+          | inr f ↦ absurd (let lt = f.1 in omega (arith, lt, le))
         ])
       where
         two : (a b : Bool) → a ≡ true → b ≡ true → (a && b) ≡ true
@@ -213,8 +210,7 @@ module _ (calls : ℕ → List ℕ) (marks : List Mark) (opened roots : List ℕ
         second true f =
             elim (leb_tells r q) [
               | inl g ↦ g.1
-              | inr g ↦ absurd (let clash : true ≡ false =
-                  sym f ∙ g.0 in cc)
+              | inr g ↦ absurd (let clash : true ≡ false = sym f ∙ g.0 in cc)
             ]
         second false f = absurd cc
 

@@ -104,8 +104,8 @@ module _ (ps : List Pair) (room : ℕ) (inside : (k : ℕ) → is_among k (named
           is_at_most n (mark t) ≡ true
       next k t b called =
           let d = closed_below b.number (mark t) (h.falls k t b.number b.closed called) in
-          at_most_closed n d.number (mark t) d.closed (let le = d.low in let le' =
-          b.low in omega (arith, le, le'))
+          at_most_closed n d.number (mark t) d.closed (let le = d.low in
+          let le' = b.low in omega (arith, le, le'))
 
   together : (i j : ℕ) → Reaches calls i j → Reaches calls j i → are_together c i j ≡ true
   together i j r t = mark_cases (are_together c i j ≡ true) (mark i)

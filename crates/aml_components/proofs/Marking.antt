@@ -25,8 +25,8 @@ mark_other marks k j m other =
 
 pub new_at : (room k : ℕ) → mark_at (replicate room New) k ≡ New
 new_at room k = mark_get (replicate room New) k ∙ elim (leb_tells room k) [
-  | inl e ↦ get_or_past (replicate room New) k New (let same = length-replicate room New in let le =
-      e.1 in omega (arith, same, le))
+  | inl e ↦ get_or_past (replicate room New) k New (let same = length-replicate room New in
+      let le = e.1 in omega (arith, same, le))
   | inr e ↦ get_or-replicate room k New New e.1
 ]
 
@@ -111,8 +111,7 @@ at_most_closed n c m e le = ap (is_at_most n) e ∙ test
     test : is_at_most n (Closed c) ≡ true
     test = elim (leb_tells c n) [
       | inl f ↦ f.0
-      | inr f ↦ absurd (let lt =
-          f.1 in omega (arith, lt, le))
+      | inr f ↦ absurd (let lt = f.1 in omega (arith, lt, le))
     ]
 
 -- a mark at most so great is closed
@@ -129,8 +128,7 @@ closed_below n (Closed c) e = record { number = c; closed = refl; low = low }
     low : c ≤ n
     low = elim (leb_tells c n) [
       | inl f ↦ f.1
-      | inr f ↦ absurd (let clash : true ≡ false =
-          sym e ∙ f.0 in cc)
+      | inr f ↦ absurd (let clash : true ≡ false = sym e ∙ f.0 in cc)
     ]
 
 -- an open method has a mark

@@ -198,8 +198,8 @@ pub may_raise : (ps : List Pair) (ordered others heights : List ℕ) (room : ℕ
     BeginsWith others room heights → MayRaise (calls_in ps) ordered heights
 may_raise ps ordered others heights room order inside h = record {
   room = λ k e. let below =
-      inside k (order.only k (or_left (is_among k ordered) (is_among k others) e)) in let same =
-      h.sized in omega (arith, below, same);
+      inside k (order.only k (or_left (is_among k ordered) (is_among k others) e)) in
+      let same = h.sized in omega (arith, below, same);
   behind = order.behind;
   others = λ k e d lt. by k e (is_among k others) refl d lt;
 }

@@ -54,8 +54,8 @@ pub rising_push : (xs : List ℕ) (x : ℕ) → IsRising xs → ((y : ℕ) → i
 rising_push xs x r h = join xs (x ∷ []) (record {
   first = r;
   second = ((λ y e. absurd cc), tt);
-  between = λ a b e f. among_cases (a ≤ b) b x [] f (λ same. let le =
-      h a e in omega (arith, same, le)) (λ g. absurd cc);
+  between = λ a b e f. among_cases (a ≤ b) b x [] f (λ same.
+      let le = h a e in omega (arith, same, le)) (λ g. absurd cc);
 })
 
 -- where numbers stand in a list with one more
@@ -83,8 +83,8 @@ pub at_take : (r : ℕ) (xs : List ℕ) (p k : ℕ) → slice_get (take r xs) p 
 at_take zero xs p k e = absurd cc
 at_take (suc r) [] p k e = absurd cc
 at_take (suc r) (x ∷ xs) zero k e = (omega arith, e)
-at_take (suc r) (x ∷ xs) (suc p) k e = let h = at_take r xs p k e in let lt =
-    h.0 in (omega (arith, lt), h.1)
+at_take (suc r) (x ∷ xs) (suc p) k e = let h = at_take r xs p k e in
+    let lt = h.0 in (omega (arith, lt), h.1)
 
 pub take_at : (r : ℕ) (xs : List ℕ) (p k : ℕ) → p < r → slice_get xs p ≡ Some k →
     slice_get (take r xs) p ≡ Some k
@@ -111,8 +111,8 @@ stands_at (x ∷ xs) k e = among_cases (Stands (x ∷ xs) 0 k) k x xs e
 pub drop_at : (r : ℕ) (xs : List ℕ) (k : ℕ) → is_among k (drop r xs) ≡ true → Stands xs r k
 drop_at zero xs k e = stands_at xs k e
 drop_at (suc r) [] k e = absurd cc
-drop_at (suc r) (x ∷ xs) k e = let h = drop_at r xs k e in let le =
-    h.behind in record { place = suc h.place; behind = omega (arith, le); at = h.at }
+drop_at (suc r) (x ∷ xs) k e = let h = drop_at r xs k e in
+    let le = h.behind in record { place = suc h.place; behind = omega (arith, le); at = h.at }
 
 pub among_there : (xs : List ℕ) (p k : ℕ) → slice_get xs p ≡ Some k → is_among k xs ≡ true
 among_there [] p k e = absurd cc

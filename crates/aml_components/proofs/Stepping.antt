@@ -143,8 +143,7 @@ module _ (calls : ℕ → List ℕ) (old new : Search) where
         leads : LeadsTo new.roots.items call.from (mark_at new.marks.items call.to.0)
         leads = subst (LeadsTo new.roots.items call.from)
             (sym (begun_mark (old.waiting.items ++ call ∷ []) call.to.0 s is called_below there b))
-            (λ r among le. let lt =
-            slice_get_within (numbers old.opened.items) call.from by.caller
+            (λ r among le. let lt = slice_get_within (numbers old.opened.items) call.from by.caller
             (s.stands by.caller call.from by.stands) in let place =
             place_is (old.waiting.items ++ call ∷ []) call.to.0 s is called_below there b in
             omega (arith, le, lt, place))

@@ -1,4 +1,5 @@
 use Rattle.std.proofs.Common.{◌∙◌, ap}
+use Rattle.aml_paths.specs.declared.scope.ObjectId.{ObjectId}
 use Rattle.aml_bounds.specs.Pairs.{calls_in}
 use Rattle.aml_bounds.proofs.GoingOn.{among_at}
 use Rattle.aml_components.specs.Heights.{are_low}
@@ -7,9 +8,9 @@ use Rattle.aml_components.proofs.heights.raise.Goals as goal
 
 pub bounds-heights-method : goal.bounds-heights-method
 bounds-heights-method c =
-    c.ordered.invariant.room _ (among_at c.args.ordered.now c.ordered.method-index (record {
-      0 = 0;
-    }) c.ordered-test.true)
+    let none : ObjectId = record { 0 = 0 } in
+    let among = among_at c.args.ordered.now c.ordered.method-index none c.ordered-test.true in
+    c.ordered.invariant.room _ among
 
 pub ordered-preserved : goal.ordered-preserved
 ordered-preserved c =

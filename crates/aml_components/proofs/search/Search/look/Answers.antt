@@ -16,24 +16,24 @@ begin-requires-clause-method c =
 pub returns-in_ok-begin-in-New : goal.returns-in_ok-begin-in-New
 returns-in_ok-begin-in-New c =
     let ps = c.args.calls.now.pairs.now in
-    let mark = c.mark_of.ensures
-    ∙ ap (λ (ms : List Mark). mark_at ms c.args.call.to.0) c.deref.ensures.value in
-    look_new (calls_in ps) c.args.self.now c.begin.new.self
-    (length (named ps)) c.args.call c.requires.searches c.requires.last (sym mark
-    ∙ c.in-New.is) (calls_most ps c.args.call.to.0) c.in_ok-begin-in-New.ensures
+    let seen = ap (λ (ms : List Mark). mark_at ms c.args.call.to.0) c.deref.ensures.value in
+    let mark = c.mark_of.ensures ∙ seen in
+    look_new (calls_in ps) c.args.self.now c.begin.new.self (length (named ps)) c.args.call
+    c.requires.searches c.requires.last (sym mark ∙ c.in-New.is) (calls_most ps c.args.call.to.0)
+    c.in_ok-begin-in-New.ensures
 
 pub returns-in-Open : goal.returns-in-Open
 returns-in-Open c =
     let ps = c.args.calls.now.pairs.now in
-    let mark = c.mark_of.ensures
-    ∙ ap (λ (ms : List Mark). mark_at ms c.args.call.to.0) c.deref.ensures.value in
+    let seen = ap (λ (ms : List Mark). mark_at ms c.args.call.to.0) c.deref.ensures.value in
+    let mark = c.mark_of.ensures ∙ seen in
     look_open (calls_in ps) c.args.self.now _ (length (named ps)) c.args.call c.requires.searches
     c.requires.last c.in-Open.place (sym mark ∙ c.in-Open.is) c.cut.ensures refl refl refl refl
 
 pub returns-in-Closed : goal.returns-in-Closed
 returns-in-Closed c =
     let ps = c.args.calls.now.pairs.now in
-    let mark = c.mark_of.ensures
-    ∙ ap (λ (ms : List Mark). mark_at ms c.args.call.to.0) c.deref.ensures.value in
+    let seen = ap (λ (ms : List Mark). mark_at ms c.args.call.to.0) c.deref.ensures.value in
+    let mark = c.mark_of.ensures ∙ seen in
     look_closed (calls_in ps) c.args.self.now _ (length (named ps)) c.args.call c.in-Closed.field-0
     c.requires.searches (sym mark ∙ c.in-Closed.is) refl

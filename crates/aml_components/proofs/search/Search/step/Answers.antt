@@ -36,15 +36,13 @@ pub returns-in-None : goal.returns-in-None
 returns-in-None c =
     let ps = c.args.calls.now.pairs.now in
     let old = c.args.self.now in
-    on_ok c.close.result _ _ c.close.ensures
-    (λ h. closes (calls_in ps) old c.close.new.self
-    (length (named ps)) c.args.root c.requires.searches
-    c.in-None.ensures.1
-    (subst (λ (w : Vec Call Global). Closes c.args.root (record {
+    let same = λ (w : Vec Call Global). Closes c.args.root (record {
       marks = old.marks;
       opened = old.opened;
       roots = old.roots;
       waiting = w;
       closed = old.closed;
-    }) c.close.new.self)
-    c.in-None.ensures.0 h))
+    }) c.close.new.self in
+    on_ok c.close.result _ _ c.close.ensures
+    (λ h. closes (calls_in ps) old c.close.new.self (length (named ps)) c.args.root
+    c.requires.searches c.in-None.ensures.1 (subst same c.in-None.ensures.0 h))
