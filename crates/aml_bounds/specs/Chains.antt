@@ -42,6 +42,11 @@ module _ (calls : ℕ → List ℕ) where
     pub chain : IsChain (from ∷ behind)
     pub ends : end_of from behind ≡ to
 
+  -- the answer to whether one does
+  abbrev pub TellsReach : ℕ → ℕ → Bool → Type 0
+  TellsReach from to true = Reaches from to
+  TellsReach from to false = Reaches from to → ⊥
+
   -- each chain that begins with a method has at most so many
   unfoldable pub is_short : ℕ → ℕ → Bool
   is_short zero k = false

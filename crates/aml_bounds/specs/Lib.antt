@@ -1,5 +1,6 @@
 pub mod Shapes
 pub mod Loops
+pub mod Calls
 pub mod Chains
 pub mod Pairs
 pub mod Search

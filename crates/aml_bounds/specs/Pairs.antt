@@ -2,7 +2,7 @@
 use Rattle.std.specs.Prelude.{Vec, ◌≡◌, ◌==◌, ◌||◌, ℕ, List, [], ◌∷◌, ◌++◌, map, slice_get, Option, Some, None, Bool, true, false, if◌then◌else◌}
 use Rattle.std.specs.declared.alloc.Global.{Global}
 use Rattle.aml_paths.specs.declared.scope.ObjectId.{ObjectId}
-use Rattle.aml_bounds.specs.Chains.{Cycles, has_cycle, is_among, IsBehindCallees, NeverCycles, Reaches}
+use Rattle.aml_bounds.specs.Chains.{Cycles, has_cycle, is_among, IsBehindCallees, NeverCycles, TellsReach}
 
 -- a method and those that it calls
 abbrev pub Pair : Type 0
@@ -35,8 +35,7 @@ pub record IsCallOrder (pairs : List Pair) (ordered others : List ℕ) : Type 0 
 
 -- the answer of asking for a chain
 abbrev pub AnswersReach : List Pair → ℕ → ℕ → Bool → Type 0
-AnswersReach pairs from to true = Reaches (calls_in pairs) from to
-AnswersReach pairs from to false = Reaches (calls_in pairs) from to → ⊥
+AnswersReach pairs = TellsReach (calls_in pairs)
 
 -- what a table of places by methods' numbers says of each method's callees
 abbrev pub callees : Option Pair → List ℕ

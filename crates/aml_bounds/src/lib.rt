@@ -4,7 +4,7 @@
 #![tactic(auto)]
 
 mod bound;
-mod calls;
+pub mod calls;
 mod costs;
 mod law;
 mod order;

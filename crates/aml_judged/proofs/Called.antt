@@ -1,7 +1,7 @@
 -- Calls of accepted methods, and what a verdict means.
 use Rattle.std.proofs.Common.{◌+◌, ◌≡◌, ℕ, zero, suc, ◌^◌, ◌<◌, ◌≤◌, List, [], ◌∷◌, Option, Some, None, refl, sym, ap, ◌∙◌, subst, arith}
-use Rattle.std.proofs.lemmas.Bool.{and_parts, eqb-true}
-use Rattle.std.specs.Prelude.{Ok, Err, ◌==◌, ◌||◌, nat_lt, Bool, true, false, ◌&&◌, if◌then◌else◌}
+use Rattle.std.proofs.lemmas.Bool.{and_parts}
+use Rattle.std.specs.Prelude.{Ok, Err, nat_lt, Bool, true, false, ◌&&◌, if◌then◌else◌}
 use Rattle.aml_operators.specs.Tree.{Tree, Trees, Node, none, more}
 use Rattle.aml_namespace.specs.declared.width.Width.{Width}
 use Rattle.aml_namespace.specs.declared.width.Width.TheVariants as width_of
@@ -23,6 +23,8 @@ use Rattle.aml_meaning.specs.Mutexes.{ended_or, none_held}
 use Rattle.aml_meaning.specs.declared.mutex.TakenMutex.{TakenMutex}
 use Rattle.aml_meaning.specs.Within.{Callee, Methods, call_within, callee_or, setting_for, most_within}
 use Rattle.aml_meaning.specs.Whole.{evaluated}
+use Rattle.aml_bounds.specs.Chains.{is_among, is_short}
+use Rattle.aml_bounds.proofs.Among.{among_all}
 use Rattle.aml_judged.specs.Causes.{Refusal}
 use Rattle.aml_judged.specs.Known.{join_env, Held, These, Different, Env}
 use Rattle.aml_judged.specs.Judge.{judged_none_held, none_held_at}
@@ -30,7 +32,7 @@ use Rattle.aml_judged.specs.Judged.{goes, then_judge, NameKinds, no_exits, eithe
 use Rattle.aml_judged.specs.Safe.{Allows, FitsHeld, OnlyAbove, IsWord, FitScript, FitsStop, FitAll, FitNames, FitsState, FitsYield, FitsExit, FitsReturn, IsSafe, IsCalled, AreCalls, IsTame, AreTame}
 use Rattle.aml_judged.specs.Bodies.{judged_made, shared_only, grown_kinds, grown, judged_stated, judged_statement, judged_body, judged_method, entry, Made, Nothing, Holding, Field}
 use Rattle.aml_judged.specs.Laws.{AreSmall, AreVerdicts, HasNoError, IsCallable, IsDone, VerdictsMean, evaluation}
-use Rattle.aml_judged.specs.Verdicts.{result_of, none_left, most_steps, Verdict, bounded, verdict_of, accepted_of, Judging, is_among, every, is_short, seen_from, around_for, verdict_by, AreAccepted}
+use Rattle.aml_judged.specs.Verdicts.{result_of, none_left, most_steps, Verdict, bounded, verdict_of, accepted_of, called_from, Judging, seen_from, around_for, verdict_by, AreAccepted}
 use Rattle.aml_operators.specs.declared.op.Op.{Op}
 use Rattle.aml_judged.proofs.Fits.{slots_fit}
 use Rattle.aml_judged.proofs.Owned.{IsMade, made_tick, made_safe}
@@ -236,14 +238,6 @@ module _ (width : ℕ) (kinds : ContentKinds) where
       let two = bounded_says (short && (none_left x.broke x.continued && nat_lt n most_steps)) late (record { args = args; result = result_of env.counts x.returned; bound = n; least = x.least }) a e in
       ((and_parts short (none_left x.broke x.continued && nat_lt n most_steps) two.0).0, two.1)
 
-pub among_every : (holds : ℕ → Bool) (j : ℕ) (ks : List ℕ) → is_among j ks ≡ true → every holds ks ≡ true → holds j ≡ true
-among_every holds j [] e h = absurd cc
-among_every holds j (k ∷ ks) e h = choice (j == k) refl e (λ f g. among_every holds j ks f g)
-  where
-    choice : (b : Bool) → (j == k) ≡ b → (b || is_among j ks) ≡ true → (is_among j ks ≡ true → every holds ks ≡ true → holds j ≡ true) → holds j ≡ true
-    choice true same f again = subst (λ i. holds i ≡ true) (sym (eqb-true j k same)) (and_parts (holds k) (every holds ks) h).0
-    choice false other f again = again f (and_parts (holds k) (every holds ks) h).1
-
 ok_verdict : (v : Verdict) (a : Accepted) → accepted_of (Some v) ≡ Some a → v ≡ Ok a
 ok_verdict (Ok b) a e = let same : b ≡ a = cc in ap Ok same
 ok_verdict (Err r) a e = absurd cc
@@ -254,19 +248,19 @@ if_among false o x e = absurd cc
 
 module _ (all : Judging) (narrow : all.methods.width ≤ 64) (wide : 255 < 2 ^ all.methods.width) (known : ℕ → Option Accepted) (are : AreAccepted all known) (small : AreSmall all) where
   abbrev Calls : ℕ → (Place → ℕ → List Value → M (Option Value)) → Type 0
-  Calls d call = (p : Place) (k : ℕ) (a : Accepted) (vs : List Value) (script : List Event) (s : State) → is_short all d k ≡ true → known k ≡ Some a → FitAll all.methods.width vs a.args → FitNames all.methods.width all.kinds s.names → FitScript all.methods.width all.kinds script → IsCalled all.methods.width (shared_only all.kinds) a s.frame s.steps ((call p k vs).run script s)
+  Calls d call = (p : Place) (k : ℕ) (a : Accepted) (vs : List Value) (script : List Event) (s : State) → is_short (called_from all) d k ≡ true → known k ≡ Some a → FitAll all.methods.width vs a.args → FitNames all.methods.width all.kinds s.names → FitScript all.methods.width all.kinds script → IsCalled all.methods.width (shared_only all.kinds) a s.frame s.steps ((call p k vs).run script s)
 
   -- what a short method sees of its callees is what their calls give
-  seen_calls : (d k : ℕ) (call : Place → ℕ → List Value → M (Option Value)) → is_short all (suc d) k ≡ true → Calls d call → AreCalls all.methods.width (shared_only all.kinds) (seen_from all known k) call
+  seen_calls : (d k : ℕ) (call : Place → ℕ → List Value → M (Option Value)) → is_short (called_from all) (suc d) k ≡ true → Calls d call → AreCalls all.methods.width (shared_only all.kinds) (seen_from all known k) call
   unfolding is_short
   seen_calls d k call short calls = record {
     each = λ p j a vs script s e fit shared slept.
-        let two = if_among (is_among j (all.calls k)) (known j) a e in
-        calls p j a vs script s (among_every (is_short all d) j (all.calls k) two.0 short) two.1 fit shared slept;
+        let two = if_among (is_among j (called_from all k)) (known j) a e in
+        calls p j a vs script s (among_all (is_short (called_from all) d) j (called_from all k) two.0 short) two.1 fit shared slept;
   }
 
   -- a method in a frame of its own, by what it was judged to be
-  entered_called : (d k : ℕ) (m : Callee) (a : Accepted) (vs : List Value) (script : List Event) (s : State) → Calls d (call_within all.methods d) → is_short all (suc d) k ≡ true → all.methods.callee k ≡ Some m → accepted_of (verdict_by all known k (Some m)) ≡ Some a → FitAll all.methods.width vs a.args → FitNames all.methods.width all.kinds s.names → FitScript all.methods.width all.kinds script → IsCalled all.methods.width (shared_only all.kinds) a s.frame s.steps ((framed m.table vs (mean_method (setting_for all.methods (call_within all.methods d) m) m.body)).run script s)
+  entered_called : (d k : ℕ) (m : Callee) (a : Accepted) (vs : List Value) (script : List Event) (s : State) → Calls d (call_within all.methods d) → is_short (called_from all) (suc d) k ≡ true → all.methods.callee k ≡ Some m → accepted_of (verdict_by all known k (Some m)) ≡ Some a → FitAll all.methods.width vs a.args → FitNames all.methods.width all.kinds s.names → FitScript all.methods.width all.kinds script → IsCalled all.methods.width (shared_only all.kinds) a s.frame s.steps ((framed m.table vs (mean_method (setting_for all.methods (call_within all.methods d) m) m.body)).run script s)
   unfolding framed ◌>>=◌
   entered_called d k m a vs script s calls short is e fit shared slept =
       let ok = ok_verdict _ a e in
@@ -276,7 +270,7 @@ module _ (all : Judging) (narrow : all.methods.width ≤ 64) (wide : 255 < 2 ^ a
       (seen_calls d k (call_within all.methods d) short calls) slept (entry (all.args k)) (inside vs s)
       (record { reached = refl; own = slots_fit all.methods.width 8 [] [] tt; given = slots_fit all.methods.width 7 vs (all.args k) (subst (FitAll all.methods.width vs) (sym says.1) fit); shared = shared; owned = record { kinds_stay = refl; fitting = refl; words = λ i u e. absurd cc }; fields = refl; holds = refl; callers = refl })))
 
-  or_called : (d : ℕ) (p : Place) (k : ℕ) (o : Option Callee) (a : Accepted) (vs : List Value) (script : List Event) (s : State) → Calls d (call_within all.methods d) → is_short all (suc d) k ≡ true → all.methods.callee k ≡ o → accepted_of (verdict_by all known k o) ≡ Some a → FitAll all.methods.width vs a.args → FitNames all.methods.width all.kinds s.names → FitScript all.methods.width all.kinds script → IsCalled all.methods.width (shared_only all.kinds) a s.frame s.steps ((callee_or p o (λ m. framed m.table vs (mean_method (setting_for all.methods (call_within all.methods d) m) m.body))).run script s)
+  or_called : (d : ℕ) (p : Place) (k : ℕ) (o : Option Callee) (a : Accepted) (vs : List Value) (script : List Event) (s : State) → Calls d (call_within all.methods d) → is_short (called_from all) (suc d) k ≡ true → all.methods.callee k ≡ o → accepted_of (verdict_by all known k o) ≡ Some a → FitAll all.methods.width vs a.args → FitNames all.methods.width all.kinds s.names → FitScript all.methods.width all.kinds script → IsCalled all.methods.width (shared_only all.kinds) a s.frame s.steps ((callee_or p o (λ m. framed m.table vs (mean_method (setting_for all.methods (call_within all.methods d) m) m.body))).run script s)
   or_called d p k None a vs script s calls short is e fit shared slept = absurd cc
   or_called d p k (Some m) a vs script s calls short is e fit shared slept = entered_called d k m a vs script s calls short is e fit shared slept
 
@@ -286,7 +280,7 @@ module _ (all : Judging) (narrow : all.methods.width ≤ 64) (wide : 255 < 2 ^ a
   calls_within zero p k a vs script s short e fit shared slept = absurd cc
   calls_within (suc d) p k a vs script s short e fit shared slept = or_called d p k (all.methods.callee k) a vs script s (calls_within d) short refl (sym (are.each k) ∙ e) fit shared slept
 
-  short_of : (k : ℕ) (o : Option Callee) (a : Accepted) → accepted_of (verdict_by all known k o) ≡ Some a → is_short all 64 k ≡ true
+  short_of : (k : ℕ) (o : Option Callee) (a : Accepted) → accepted_of (verdict_by all known k o) ≡ Some a → is_short (called_from all) 64 k ≡ true
   short_of k None a e = absurd cc
   short_of k (Some m) a e = (verdict_says all.methods.width all.kinds _ _ (all.args k) (judged_method (around_for all known k m) m.opcode m.body (entry (all.args k))) a (ok_verdict _ a e)).0
 

@@ -27,13 +27,13 @@ pub mod Edges
 pub mod MutexExamples
 pub mod FieldExamples
 pub mod Rows
+pub mod CallExamples
 pub mod OperatorExamples
 pub mod CauseExamples
 pub mod IntegerExamples
 pub mod Order
 pub mod Fine
 pub mod InPlace
-pub mod Chains
 pub mod Mutexes
 pub mod Whole
 pub mod WholeMutex

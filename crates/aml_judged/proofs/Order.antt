@@ -1,15 +1,16 @@
 -- Verdicts are one, and judged in call order.
-use Rattle.std.proofs.Common.{◌≡◌, ℕ, zero, suc, List, [], ◌∷◌, Option, Some, None, refl, sym, ap, ◌∙◌, subst, arith}
-use Rattle.std.proofs.lemmas.Bool.{and_parts, or_parts, eqb-true}
-use Rattle.std.proofs.lemmas.Bool.Decides.{nat_tests}
-use Rattle.std.specs.Prelude.{Bool, true, false, ◌==◌, ◌||◌, ◌&&◌, not, if◌then◌else◌}
+use Rattle.std.proofs.Common.{◌≡◌, ℕ, zero, suc, List, [], ◌∷◌, Option, Some, None, refl, sym, ap, ◌∙◌, subst}
+use Rattle.std.proofs.lemmas.Bool.{or_parts, eqb-true}
+use Rattle.std.specs.List.{list_all}
+use Rattle.std.specs.Prelude.{Bool, true, false, ◌==◌, ◌||◌, not, if◌then◌else◌}
 use Rattle.aml_meaning.specs.Within.{Callee}
+use Rattle.aml_bounds.specs.Chains.{is_among, is_short, IsBehindCallees}
+use Rattle.aml_bounds.proofs.Among.{all_among, among_all, neither, rest_among, same_number}
 use Rattle.aml_judged.specs.Causes as cause
 use Rattle.aml_judged.specs.Judged.{Accepted, Judged, Goes, Stops}
 use Rattle.aml_judged.specs.Bodies.{shared_only, judged_method, entry}
-use Rattle.aml_judged.specs.Laws.{VerdictsAreOne, judged_one, judged_in_order, IsBehindCallees, OrderAnswers}
-use Rattle.aml_judged.specs.Verdicts.{verdict_of, accepted_of, Judging, is_among, every, is_short, seen_from, around_for, verdict_by, AreAccepted}
-use Rattle.aml_judged.proofs.Called.{among_every}
+use Rattle.aml_judged.specs.Laws.{VerdictsAreOne, judged_one, judged_in_order, OrderAnswers}
+use Rattle.aml_judged.specs.Verdicts.{verdict_of, accepted_of, called_from, Judging, seen_from, around_for, verdict_by, AreAccepted}
 
 same_function : {X Y : Type 0} (f g : X → Y) → ((x : X) → f x ≡ g x) → f ≡ g
 same_function f g h = λ i. λ x. h x i
@@ -20,13 +21,13 @@ choice_same false x y z h = refl
 
 module _ (all : Judging) where
   -- a verdict hangs on those of its method's callees alone
-  sees : (known other : ℕ → Option Accepted) (k : ℕ) → ((j : ℕ) → is_among j (all.calls k) ≡ true → known j ≡ other j) → seen_from all known k ≡ seen_from all other k
-  sees known other k h = same_function _ _ (λ j. ap (λ a. record { reaches = all.reaches j k; deep = not (is_short all 63 j); accepted = a }) (choice_same (is_among j (all.calls k)) (known j) (other j) None (h j)))
+  sees : (known other : ℕ → Option Accepted) (k : ℕ) → ((j : ℕ) → is_among j (called_from all k) ≡ true → known j ≡ other j) → seen_from all known k ≡ seen_from all other k
+  sees known other k h = same_function _ _ (λ j. ap (λ a. record { reaches = all.reaches j k; deep = not (is_short (called_from all) 63 j); accepted = a }) (choice_same (is_among j (called_from all k)) (known j) (other j) None (h j)))
 
-  pub local_verdict : (known other : ℕ → Option Accepted) (k : ℕ) → ((j : ℕ) → is_among j (all.calls k) ≡ true → known j ≡ other j) → (o : Option Callee) → verdict_by all known k o ≡ verdict_by all other k o
+  pub local_verdict : (known other : ℕ → Option Accepted) (k : ℕ) → ((j : ℕ) → is_among j (called_from all k) ≡ true → known j ≡ other j) → (o : Option Callee) → verdict_by all known k o ≡ verdict_by all other k o
   local_verdict known other k h None = refl
   local_verdict known other k h (Some m) =
-      ap (λ callee. Some (verdict_of (is_short all 64 k) (record { table = m.table; at = m.opcode; why = cause.BoundTooLarge }) (all.args k) (judged_method (record { table = m.table; width = all.methods.width; link = m.link; lone = m.lone; object = all.methods.object; field = all.methods.field; buffer_field = all.methods.buffer_field; literal = m.literal; kinds = shared_only all.kinds; callee = callee }) m.opcode m.body (entry (all.args k))))) (sees known other k h)
+      ap (λ callee. Some (verdict_of (is_short (called_from all) 64 k) (record { table = m.table; at = m.opcode; why = cause.BoundTooLarge }) (all.args k) (judged_method (record { table = m.table; width = all.methods.width; link = m.link; lone = m.lone; object = all.methods.object; field = all.methods.field; buffer_field = all.methods.buffer_field; literal = m.literal; kinds = shared_only all.kinds; callee = callee }) m.opcode m.body (entry (all.args k))))) (sees known other k h)
 
   long_verdict : (short : Bool) (late : _) (args : _) (j : Judged (Unit {0})) → short ≡ false → accepted_of (Some (verdict_of short late args j)) ≡ None
   long_verdict false late args (Goes u env x n) e = refl
@@ -34,27 +35,24 @@ module _ (all : Judging) where
   long_verdict true late args j e = absurd cc
 
   -- a method that begins too long a chain is not accepted
-  long_refused : (known : ℕ → Option Accepted) (k : ℕ) (o : Option Callee) → is_short all 64 k ≡ false → accepted_of (verdict_by all known k o) ≡ None
+  long_refused : (known : ℕ → Option Accepted) (k : ℕ) (o : Option Callee) → is_short (called_from all) 64 k ≡ false → accepted_of (verdict_by all known k o) ≡ None
   long_refused known k None e = refl
-  long_refused known k (Some m) e = long_verdict (is_short all 64 k) _ _ (judged_method (around_for all known k m) m.opcode m.body (entry (all.args k))) e
+  long_refused known k (Some m) e = long_verdict (is_short (called_from all) 64 k) _ _ (judged_method (around_for all known k m) m.opcode m.body (entry (all.args k))) e
 
   -- two answers are the same, by the lengths of chains
   module _ (known other : ℕ → Option Accepted) (a : AreAccepted all known) (b : AreAccepted all other) where
-    short_same : (d k : ℕ) → is_short all d k ≡ true → known k ≡ other k
+    short_same : (d k : ℕ) → is_short (called_from all) d k ≡ true → known k ≡ other k
     unfolding is_short
     short_same zero k e = absurd cc
-    short_same (suc d) k e = a.each k ∙ ap accepted_of (local_verdict known other k (λ j among. short_same d j (among_every (is_short all d) j (all.calls k) among e)) (all.methods.callee k)) ∙ sym (b.each k)
+    short_same (suc d) k e = a.each k ∙ ap accepted_of (local_verdict known other k (λ j among. short_same d j (among_all (is_short (called_from all) d) j (called_from all k) among e)) (all.methods.callee k)) ∙ sym (b.each k)
 
-    all_same : (k : ℕ) (t : Bool) → is_short all 64 k ≡ t → known k ≡ other k
+    all_same : (k : ℕ) (t : Bool) → is_short (called_from all) 64 k ≡ t → known k ≡ other k
     all_same k true e = short_same 64 k e
     all_same k false e = a.each k ∙ long_refused known k (all.methods.callee k) e ∙ sym (long_refused other k (all.methods.callee k) e) ∙ sym (b.each k)
 
-  same_number : (n : ℕ) → (n == n) ≡ true
-  same_number n = grind (arith, nat_tests)
-
   record Answers (known : ℕ → Option Accepted) (done : List ℕ) : Type 0 where
     each : (k : ℕ) → is_among k done ≡ true → known k ≡ accepted_of (verdict_by all known k (all.methods.callee k))
-    within : (k : ℕ) → is_among k done ≡ true → every (λ j. is_among j done) (all.calls k) ≡ true
+    within : (k : ℕ) → is_among k done ≡ true → list_all (λ j. is_among j done) (called_from all k) ≡ true
     none : (k : ℕ) → is_among k done ≡ false → known k ≡ None
 
   not_both : (k j : ℕ) (done : List ℕ) → is_among k done ≡ false → is_among j done ≡ true → (j == k) ≡ false
@@ -68,29 +66,18 @@ module _ (all : Judging) where
   kept : (known : ℕ → Option Accepted) (k j : ℕ) → (j == k) ≡ false → known j ≡ judged_one all known k j
   kept known k j e = rw e refl
 
-  more_among : (k : ℕ) (done js : List ℕ) → every (λ j. is_among j done) js ≡ true → every (λ j. is_among j (k ∷ done)) js ≡ true
-  more_among k done [] h = refl
-  more_among k done (j ∷ js) h =
-      let two = and_parts (is_among j done) (every (λ i. is_among i done) js) h in
-      both_true ((j == k) || is_among j done) (every (λ i. is_among i (k ∷ done)) js) (or_right (j == k) (is_among j done) two.0) (more_among k done js two.1)
-    where
-      both_true : (p q : Bool) → p ≡ true → q ≡ true → (p && q) ≡ true
-      both_true true q e f = f
-      both_true false q e f = absurd cc
+  more_among : (k : ℕ) (done js : List ℕ) → list_all (λ j. is_among j done) js ≡ true → list_all (λ j. is_among j (k ∷ done)) js ≡ true
+  more_among k done js h = all_among (λ j. is_among j (k ∷ done)) js (λ j among. rest_among j k done (among_all (λ i. is_among i done) j js among h))
 
-      or_right : (p q : Bool) → q ≡ true → (p || q) ≡ true
-      or_right true q e = refl
-      or_right false q e = e
-
-  one_more : (known : ℕ → Option Accepted) (done : List ℕ) (k : ℕ) → Answers known done → every (λ j. is_among j done) (all.calls k) ≡ true → is_among k done ≡ false → Answers (judged_one all known k) (k ∷ done)
+  one_more : (known : ℕ → Option Accepted) (done : List ℕ) (k : ℕ) → Answers known done → list_all (λ j. is_among j done) (called_from all k) ≡ true → is_among k done ≡ false → Answers (judged_one all known k) (k ∷ done)
   one_more known done k h calls out = record {
     each = λ j among. each_by j (j == k) refl among;
     within = λ j among. within_by j (j == k) refl among;
     none = λ j away. none_by j away;
   }
     where
-      agree : (m : ℕ) → every (λ j. is_among j done) (all.calls m) ≡ true → (j : ℕ) → is_among j (all.calls m) ≡ true → known j ≡ judged_one all known k j
-      agree m inside j among = kept known k j (not_both k j done out (among_every (λ i. is_among i done) j (all.calls m) among inside))
+      agree : (m : ℕ) → list_all (λ j. is_among j done) (called_from all m) ≡ true → (j : ℕ) → is_among j (called_from all m) ≡ true → known j ≡ judged_one all known k j
+      agree m inside j among = kept known k j (not_both k j done out (among_all (λ i. is_among i done) j (called_from all m) among inside))
 
       itself : judged_one all known k k ≡ accepted_of (verdict_by all known k (all.methods.callee k))
       itself = rw (same_number k) refl
@@ -101,18 +88,14 @@ module _ (all : Judging) where
           subst (λ i. judged_one all known k i ≡ accepted_of (verdict_by all (judged_one all known k) i (all.methods.callee i))) (sym same) (itself ∙ ap accepted_of (local_verdict known (judged_one all known k) k (agree k calls) (all.methods.callee k)))
       each_by j false e among = sym (kept known k j e) ∙ h.each j among ∙ ap accepted_of (local_verdict known (judged_one all known k) j (agree j (h.within j among)) (all.methods.callee j))
 
-      within_by : (j : ℕ) (t : Bool) → (j == k) ≡ t → (t || is_among j done) ≡ true → every (λ i. is_among i (k ∷ done)) (all.calls j) ≡ true
-      within_by j true e among = let same : j ≡ k = eqb-true j k e in subst (λ i. every (λ n. is_among n (k ∷ done)) (all.calls i) ≡ true) (sym same) (more_among k done (all.calls k) calls)
-      within_by j false e among = more_among k done (all.calls j) (h.within j among)
+      within_by : (j : ℕ) (t : Bool) → (j == k) ≡ t → (t || is_among j done) ≡ true → list_all (λ i. is_among i (k ∷ done)) (called_from all j) ≡ true
+      within_by j true e among = let same : j ≡ k = eqb-true j k e in subst (λ i. list_all (λ n. is_among n (k ∷ done)) (called_from all i) ≡ true) (sym same) (more_among k done (called_from all k) calls)
+      within_by j false e among = more_among k done (called_from all j) (h.within j among)
 
       none_by : (j : ℕ) → ((j == k) || is_among j done) ≡ false → judged_one all known k j ≡ None
       none_by j away = let two = or_parts (j == k) (is_among j done) away in sym (kept known k j two.0) ∙ h.none j two.1
 
-  neither : (p q : Bool) → p ≡ false → q ≡ false → (p || q) ≡ false
-  neither true q e f = absurd cc
-  neither false q e f = f
-
-  in_order : (order : List ℕ) (known : ℕ → Option Accepted) (done : List ℕ) → Answers known done → IsBehindCallees all done order → ((k : ℕ) → is_among k done ≡ false → is_among k order ≡ false → is_short all 64 k ≡ false) → AreAccepted all (judged_in_order all known order)
+  in_order : (order : List ℕ) (known : ℕ → Option Accepted) (done : List ℕ) → Answers known done → IsBehindCallees (called_from all) done order → ((k : ℕ) → is_among k done ≡ false → is_among k order ≡ false → is_short (called_from all) 64 k ≡ false) → AreAccepted all (judged_in_order all known order)
   in_order [] known done h ordered others = record { each = λ k. by k (is_among k done) refl }
     where
       by : (k : ℕ) (t : Bool) → is_among k done ≡ t → known k ≡ accepted_of (verdict_by all known k (all.methods.callee k))
@@ -123,7 +106,7 @@ module _ (all : Judging) where
       (λ j away out. let two = or_parts (j == k) (is_among j done) away in others j two.1 (neither (j == k) (is_among j ks) two.0 out))
 
 pub verdicts_are_one : VerdictsAreOne
-verdicts_are_one all known other a b k = all_same all known other a b k (is_short all 64 k) refl
+verdicts_are_one all known other a b k = all_same all known other a b k (is_short (called_from all) 64 k) refl
 
 pub order_answers : OrderAnswers
 order_answers all order ordered others =

@@ -1,10 +1,19 @@
 -- Worked rows: bodies at their bytes' places, with the verdicts that stand in the tables of rows.
 use Rattle.std.proofs.Common.{◌≡◌, ℕ, ◌+◌, ◌^◌, ◌-◌, List, [], ◌∷◌, Option, Some, None, Ok, refl}
-use Rattle.std.specs.Prelude.{Bool, true, false, ◌==◌, if◌then◌else◌}
+use Rattle.std.specs.Prelude.{true, false, ◌==◌, if◌then◌else◌}
 use Rattle.aml_operators.specs.declared.op.Op.TheVariants as op
 use Rattle.aml_operators.specs.Tree.{Tree, Trees, Node, none, more}
 use Rattle.aml_namespace.specs.declared.link.Link.{Link}
 use Rattle.aml_namespace.specs.declared.link.Link.TheVariants as link
+use Rattle.aml_paths.specs.declared.scope.Scope.TheVariants as scope
+use Rattle.aml_namespace.specs.Load.{Shown}
+use Rattle.aml_namespace.specs.declared.object.AccessType.TheVariants as access
+use Rattle.aml_namespace.specs.declared.object.Entry.TheVariants as entry_is
+use Rattle.aml_namespace.specs.declared.object.Object.TheVariants as object
+use Rattle.aml_namespace.specs.declared.object.Reference.{Reference}
+use Rattle.aml_namespace.specs.declared.object.Through.TheVariants as through
+use Rattle.aml_namespace.specs.declared.object.UpdateRule.TheVariants as update
+use Rattle.aml_namespace.specs.declared.width.Width.TheVariants as width_of
 use Rattle.aml_values.specs.Values.{Buf}
 use Rattle.aml_kinds.specs.Kinds.{Kind, IntUpTo, BufOf}
 use Rattle.aml_regions.specs.declared.field.AnyField.{AnyField}
@@ -13,6 +22,7 @@ use Rattle.aml_regions.specs.declared.field.OtherBits.{OtherBits}
 use Rattle.aml_regions.specs.declared.field.OtherBits.TheVariants as others
 use Rattle.aml_regions.specs.declared.field.UnitWidth.TheVariants as unit
 use Rattle.aml_meaning.specs.Fields.{read_count, write_count, plan_reads, plan_writes, plan_of, region_plan}
+use Rattle.aml_meaning.specs.Reached.{field_numbered}
 use Rattle.aml_judged.specs.Causes as cause
 use Rattle.aml_judged.specs.Judged.{Yield, Always, Never, Around}
 use Rattle.aml_judged.specs.Bodies.{shared_only, judged_method, entry}
@@ -73,6 +83,59 @@ row_17 : field_row others.Preserve (one (Node op.Return 69 76 (one (Node op.LAnd
 unfolding read_count plan_reads plan_of region_plan count first end
 row_17 = refl
 
+-- Store (0xAB, FLD0): 8 bits at bit 32, units of four bytes, in a region of so many bytes; the second unit
+-- ends at byte 8
+abbrev region_name : Reference
+region_name = record {
+  name = record { table = 0; at = 41; scope = scope.Root };
+  object = Some (record { 0 = 0 });
+}
+
+abbrev in_dwords : ℕ → Shown
+in_dwords length = record {
+  tables = [];
+  os = [];
+  width = width_of.Bits64;
+  entries =
+      ([], entry_is.Own (object.Region (record { space = 1; place = Some 96; length = Some length }))) ∷ (
+        [],
+        entry_is.Own (object.Field (record {
+          through = through.Region region_name;
+          bit = 32;
+          bits = 8;
+          rule = record { access = access.DWord; lock = false; update = update.Preserve };
+          is_connected = false;
+        })),
+      ) ∷ [];
+  externals = [];
+  interfaces = [];
+}
+
+abbrev second_field : ℕ → Link
+second_field at = link.Field (record { 0 = 1 })
+
+abbrev dword_row : ℕ → Trees → Verdict
+dword_row length body = verdict_of true late [] (judged_method (record (here second_field known_here) { field = field_numbered (in_dwords length) }) 36 body (entry []))
+
+abbrev field_returned : Trees
+field_returned = one (Node op.Return 69 76 (one (leaf op.NameString 72)))
+
+row_10_outside : dword_row 6 field_stored ≡ refused 72 cause.Region
+unfolding end
+row_10_outside = refl
+
+row_10_outside_read : dword_row 6 field_returned ≡ refused 72 cause.Region
+unfolding end
+row_10_outside_read = refl
+
+row_10_one_short : dword_row 7 field_stored ≡ refused 72 cause.Region
+unfolding end
+row_10_one_short = refl
+
+row_10_inside : dword_row 8 field_stored ≡ accepted [] 5 Never
+unfolding write_count plan_writes plan_of region_plan count first end
+row_10_inside = refl
+
 -- While (LLess (Local0, 4)) {Increment (Local0)} behind a Store of Zero, and without it
 abbrev rising : ℕ → Tree → Tree
 rising at limit = Node op.While at (at + 8) (two (Node op.LLess (at + 2) (at + 6) (two (leaf op.Local0 (at + 3)) limit)) (Node op.Increment (at + 6) (at + 8) (one (leaf op.Local0 (at + 7)))))
@@ -128,13 +191,6 @@ row_15_narrow = refl
 row_15_local : judged_at 64 any (any ∷ []) (two (Node op.Store 40 43 (two (byte 7 41) (leaf op.Local1 42))) (Node op.Return 43 57 (one (Node op.Divide 44 57 (four (leaf op.Arg0 45) (leaf op.Local1 46) (nothing 55) (nothing 56)))))) ≡ refused 46 cause.Divisor
 row_15_local = refl
 
--- two methods that call each other, and a third that calls one of them
-abbrev to_method : ℕ → Link
-to_method at = link.Method (record { 0 = 0 })
-
-abbrev calling : ℕ → Bool → Verdict
-calling at reaches = verdict_of true late [] (judged_method (here to_method (λ k. record { reaches = reaches; deep = false; accepted = None })) 36 (one (Node op.Return at (at + 5) (one (Node op.Invocation (at + 1) (at + 5) (one (leaf op.NameString (at + 1))))))) (entry []))
-
 row_18 : judged_at 64 any [] (two (Node op.Divide 43 49 (four (byte 7 44) (byte 2 46) (leaf op.Local0 48) (leaf op.Local0 49))) (Node op.Return 50 52 (one (leaf op.Local0 51)))) ≡ accepted [] 7 (Always (IntUpTo 3))
 row_18 = refl
 
@@ -176,10 +232,3 @@ row_sleeps = refl
 
 row_counts : judged_at 64 any [] (one (Node op.Increment 66 71 (one (leaf op.NameString 67)))) ≡ accepted [] 3 Never
 row_counts = refl
-
--- the cause of a method in a cycle, and of one that calls it
-row_16_cycle : calling 43 true ≡ refused 44 cause.Cycle
-row_16_cycle = refl
-
-row_16_calls_it : calling 67 false ≡ refused 68 cause.CalleeRefused
-row_16_calls_it = refl

@@ -18,9 +18,9 @@ use Rattle.aml_meaning.specs.State.{State, Frame, Stop, Error, Out, Halts, NoAns
 use Rattle.aml_meaning.specs.Parts.{M, ◌>>=◌, give, stop_with, lift, tick, paid, take_step, then_do, Falls}
 use Rattle.aml_meaning.specs.Rules.{Place, integer, compared, truth}
 use Rattle.aml_meaning.specs.Meaning.{Setting, act, value, want, tested, place, gives_value, outside}
-use Rattle.aml_judged.specs.Judge.{spelled, number, number_of, rises, falls, steps, counted, against, shape_by, shape_of}
+use Rattle.aml_bounds.specs.Loops.{spelled, number, number_of, rises, falls, steps, counted, against, shape_by, shape_of}
 use Rattle.aml_judged.specs.Judged.{Around}
-use Rattle.aml_judged.specs.Shapes.{is_arg, Shape, Once, Up, Down, Endless, is_local, acts, leaves, continues_in}
+use Rattle.aml_bounds.specs.Shapes.{is_arg, Shape, Once, Up, Down, Endless, is_local, acts, leaves, continues_in}
 use Rattle.aml_judged.proofs.Turns.{reads_arg, Only, then_only, step_only, value_of, Reads, reads, local_only, Spells, spells, Stays, not_true, want_only}
 
 -- the place holds an integer below, or above, a number
@@ -75,19 +75,19 @@ module _ (around : Around) (here : Setting) (widths : here.width ≡ around.widt
 
   abbrev pub Told : M ℕ → Trees → Shape → Type 0
   Told test body Once = (leaves body ≡ true) × (continues_in body ≡ false)
-  Told test body (Up l c) = (steps around (rises around) l body ≡ true) × (c < 2 ^ around.width) × Tests (Below c) l test
-  Told test body (Down l c) = (steps around (falls around) l body ≡ true) × Tests (Above c) l test
+  Told test body (Up l c) = (steps (rises around.width) l body ≡ true) × (c < 2 ^ around.width) × Tests (Below c) l test
+  Told test body (Down l c) = (steps (falls around.width) l body ≡ true) × Tests (Above c) l test
   Told test body Endless = Unit {0}
 
-  spelled_small : (o : Option ℕ) (n : ℕ) → spelled around o ≡ Some n → n < 2 ^ around.width
+  spelled_small : (o : Option ℕ) (n : ℕ) → spelled around.width o ≡ Some n → n < 2 ^ around.width
   spelled_small (Some m) n e = let same : m % 2 ^ around.width ≡ n = cc in subst (λ k. k < 2 ^ around.width) same (mod-lt m (pow_pos around.width))
   spelled_small None n e = absurd cc
 
-  number_small : (a : Action) (parts : Trees) (n : ℕ) → number around a parts ≡ Some n → n < 2 ^ around.width
+  number_small : (a : Action) (parts : Trees) (n : ℕ) → number around.width a parts ≡ Some n → n < 2 ^ around.width
   number_small (Literal o) parts n e = spelled_small (literal_in o parts) n e
   number_small a parts n e = absurd cc
 
-  small : (t : Tree) (n : ℕ) → number_of around t ≡ Some n → n < 2 ^ around.width
+  small : (t : Tree) (n : ℕ) → number_of around.width t ≡ Some n → n < 2 ^ around.width
   small (Node o at stop parts) n e = number_small (action o) parts n e
 
   truth_holds : (b : Bool) (n : ℕ) → truth here.width b ≡ Int n → (n ≡ 0 → ⊥) → b ≡ true
@@ -125,7 +125,7 @@ module _ (around : Around) (here : Setting) (widths : here.width ≡ around.widt
   integer_says R f slot p (Str xs) script s h = tt
   integer_says R f slot p (Pkg xs) script s h = tt
 
-  less_at : (slot : Frame → Option (Option Value)) (at : ℕ) (a c : Tree) (n : ℕ) → ((script : List Event) (s : State) → Only (Reads around here widths s.frame (slot s.frame)) ((value here a).run script s)) → number_of around c ≡ Some n → (p : Place) → TestsAt (Below n) slot (tested here p (value_of around here widths (Compare comparison.LLess) at (more a (more c none))))
+  less_at : (slot : Frame → Option (Option Value)) (at : ℕ) (a c : Tree) (n : ℕ) → ((script : List Event) (s : State) → Only (Reads around here widths s.frame (slot s.frame)) ((value here a).run script s)) → number_of around.width c ≡ Some n → (p : Place) → TestsAt (Below n) slot (tested here p (value_of around here widths (Compare comparison.LLess) at (more a (more c none))))
   unfolding ◌>>=◌ tick paid give
   less_at slot at a c n read f p script s =
       then_only (Says (Below n) s.frame (slot s.frame)) _ _ _
@@ -138,10 +138,10 @@ module _ (around : Around) (here : Setting) (widths : here.width ≡ around.widt
       (λ o next h. want_only around here widths (Says (Below n) s.frame (slot s.frame)) at o script next h)))
       (λ r next h. integer_says (Below n) s.frame (slot s.frame) p r script next h)
 
-  less_act : (l at : ℕ) (a c : Tree) (n : ℕ) → acts (is_local l) a ≡ true → number_of around c ≡ Some n → (p : Place) → Tests (Below n) l (tested here p (value_of around here widths (Compare comparison.LLess) at (more a (more c none))))
+  less_act : (l at : ℕ) (a c : Tree) (n : ℕ) → acts (is_local l) a ≡ true → number_of around.width c ≡ Some n → (p : Place) → Tests (Below n) l (tested here p (value_of around here widths (Compare comparison.LLess) at (more a (more c none))))
   less_act l at a c n e f p = less_at (λ x. slice_get x.locals l) at a c n (reads around here widths l a e) f p
 
-  greater_act : (l at : ℕ) (a c : Tree) (n : ℕ) → acts (is_local l) a ≡ true → number_of around c ≡ Some n → (p : Place) → Tests (Above n) l (tested here p (value_of around here widths (Compare comparison.LGreater) at (more a (more c none))))
+  greater_act : (l at : ℕ) (a c : Tree) (n : ℕ) → acts (is_local l) a ≡ true → number_of around.width c ≡ Some n → (p : Place) → Tests (Above n) l (tested here p (value_of around here widths (Compare comparison.LGreater) at (more a (more c none))))
   unfolding ◌>>=◌ tick paid give
   greater_act l at a c n e f p script s =
       then_only (Says (Above n) s.frame (slice_get s.frame.locals l)) _ _ _
@@ -175,40 +175,40 @@ module _ (around : Around) (here : Setting) (widths : here.width ≡ around.widt
   is_arg_same : (i : ℕ) (a : Action) → a ≡ Argument i → is_arg i a ≡ true
   is_arg_same i a e = rw e (let same : (i == i) ≡ true = grind (arith, nat_tests) in same)
 
-  counted_up : (test : M ℕ) (l : ℕ) (o : Option ℕ) (body : Trees) → ((n : ℕ) → o ≡ Some n → (n < 2 ^ around.width) × Tests (Below n) l test) → Told test body (counted around Up (rises around) l o body)
+  counted_up : (test : M ℕ) (l : ℕ) (o : Option ℕ) (body : Trees) → ((n : ℕ) → o ≡ Some n → (n < 2 ^ around.width) × Tests (Below n) l test) → Told test body (counted Up (rises around.width) l o body)
   counted_up test l None body h = tt
-  counted_up test l (Some n) body h = choice (steps around (rises around) l body) refl
+  counted_up test l (Some n) body h = choice (steps (rises around.width) l body) refl
     where
-      choice : (b : Bool) → (steps around (rises around) l body) ≡ b → Told test body (if b then Up l n else Endless)
+      choice : (b : Bool) → (steps (rises around.width) l body) ≡ b → Told test body (if b then Up l n else Endless)
       choice true e = let t = h n refl in (e, t.0, t.1)
       choice false e = tt
 
-  counted_down : (test : M ℕ) (l : ℕ) (o : Option ℕ) (body : Trees) → ((n : ℕ) → o ≡ Some n → Tests (Above n) l test) → Told test body (counted around Down (falls around) l o body)
+  counted_down : (test : M ℕ) (l : ℕ) (o : Option ℕ) (body : Trees) → ((n : ℕ) → o ≡ Some n → Tests (Above n) l test) → Told test body (counted Down (falls around.width) l o body)
   counted_down test l None body h = tt
-  counted_down test l (Some n) body h = choice (steps around (falls around) l body) refl
+  counted_down test l (Some n) body h = choice (steps (falls around.width) l body) refl
     where
-      choice : (b : Bool) → (steps around (falls around) l body) ≡ b → Told test body (if b then Down l n else Endless)
+      choice : (b : Bool) → (steps (falls around.width) l body) ≡ b → Told test body (if b then Down l n else Endless)
       choice true e = (e, h n refl)
       choice false e = tt
 
-  against_up : (test : M ℕ) (a : Action) (parts : Trees) (c : Tree) (body : Trees) → ((l n : ℕ) → a ≡ Local l → number_of around c ≡ Some n → (n < 2 ^ around.width) × Tests (Below n) l test) → Told test body (against around Up (rises around) a parts c body)
-  against_up test (Local l) none c body h = counted_up test l (number_of around c) body (λ n e. h l n refl e)
+  against_up : (test : M ℕ) (a : Action) (parts : Trees) (c : Tree) (body : Trees) → ((l n : ℕ) → a ≡ Local l → number_of around.width c ≡ Some n → (n < 2 ^ around.width) × Tests (Below n) l test) → Told test body (against around.width Up (rises around.width) a parts c body)
+  against_up test (Local l) none c body h = counted_up test l (number_of around.width c) body (λ n e. h l n refl e)
   against_up test a parts c body h = tt
 
-  against_down : (test : M ℕ) (a : Action) (parts : Trees) (c : Tree) (body : Trees) → ((l n : ℕ) → a ≡ Local l → number_of around c ≡ Some n → Tests (Above n) l test) → Told test body (against around Down (falls around) a parts c body)
-  against_down test (Local l) none c body h = counted_down test l (number_of around c) body (λ n e. h l n refl e)
+  against_down : (test : M ℕ) (a : Action) (parts : Trees) (c : Tree) (body : Trees) → ((l n : ℕ) → a ≡ Local l → number_of around.width c ≡ Some n → Tests (Above n) l test) → Told test body (against around.width Down (falls around.width) a parts c body)
+  against_down test (Local l) none c body h = counted_down test l (number_of around.width c) body (λ n e. h l n refl e)
   against_down test a parts c body h = tt
 
-  tells_by : (p : Place) (a : Action) (at : ℕ) (parts body : Trees) → Told (tested here p (value_of around here widths a at parts)) body (shape_by around a parts body)
+  tells_by : (p : Place) (a : Action) (at : ℕ) (parts body : Trees) → Told (tested here p (value_of around here widths a at parts)) body (shape_by around.width a parts body)
   tells_by p (Compare comparison.LLess) at (more (Node o from stop parts) (more c none)) body = against_up (tested here p (value_of around here widths (Compare comparison.LLess) at (more (Node o from stop parts) (more c none)))) (action o) parts c body (λ l n e f. (small c n f, less_act l at (Node o from stop parts) c n (is_local_same l (action o) e) f p))
   tells_by p (Compare comparison.LGreater) at (more (Node o from stop parts) (more c none)) body = against_down (tested here p (value_of around here widths (Compare comparison.LGreater) at (more (Node o from stop parts) (more c none)))) (action o) parts c body (λ l n e f. greater_act l at (Node o from stop parts) c n (is_local_same l (action o) e) f p)
   tells_by p (Local l) at none body = counted_down (tested here p (value_of around here widths (Local l) at none)) l (Some 0) body (λ n e. let zero_is : 0 ≡ n = cc in subst (λ k. Tests (Above k) l (tested here p (value_of around here widths (Local l) at none))) zero_is (local_act l at none p))
   tells_by p a at parts body = tt
 
-  pub tells : (p : Place) (t : Tree) (body : Trees) → Told (tested here p (value here t)) body (shape_of around t body)
+  pub tells : (p : Place) (t : Tree) (body : Trees) → Told (tested here p (value here t)) body (shape_of around.width t body)
   tells p (Node o at stop parts) body = choice (leaves body && not (continues_in body)) refl
     where
-      choice : (b : Bool) → (leaves body && not (continues_in body)) ≡ b → Told (tested here p (value here (Node o at stop parts))) body (if b then Once else shape_by around (action o) parts body)
+      choice : (b : Bool) → (leaves body && not (continues_in body)) ≡ b → Told (tested here p (value here (Node o at stop parts))) body (if b then Once else shape_by around.width (action o) parts body)
       choice true e = let two = and_parts (leaves body) (not (continues_in body)) e in (two.0, not_true around here widths _ two.1)
       choice false e = tells_by p (action o) at parts body
 
@@ -219,7 +219,7 @@ module _ (around : Around) (here : Setting) (widths : here.width ≡ around.widt
   BelowBy a o f = Unit {0}
 
   abbrev pub BelowAct : Action → Trees → Frame → Type 0
-  BelowAct (Compare comparison.LLess) (more (Node x at stop none) (more c none)) f = BelowBy (action x) (number_of around c) f
+  BelowAct (Compare comparison.LLess) (more (Node x at stop none) (more c none)) f = BelowBy (action x) (number_of around.width c) f
   BelowAct a parts f = Unit {0}
 
   abbrev pub BelowTree : Tree → Frame → Type 0
@@ -228,7 +228,7 @@ module _ (around : Around) (here : Setting) (widths : here.width ≡ around.widt
   abbrev Tells : (Frame → Type 0) → ℕ → State → Type 0
   Tells R v next = (v ≡ 0 → ⊥) → R next.frame
 
-  below_by : (at from stop : ℕ) (x : _) (c : Tree) (p : Place) (script : List Event) (s : State) (a : Action) (o : Option ℕ) → action x ≡ a → number_of around c ≡ o → OnGoes (Tells (BelowBy a o)) ((tested here p (value_of around here widths (Compare comparison.LLess) at (more (Node x from stop none) (more c none)))).run script s)
+  below_by : (at from stop : ℕ) (x : _) (c : Tree) (p : Place) (script : List Event) (s : State) (a : Action) (o : Option ℕ) → action x ≡ a → number_of around.width c ≡ o → OnGoes (Tells (BelowBy a o)) ((tested here p (value_of around here widths (Compare comparison.LLess) at (more (Node x from stop none) (more c none)))).run script s)
   below_by at from stop x c p script s (Local i) (Some (suc n)) e f =
       only_goes _ (Tells (BelowBy (Local i) (Some (suc n)))) _ (λ v next h nz. let b = h.1 nz in record { number = b.number; is = ap (λ g. slice_get g.locals i) h.0 ∙ b.is; below = b.below }) (less_act i at (Node x from stop none) c (suc n) (is_local_same i (action x) e) f p script s)
   below_by at from stop x c p script s (Argument i) (Some (suc n)) e f =
@@ -236,7 +236,7 @@ module _ (around : Around) (here : Setting) (widths : here.width ≡ around.widt
   below_by at from stop x c p script s a o e f = any_goes (Tells (BelowBy a o)) ((tested here p (value_of around here widths (Compare comparison.LLess) at (more (Node x from stop none) (more c none)))).run script s) (λ v next nz. tt)
 
   below_act : (p : Place) (a : Action) (at : ℕ) (parts : Trees) (script : List Event) (s : State) → OnGoes (Tells (BelowAct a parts)) ((tested here p (value_of around here widths a at parts)).run script s)
-  below_act p (Compare comparison.LLess) at (more (Node x from stop none) (more c none)) script s = below_by at from stop x c p script s (action x) (number_of around c) refl refl
+  below_act p (Compare comparison.LLess) at (more (Node x from stop none) (more c none)) script s = below_by at from stop x c p script s (action x) (number_of around.width c) refl refl
   below_act p a at parts script s = any_goes (Tells (BelowAct a parts)) ((tested here p (value_of around here widths a at parts)).run script s) (λ v next nz. tt)
 
   pub test_tells : (p : Place) (t : Tree) (script : List Event) (s : State) → OnGoes (λ v next. (v ≡ 0 → ⊥) → BelowTree t next.frame) ((tested here p (value here t)).run script s)

@@ -32,7 +32,7 @@ use Rattle.aml_judged.specs.KindRules.{byte_written_kind, integer_kind, combined
 use Rattle.aml_judged.proofs.FieldsSafe.{around_of}
 use Rattle.aml_judged.proofs.IndexSafe.{SamePlace, indexed_safe, byte_safe}
 use Rattle.aml_judged.proofs.KindRules.{plain, IsBelow, IsNumber, le_test, integer_follows, combined_follows, compared_follows, transformed_follows, negated_follows, AreDivision, divided_follows, converted_follows, concatenated_follows, led_follows}
-use Rattle.aml_judged.specs.Shapes.{is_operand}
+use Rattle.aml_bounds.specs.Shapes.{is_operand}
 use Rattle.aml_judged.specs.Safe.{IsWord, FitScript, IsOf, FitAll, FitsState, FitsYield, IsSafe, AreCalls, AreTame}
 use Rattle.aml_judged.proofs.Fits.{fits_by, in_range}
 use Rattle.aml_judged.proofs.Parts.{safe_then, tick_then, stepped, meet_left, meet_right}

@@ -23,7 +23,7 @@ use Rattle.aml_meaning.specs.Parts.{M, ◌>>=◌, give, stop_with, lift, tick, p
 use Rattle.aml_meaning.specs.Loops.{turned, turn_end, turns, loop, spent}
 use Rattle.aml_meaning.specs.Rules.{Place, integer, divided}
 use Rattle.aml_meaning.specs.Meaning.{mutex, mutex_named, mutex_numbered, Setting, at_of, act, mean, value, values, mean_all, block, otherwise, is_else, want, store, stored, put, named, named_seen, named_target, invoked, interface_asked, held, field_read, bits_stored, field_stored, part_read, part_changed, own_read, own_held, own_changed, own_stored, own_measured, own_seen, seen, measured, size, asked, condition, untargeted, refused, bound, name_indexed, indexed, notified_name, notified, dereferenced, led, data_unless, tested, gives_value, changed_in_place, operator_action, place, place_at, outside}
-use Rattle.aml_judged.specs.Shapes.{is_local, acts, targets, assigns, assigns_in, is_continue, continues, continues_by, continues_in, outside_targets}
+use Rattle.aml_bounds.specs.Shapes.{is_local, acts, targets, assigns, assigns_in, is_continue, continues, continues_by, continues_in, outside_targets}
 use Rattle.aml_meaning.specs.Actions.{action}
 use Rattle.aml_meaning.specs.Owns.{get_own, own_field, own_stored_or, set_own}
 use Rattle.aml_meaning.specs.Changes.{change, changed_or, held_by, holding, peek, peeked_or}

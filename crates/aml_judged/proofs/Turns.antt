@@ -16,9 +16,9 @@ use Rattle.aml_meaning.specs.Parts.{M, ◌>>=◌, give, stop_with, lift, tick, p
 use Rattle.aml_meaning.specs.Mutexes.{none_held}
 use Rattle.aml_meaning.specs.Rules.{Place, combined}
 use Rattle.aml_meaning.specs.Meaning.{Setting, at_of, act, mean, value, mean_all, want, store, stored, gives_value, changed_in_place, operator_action, place, outside}
-use Rattle.aml_judged.specs.Judge.{spelled, number, number_of, is_number, is_one, rises, falls, steps}
+use Rattle.aml_bounds.specs.Loops.{spelled, number, number_of, is_number, is_one, rises, falls, steps}
 use Rattle.aml_judged.specs.Judged.{Around}
-use Rattle.aml_judged.specs.Shapes.{is_arg, targets, is_local, acts, assigns, assigns_in, continues, is_leave, leaves, lettered, outside_targets, is_target}
+use Rattle.aml_bounds.specs.Shapes.{is_arg, targets, is_local, acts, assigns, assigns_in, continues, is_leave, leaves, lettered, outside_targets, is_target}
 use Rattle.aml_judged.specs.Safe.{AreTame}
 use Rattle.aml_judged.proofs.Tame.{watching, Tame, AreCalm, calm, are_calm, all_tame, term_tame}
 use Rattle.aml_operators.specs.declared.op.Op.{Op}
@@ -112,16 +112,16 @@ module _ (around : Around) (here : Setting) (widths : here.width ≡ around.widt
   abbrev pub Spells : Frame → ℕ → Value → State → Type 0
   Spells f n v s = (v ≡ Int n) × (s.frame ≡ f)
 
-  spelled_number : (o : Option ℕ) (n : ℕ) → spelled around o ≡ Some n → unwrap_or o 0 % 2 ^ around.width ≡ n
+  spelled_number : (o : Option ℕ) (n : ℕ) → spelled around.width o ≡ Some n → unwrap_or o 0 % 2 ^ around.width ≡ n
   spelled_number (Some m) n e = cc
   spelled_number None n e = absurd cc
 
-  literal_only : (a : Action) (at : ℕ) (parts : Trees) (n : ℕ) → number around a parts ≡ Some n → (script : List Event) (s : State) → Only (Spells s.frame n) ((value_of a at parts).run script s)
+  literal_only : (a : Action) (at : ℕ) (parts : Trees) (n : ℕ) → number around.width a parts ≡ Some n → (script : List Event) (s : State) → Only (Spells s.frame n) ((value_of a at parts).run script s)
   unfolding ◌>>=◌ tick paid give
   literal_only (Literal q) at parts n e script s = step_only _ s.steps s _ (λ m. (ap Int (ap (λ w. unwrap_or (literal_in q parts) 0 % 2 ^ w) widths ∙ spelled_number (literal_in q parts) n e), refl))
   literal_only a at parts n e script s = absurd cc
 
-  pub spells : (t : Tree) (n : ℕ) → number_of around t ≡ Some n → (script : List Event) (s : State) → Only (Spells s.frame n) ((value here t).run script s)
+  pub spells : (t : Tree) (n : ℕ) → number_of around.width t ≡ Some n → (script : List Event) (s : State) → Only (Spells s.frame n) ((value here t).run script s)
   spells (Node o at stop parts) n e script s = literal_only (action o) at parts n e script s
 
   -- what a local holds
@@ -177,7 +177,7 @@ module _ (around : Around) (here : Setting) (widths : here.width ≡ around.widt
         then_only (λ r next. (r ≡ Int y) × Stays s2.frame next) _ _ _ (taken (place here a) (place here a) v (Int 1) x 1 y (one_value _ v x q.0 (on l x s.frame s1.frame p holds)) refl h script s2) (λ r s3 k.
         stored_back l a e x y r k.0 script s3 (on l x s2.frame s3.frame k.1 (on l x s1.frame s2.frame q.1 (on l x s.frame s1.frame p holds))))))
 
-    rises_left : (at : ℕ) (a b g : Tree) → acts (is_local l) a ≡ true → number_of around b ≡ Some 1 → acts (is_local l) g ≡ true → (x + 1) % 2 ^ here.width ≡ suc x → Only (λ o next. Holds l (suc x) next.frame) ((act here (Binary arithmetic.Add) at (more a (more b (more g none)))).run script s)
+    rises_left : (at : ℕ) (a b g : Tree) → acts (is_local l) a ≡ true → number_of around.width b ≡ Some 1 → acts (is_local l) g ≡ true → (x + 1) % 2 ^ here.width ≡ suc x → Only (λ o next. Holds l (suc x) next.frame) ((act here (Binary arithmetic.Add) at (more a (more b (more g none)))).run script s)
     unfolding ◌>>=◌ give
     rises_left at a b g e f t h =
         then_only (Reads s.frame (slice_get s.frame.locals l)) _ _ _ (reads l a e script s) (λ v s1 p.
@@ -185,7 +185,7 @@ module _ (around : Around) (here : Setting) (widths : here.width ≡ around.widt
         then_only (λ r next. (r ≡ Int (suc x)) × Stays s2.frame next) _ _ _ (added (place here a) (place here b) v u x 1 (suc x) (one_value _ v x p.0 holds) q.0 h script s2) (λ r s3 k.
         stored_back l g t x (suc x) r k.0 script s3 (on l x s2.frame s3.frame k.1 (on l x s1.frame s2.frame q.1 (on l x s.frame s1.frame p.1 holds))))))
 
-    rises_right : (at : ℕ) (a b g : Tree) → number_of around a ≡ Some 1 → acts (is_local l) b ≡ true → acts (is_local l) g ≡ true → (1 + x) % 2 ^ here.width ≡ suc x → Only (λ o next. Holds l (suc x) next.frame) ((act here (Binary arithmetic.Add) at (more a (more b (more g none)))).run script s)
+    rises_right : (at : ℕ) (a b g : Tree) → number_of around.width a ≡ Some 1 → acts (is_local l) b ≡ true → acts (is_local l) g ≡ true → (1 + x) % 2 ^ here.width ≡ suc x → Only (λ o next. Holds l (suc x) next.frame) ((act here (Binary arithmetic.Add) at (more a (more b (more g none)))).run script s)
     unfolding ◌>>=◌ give
     rises_right at a b g f e t h =
         then_only (Spells s.frame 1) _ _ _ (spells a 1 f script s) (λ u s1 p.
@@ -193,7 +193,7 @@ module _ (around : Around) (here : Setting) (widths : here.width ≡ around.widt
         then_only (λ r next. (r ≡ Int (suc x)) × Stays s2.frame next) _ _ _ (added (place here a) (place here b) u v 1 x (suc x) p.0 (one_value _ v x q.0 (on l x s.frame s1.frame p.1 holds)) h script s2) (λ r s3 k.
         stored_back l g t x (suc x) r k.0 script s3 (on l x s2.frame s3.frame k.1 (on l x s1.frame s2.frame q.1 (on l x s.frame s1.frame p.1 holds))))))
 
-    falls_left : (at : ℕ) (a b g : Tree) (y : ℕ) → acts (is_local l) a ≡ true → number_of around b ≡ Some 1 → acts (is_local l) g ≡ true → (x + (2 ^ 64 - 1)) % 2 ^ here.width ≡ y → Only (λ o next. Holds l y next.frame) ((act here (Binary arithmetic.Subtract) at (more a (more b (more g none)))).run script s)
+    falls_left : (at : ℕ) (a b g : Tree) (y : ℕ) → acts (is_local l) a ≡ true → number_of around.width b ≡ Some 1 → acts (is_local l) g ≡ true → (x + (2 ^ 64 - 1)) % 2 ^ here.width ≡ y → Only (λ o next. Holds l y next.frame) ((act here (Binary arithmetic.Subtract) at (more a (more b (more g none)))).run script s)
     unfolding ◌>>=◌ give
     falls_left at a b g y e f t h =
         then_only (Reads s.frame (slice_get s.frame.locals l)) _ _ _ (reads l a e script s) (λ v s1 p.
@@ -201,7 +201,7 @@ module _ (around : Around) (here : Setting) (widths : here.width ≡ around.widt
         then_only (λ r next. (r ≡ Int y) × Stays s2.frame next) _ _ _ (taken (place here a) (place here b) v u x 1 y (one_value _ v x p.0 holds) q.0 h script s2) (λ r s3 k.
         stored_back l g t x y r k.0 script s3 (on l x s2.frame s3.frame k.1 (on l x s1.frame s2.frame q.1 (on l x s.frame s1.frame p.1 holds))))))
 
-  one_number : (o : Option ℕ) → is_number around 1 o ≡ true → o ≡ Some 1
+  one_number : (o : Option ℕ) → is_number 1 o ≡ true → o ≡ Some 1
   one_number (Some m) e = ap Some (eqb-true m 1 e)
   one_number None e = absurd cc
 
@@ -209,20 +209,20 @@ module _ (around : Around) (here : Setting) (widths : here.width ≡ around.widt
   either_true true q K e f g = f refl
   either_true false q K e f g = g e
 
-  pub risen : (l x : ℕ) → (x + 1) % 2 ^ here.width ≡ suc x → (a : Action) (at : ℕ) (parts : Trees) → rises around l a parts ≡ true → (script : List Event) (s : State) → Holds l x s.frame → Only (λ o next. Holds l (suc x) next.frame) ((act here a at parts).run script s)
+  pub risen : (l x : ℕ) → (x + 1) % 2 ^ here.width ≡ suc x → (a : Action) (at : ℕ) (parts : Trees) → rises around.width l a parts ≡ true → (script : List Event) (s : State) → Holds l x s.frame → Only (λ o next. Holds l (suc x) next.frame) ((act here a at parts).run script s)
   risen l x h (ByOne arithmetic.Add) at (more a none) e script s holds = rises_by_one l x script s holds at a e h
   risen l x h (Binary arithmetic.Add) at (more a (more b (more g none))) e script s holds =
-      let two = and_parts (acts (is_local l) g) ((acts (is_local l) a && is_one around b) || (is_one around a && acts (is_local l) b)) e in
-      either_true (acts (is_local l) a && is_one around b) (is_one around a && acts (is_local l) b) _ two.1
-      (λ p. let c = and_parts (acts (is_local l) a) (is_one around b) p in rises_left l x script s holds at a b g c.0 (one_number _ c.1) two.0 h)
-      (λ p. let c = and_parts (is_one around a) (acts (is_local l) b) p in rises_right l x script s holds at a b g (one_number _ c.0) c.1 two.0 (let same : 1 + x ≡ x + 1 = omega arith in rw same h))
+      let two = and_parts (acts (is_local l) g) ((acts (is_local l) a && is_one around.width b) || (is_one around.width a && acts (is_local l) b)) e in
+      either_true (acts (is_local l) a && is_one around.width b) (is_one around.width a && acts (is_local l) b) _ two.1
+      (λ p. let c = and_parts (acts (is_local l) a) (is_one around.width b) p in rises_left l x script s holds at a b g c.0 (one_number _ c.1) two.0 h)
+      (λ p. let c = and_parts (is_one around.width a) (acts (is_local l) b) p in rises_right l x script s holds at a b g (one_number _ c.0) c.1 two.0 (let same : 1 + x ≡ x + 1 = omega arith in rw same h))
   risen l x h a at parts e script s holds = absurd cc
 
-  pub fallen : (l x y : ℕ) → (x + (2 ^ 64 - 1)) % 2 ^ here.width ≡ y → (a : Action) (at : ℕ) (parts : Trees) → falls around l a parts ≡ true → (script : List Event) (s : State) → Holds l x s.frame → Only (λ o next. Holds l y next.frame) ((act here a at parts).run script s)
+  pub fallen : (l x y : ℕ) → (x + (2 ^ 64 - 1)) % 2 ^ here.width ≡ y → (a : Action) (at : ℕ) (parts : Trees) → falls around.width l a parts ≡ true → (script : List Event) (s : State) → Holds l x s.frame → Only (λ o next. Holds l y next.frame) ((act here a at parts).run script s)
   fallen l x y h (ByOne arithmetic.Subtract) at (more a none) e script s holds = falls_by_one l x script s holds at a y e h
   fallen l x y h (Binary arithmetic.Subtract) at (more a (more b (more g none))) e script s holds =
-      let two = and_parts (acts (is_local l) g) (acts (is_local l) a && is_one around b) e in
-      let c = and_parts (acts (is_local l) a) (is_one around b) two.1 in
+      let two = and_parts (acts (is_local l) g) (acts (is_local l) a && is_one around.width b) e in
+      let c = and_parts (acts (is_local l) a) (is_one around.width b) two.1 in
       falls_left l x script s holds at a b g y c.0 (one_number _ c.1) two.0 h
   fallen l x y h a at parts e script s holds = absurd cc
 
@@ -259,17 +259,17 @@ module _ (around : Around) (here : Setting) (widths : here.width ≡ around.widt
 
   module _ (tame : AreTame here.call) (moves : ℕ → Action → Trees → Bool) (l x y : ℕ) (moved : (a : Action) (at : ℕ) (parts : Trees) → moves l a parts ≡ true → (script : List Event) (s : State) → Holds l x s.frame → Only (λ o next. Holds l y next.frame) ((act here a at parts).run script s)) (script : List Event) where
     -- a turn moves the local, wherever it ends
-    pub one_turn : (ts : Trees) → steps around moves l ts ≡ true → (s : State) → Holds l x s.frame → AtTurn (λ next. Holds l y next.frame) ((mean_all here ts).run script s)
+    pub one_turn : (ts : Trees) → steps moves l ts ≡ true → (s : State) → Holds l x s.frame → AtTurn (λ next. Holds l y next.frame) ((mean_all here ts).run script s)
     unfolding ◌>>=◌ tick paid
     one_turn none e s holds = absurd cc
     one_turn (more (Node o at stop parts) ts) e s holds = choice (moves l (action o) parts) refl e (λ k next h. one_turn ts k next h)
       where
-        choice : (b : Bool) → moves l (action o) parts ≡ b → (if b then not (assigns_in (is_local l) ts) else not (assigns (is_local l) (Node o at stop parts)) && (not (continues (Node o at stop parts)) && steps around moves l ts)) ≡ true → (steps around moves l ts ≡ true → (next : State) → Holds l x next.frame → AtTurn (λ next. Holds l y next.frame) ((mean_all here ts).run script next)) → AtTurn (λ next. Holds l y next.frame) ((mean_all here (more (Node o at stop parts) ts)).run script s)
+        choice : (b : Bool) → moves l (action o) parts ≡ b → (if b then not (assigns_in (is_local l) ts) else not (assigns (is_local l) (Node o at stop parts)) && (not (continues (Node o at stop parts)) && steps moves l ts)) ≡ true → (steps moves l ts ≡ true → (next : State) → Holds l x next.frame → AtTurn (λ next. Holds l y next.frame) ((mean_all here ts).run script next)) → AtTurn (λ next. Holds l y next.frame) ((mean_all here (more (Node o at stop parts) ts)).run script s)
         choice true b k again = only_turn (λ v next. Holds l y next.frame) _ _ _ (step_only _ s.steps s _ (λ m. moved (action o) at parts b script (with_steps s m) holds)) (λ v next h.
             kept_end l y next _ (all_tame here tame (Some l) true ts (are_calm (Some l) true ts (not_true _ k) (λ f. absurd cc)) script next) h)
         choice false b k again =
-            let two = and_parts (not (assigns (is_local l) (Node o at stop parts))) (not (continues (Node o at stop parts)) && steps around moves l ts) k in
-            let three = and_parts (not (continues (Node o at stop parts))) (steps around moves l ts) two.1 in
+            let two = and_parts (not (assigns (is_local l) (Node o at stop parts))) (not (continues (Node o at stop parts)) && steps moves l ts) k in
+            let three = and_parts (not (continues (Node o at stop parts))) (steps moves l ts) two.1 in
             kept_turn l x _ s _ _ (term_tame here tame (Some l) false (Node o at stop parts) (calm (Some l) false (Node o at stop parts) (not_true _ two.0) (λ f. not_true _ three.0)) script s) holds (λ v next h. again three.1 next h)
 
   -- a body whose last statement is Break or Return, and in which no Continue stands, never ends its turn

@@ -16,10 +16,11 @@ use Rattle.aml_meaning.specs.Meaning.{Setting, mean_all, held}
 use Rattle.aml_judged.specs.Causes.{Refusal}
 use Rattle.aml_judged.specs.Known.{Slot, Env, in_loop}
 use Rattle.aml_judged.specs.Judge as judge
-use Rattle.aml_judged.specs.Judge.{begun, comes_back, closed, once, once_ended, often, falling, judged_loop, steps, rises, falls, refusal, past, exit_holds, holds_back}
+use Rattle.aml_judged.specs.Judge.{begun, comes_back, closed, once, once_ended, often, falling, judged_loop, refusal, past, exit_holds, holds_back}
 use Rattle.aml_judged.specs.Judged.{NameKinds, Yield, Seen, Around, Judged, Goes, Stops, Rule, after, then_judge, agreed}
 use Rattle.aml_judged.proofs.FieldsSafe.{around_of}
-use Rattle.aml_judged.specs.Shapes.{Shape, Once, Up, Down, Endless}
+use Rattle.aml_bounds.specs.Loops.{steps, rises, falls}
+use Rattle.aml_bounds.specs.Shapes.{Shape, Once, Up, Down, Endless}
 use Rattle.aml_judged.specs.Safe.{IsOf, FitsState, FitsYield, IsSafe, AreTame}
 use Rattle.aml_judged.proofs.Fits.{HasFit, get_fits, widened_slots_fit}
 use Rattle.aml_judged.proofs.Parts.{in_loop_fits}
@@ -100,11 +101,11 @@ module _ (here : Setting) (kinds : NameKinds) (callee : ℕ → Seen) (above : �
   small_rise : (x c : ℕ) → x < c → c < 2 ^ here.width → (x + 1) % 2 ^ here.width ≡ suc x
   small_rise x c lt small = let below : x + 1 < 2 ^ here.width = omega (arith, lt, small) in let e : (x + 1) % 2 ^ here.width ≡ x + 1 = mod-eq_of_lt below in omega (arith, e)
 
-  up_turn : (l c : ℕ) (ts : Trees) → steps around (rises around) l ts ≡ true → c < 2 ^ here.width → (k : ℕ) (s : State) → UpMid l c (suc k) s → AtTurn (UpLeft l c k) ((mean_all here ts).run script s)
+  up_turn : (l c : ℕ) (ts : Trees) → steps (rises around.width) l ts ≡ true → c < 2 ^ here.width → (k : ℕ) (s : State) → UpMid l c (suc k) s → AtTurn (UpLeft l c k) ((mean_all here ts).run script s)
   unfolding UpLeft
   up_turn l c ts e small k s mid =
       turn_map (λ next. Holds around here refl l (suc mid.number) next.frame) (UpLeft l c k) ((mean_all here ts).run script s) (λ next h v is. let same = same_int _ (suc mid.number) v h is in let left = mid.left in omega (arith, same, left))
-      (one_turn around here refl tame (rises around) l mid.number (suc mid.number) (λ a at parts m script2 s2 holds. risen around here refl l mid.number (small_rise mid.number c mid.below small) a at parts m script2 s2 holds) script ts e s mid.is)
+      (one_turn around here refl tame (rises around.width) l mid.number (suc mid.number) (λ a at parts m script2 s2 holds. risen around here refl l mid.number (small_rise mid.number c mid.below small) a at parts m script2 s2 holds) script ts e s mid.is)
 
   -- and of one that falls
   record DownFact (c k v : ℕ) : Type 0 where
@@ -132,11 +133,11 @@ module _ (here : Setting) (kinds : NameKinds) (callee : ℕ → Seen) (above : �
   down_none : (l c : ℕ) (s : State) → DownMid l c 0 s → ⊥
   down_none l c s h = let over = h.over in let left = h.left in omega (arith, over, left)
 
-  down_turn : (l c : ℕ) (ts : Trees) → steps around (falls around) l ts ≡ true → (k : ℕ) (s : State) → DownMid l c (suc k) s → AtTurn (DownLeft l c k) ((mean_all here ts).run script s)
+  down_turn : (l c : ℕ) (ts : Trees) → steps (falls around.width) l ts ≡ true → (k : ℕ) (s : State) → DownMid l c (suc k) s → AtTurn (DownLeft l c k) ((mean_all here ts).run script s)
   unfolding DownLeft
   down_turn l c ts e k s mid =
       turn_map (λ next. Holds around here refl l mid.number next.frame) (DownLeft l c k) ((mean_all here ts).run script s) (λ next h v is. let same = same_int _ mid.number v h is in let left = mid.left in let word = mid.word in record { left = omega (arith, same, left); word = omega (arith, same, word) })
-      (one_turn around here refl tame (falls around) l (suc mid.number) mid.number (λ a at parts m script2 s2 holds. fallen around here refl l (suc mid.number) mid.number (wraps here.width mid.number narrow mid.word) a at parts m script2 s2 holds) script ts e s mid.is)
+      (one_turn around here refl tame (falls around.width) l (suc mid.number) mid.number (λ a at parts m script2 s2 holds. fallen around here refl l (suc mid.number) mid.number (wraps here.width mid.number narrow mid.word) a at parts m script2 s2 holds) script ts e s mid.is)
 
   module _ (at : ℕ) (test : M ℕ) (body : M (Unit {0})) (lower : (s : State) → Lower s.steps (test.run script s)) where
     once_judged : (outer : Bool) (start : Env) (jt : Judged Env) (rb : Rule (Unit {0})) (s : State) → ((s : State) → Fine start s → Safe (Held around kinds above) s.steps jt (test.run script s)) → ((e : Env) (s : State) → Fine e s → Safe IsUnit s.steps (rb e) (body.run script s)) → ((s : State) → AtTurn (λ k. ⊥) (body.run script s)) → Fine start s → Safe IsUnit s.steps (once around outer at jt rb) ((loop test body).run script s)

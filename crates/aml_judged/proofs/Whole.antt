@@ -1,5 +1,5 @@
 -- The law, of one method with a loop and of one that calls it.
-use Rattle.std.proofs.Common.{◌≡◌, ℕ, List, [], ◌∷◌, Option, Some, None, refl, sym, subst, arith}
+use Rattle.std.proofs.Common.{◌≡◌, ℕ, List, [], Option, Some, None, refl, sym, subst, arith}
 use Rattle.std.proofs.lemmas.Bool.{eqb-true}
 use Rattle.std.specs.Prelude.{Bool, true, false, ◌==◌, if◌then◌else◌}
 use Rattle.aml_operators.specs.declared.op.Op.TheVariants as op
@@ -13,10 +13,11 @@ use Rattle.aml_regions.specs.Events.{Event}
 use Rattle.aml_meaning.specs.State.{Names}
 use Rattle.aml_meaning.specs.Within.{Callee}
 use Rattle.aml_meaning.specs.Whole.{before}
+use Rattle.aml_bounds.specs.Chains.{is_short}
 use Rattle.aml_judged.specs.Judged.{Always, Accepted}
 use Rattle.aml_judged.specs.Safe.{FitNames, FitScript, IsWord}
 use Rattle.aml_judged.specs.Laws.{AreSmall, AreVerdicts, IsCallable, IsDone, evaluation}
-use Rattle.aml_judged.specs.Verdicts.{Judging, AreAccepted, is_short, accepted_of, verdict_by}
+use Rattle.aml_judged.specs.Verdicts.{Judging, AreAccepted, accepted_of, verdict_by}
 use Rattle.aml_judged.proofs.Called.{verdicts_mean}
 use Rattle.aml_judged.proofs.Examples.{one, three, leaf, rising, stored_zero, no_link}
 
@@ -38,7 +39,6 @@ all = record {
   methods = record { width = 64; object = λ i. None; field = λ i. None; buffer_field = λ i. None; callee = callees; is_interface = λ text. false };
   kinds = [];
   args = λ k. [];
-  calls = λ k. if k == 1 then 0 ∷ [] else [];
   reaches = λ j k. false;
 }
 

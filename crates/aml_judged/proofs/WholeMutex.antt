@@ -17,10 +17,11 @@ use Rattle.aml_meaning.specs.Parts.{◌>>=◌, give, stop_with, tick, paid}
 use Rattle.aml_meaning.specs.State.{Names, State, Halts, entered, error, no_names, with_steps}
 use Rattle.aml_meaning.specs.Whole.{before}
 use Rattle.aml_meaning.specs.Within.{Callee}
+use Rattle.aml_bounds.specs.Chains.{is_short}
 use Rattle.aml_judged.specs.Judged.{Always, Accepted}
 use Rattle.aml_judged.specs.Laws.{AreSmall, AreVerdicts, IsCallable, IsDone, evaluation}
 use Rattle.aml_judged.specs.Safe.{FitNames, FitScript, IsWord}
-use Rattle.aml_judged.specs.Verdicts.{Judging, AreAccepted, is_short, accepted_of, verdict_by}
+use Rattle.aml_judged.specs.Verdicts.{Judging, AreAccepted, accepted_of, verdict_by}
 use Rattle.aml_judged.proofs.Called.{verdicts_mean}
 use Rattle.aml_judged.proofs.Examples.{one, two, three, leaf}
 
@@ -43,7 +44,6 @@ all = record {
   methods = record { width = 64; object = λ i. Some (object.Mutex 3); field = λ i. None; buffer_field = λ i. None; callee = callees; is_interface = λ text. false };
   kinds = [];
   args = λ k. [];
-  calls = λ k. [];
   reaches = λ j k. false;
 }
 

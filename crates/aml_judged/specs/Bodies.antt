@@ -55,7 +55,9 @@ unless_computed here (Some from) k = stops here cause.OutsideProfile from
 
 abbrev pub first_kind_by : Around → Action → ℕ → Trees → Rule Kind
 first_kind_by here (Literal o) at ts = goes (IntUpTo (greatest here.width))
-first_kind_by here (Data o) at ts = unless_computed here (computed_size o at ts) (name_kind (greatest here.width) (here.literal o ts))
+first_kind_by here (Data o) at ts =
+    unless_computed here (computed_size o at ts)
+    (name_kind (greatest here.width) (here.literal o ts))
 first_kind_by here a at ts = stops here cause.OutsideProfile at
 
 abbrev pub judged_data : Around → Tree → Rule Kind
@@ -112,7 +114,8 @@ judged_stated here what (Node o at stop ts) = do
   judged_made here what at ts
 
 abbrev pub judged_statement : Around → Tree → Rule Made
-judged_statement here (Node o at stop parts) = judged_stated here (definition o) (Node o at stop parts)
+judged_statement here (Node o at stop parts) =
+    judged_stated here (definition o) (Node o at stop parts)
 
 abbrev pub judged_body : Around → Trees → Rule (Unit {0})
 judged_body here none = goes tt

@@ -8,11 +8,16 @@ use Rattle.aml_meaning.specs.Fields.{read_value, write_bits, read_count, write_c
 
 -- within so many steps, short of them only where fewer were there; the frame and the names stay
 abbrev pub Costs : {V : Type 0} → ℕ → State → Out V → Type 0
-Costs n before (state.Goes v s) = (before.steps ≤ s.steps + n) × (s.frame ≡ before.frame) × (s.names ≡ before.names)
+Costs n before (state.Goes v s) =
+    (before.steps ≤ s.steps + n) × (s.frame ≡ before.frame) × (s.names ≡ before.names)
 Costs n before (Halts stop s) = ⊥
 Costs n before (NoAnswer s) = Unit {0}
 Costs n before (Spent s) = before.steps < n
 
 pub record FieldsCost : Type 0 where
-  pub read : (width : ℕ) (f : AnyField) (script : List Event) (s : State) → Costs (read_count f) s ((read_value width f).run script s)
-  pub write : (f : AnyField) (bit : ℕ → ℕ) (script : List Event) (s : State) → Costs (write_count f) s ((write_bits f bit).run script s)
+  pub read :
+      (width : ℕ) (f : AnyField) (script : List Event) (s : State) →
+      Costs (read_count f) s ((read_value width f).run script s)
+  pub write :
+      (f : AnyField) (bit : ℕ → ℕ) (script : List Event) (s : State) →
+      Costs (write_count f) s ((write_bits f bit).run script s)

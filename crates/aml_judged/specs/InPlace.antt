@@ -8,4 +8,6 @@ ExitsAreJoined = (x y z : Exits) → join_exits (join_exits x y) z ≡ join_exit
 
 -- what stands behind two parts stands behind one with the exits and the costs of both
 abbrev pub PartsAreJoined : Type 0
-PartsAreJoined = (x y : Exits) (n m : ℕ) (j : Judged Yield) → after x n (after y m j) ≡ after (join_exits x y) (n + m) j
+PartsAreJoined =
+    (x y : Exits) (n m : ℕ) (j : Judged Yield) →
+    after x n (after y m j) ≡ after (join_exits x y) (n + m) j

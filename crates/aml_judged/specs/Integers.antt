@@ -73,7 +73,8 @@ module _ (methods : Methods) (m : Callee) (kinds : ContentKinds) (only : ℕ →
 
   abbrev mutual
     pub integers : Tree → Bool
-    integers (Node o at stop parts) = makes_nothing (definition o) && integers_by (action o) at parts
+    integers (Node o at stop parts) =
+        makes_nothing (definition o) && integers_by (action o) at parts
 
     pub integers_by : Action → ℕ → Trees → Bool
     integers_by (Data o) at parts = false
@@ -171,13 +172,15 @@ pub record IntegersAlone : Type 0 where
       (all : Judging) (known : ℕ → Option Accepted) (only : ℕ → Bool) →
       AreIntegerOnly all known only →
       (d : ℕ) (m : Callee) (t : Tree) → integers all.methods m all.kinds only t ≡ true →
-      (script : List Event) → LeavesIntegers all.kinds script → (s : State) → IsIntegral all.kinds s →
+      (script : List Event) → LeavesIntegers all.kinds script →
+      (s : State) → IsIntegral all.kinds s →
       StaysIntegral all.kinds IsIntegerIfAny ((mean (setting_within all d m) t).run script s)
   pub operands :
       (all : Judging) (known : ℕ → Option Accepted) (only : ℕ → Bool) →
       AreIntegerOnly all known only →
       (d : ℕ) (m : Callee) (t : Tree) → integers all.methods m all.kinds only t ≡ true →
-      (script : List Event) → LeavesIntegers all.kinds script → (s : State) → IsIntegral all.kinds s →
+      (script : List Event) → LeavesIntegers all.kinds script →
+      (s : State) → IsIntegral all.kinds s →
       StaysIntegral all.kinds IsInteger ((value (setting_within all d m) t).run script s)
   pub calls :
       (all : Judging) (known : ℕ → Option Accepted) (only : ℕ → Bool) →

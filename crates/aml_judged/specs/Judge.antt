@@ -1,6 +1,6 @@
 -- The kind rules and the bound: how a term changes what is known, what it costs, and where it could
 -- go wrong.
-use Rattle.std.specs.Prelude.{ℕ, suc, ◌+◌, ◌-◌, ◌*◌, ◌%◌, ◌^◌, ◌==◌, ◌&&◌, ◌||◌, ◌++◌, not, nat_le, List, [], ◌∷◌, Option, Some, None, unwrap_or, slice_get, Bool, true, false, if◌then◌else◌}
+use Rattle.std.specs.Prelude.{ℕ, suc, ◌+◌, ◌-◌, ◌*◌, ◌%◌, ◌^◌, ◌&&◌, ◌++◌, nat_le, List, [], ◌∷◌, Option, Some, None, unwrap_or, slice_get, Bool, true, false, if◌then◌else◌}
 use Rattle.aml_operators.specs.Shape.{operator_of}
 use Rattle.aml_operators.specs.Literal.{literal_in}
 use Rattle.aml_operators.specs.Tree.{Tree, Trees, Node, none, more}
@@ -29,10 +29,10 @@ use Rattle.aml_judged.specs.Causes.{Cause, Refusal}
 use Rattle.aml_judged.specs.Known.{greatest, Slot, Held, These, Different, Env, within, with_local, with_arg, with_mutexes, ended, in_loop, join_env, end_within, holds_as, widened, lower}
 use Rattle.aml_judged.specs.Judged.{Yield, Always, Never, Accepted, Seen, Around, Exits, no_exits, Judged, Goes, Stops, after, then_judge, Rule, ◌>>=◌, pays, goes, step, ruled, taking, agreed, meet}
 use Rattle.aml_judged.specs.KindRules.{integer_kind, combined_kind, transformed_kind, negated_kind, divided_kind, converted_kind, concatenated_kind, size_kind, interface_kind, notice_kind, led_kind, compared_kind, field_kind, given_kind, byte_written_kind, source_kind, part_stored_kind, may_replace}
-use Rattle.aml_judged.specs.Shapes.{is_operand, Shape, Once, Up, Down, Endless, is_local, is_arg, acts, assigns, assigns_in, continues, continues_in, leaves}
+use Rattle.aml_bounds.specs.Loops as loops
+use Rattle.aml_bounds.specs.Shapes.{is_operand, Shape, Once, Up, Down, Endless, is_local, is_arg, assigns_in}
 use Rattle.aml_namespace.specs.declared.link.Link.TheVariants as link
 use Rattle.aml_namespace.specs.declared.object.Object.TheVariants as object
-use Rattle.aml_meaning.specs.declared.action.Arithmetic.TheVariants as arithmetic
 use Rattle.aml_meaning.specs.declared.action.Comparison.TheVariants as comparison
 use Rattle.aml_judged.specs.Causes as cause
 use Rattle.aml_meaning.specs.declared.definition.Definition.{Definition}
@@ -152,7 +152,8 @@ module _ (here : Around) where
 
   abbrev pub judged_name_indexed : ℕ → Action → ℕ → Trees → Rule ℕ
   judged_name_indexed at Name from parts = judged_bound (here.link from) from
-  judged_name_indexed at Invoke from (more name arguments) = judged_bound (here.link (at_of name)) (at_of name)
+  judged_name_indexed at Invoke from (more name arguments) =
+      judged_bound (here.link (at_of name)) (at_of name)
   judged_name_indexed at other from parts = stops cause.OutsideProfile at
 
   -- an Index that is written has no target of its own, and is of a name (own)
@@ -208,7 +209,8 @@ module _ (here : Around) where
   judged_asked what into at = stops cause.OutsideProfile at
 
   abbrev pub judged_condition : ℕ → Tree → Tree → Rule Yield
-  judged_condition at (Node o from stop parts) (Node target behind end others) = judged_asked (action o) (action target) at
+  judged_condition at (Node o from stop parts) (Node target behind end others) =
+      judged_asked (action o) (action target) at
 
   -- whether what a Notify names can be notified; a local and an argument are none, and are not read
   abbrev pub judged_notified_name : Link → ℕ → Rule Bool
@@ -237,7 +239,8 @@ module _ (here : Around) where
 
   abbrev pub judged_mutex_named : ℕ → ℕ → Link → Rule TakenMutex
   judged_mutex_named at from link.Missing = stops cause.Unresolved from
-  judged_mutex_named at from (link.Object id) = judged_mutex_numbered at from id.0 (here.object id.0)
+  judged_mutex_named at from (link.Object id) =
+      judged_mutex_numbered at from id.0 (here.object id.0)
   judged_mutex_named at from l = stops cause.WrongKind from
 
   -- the mutex that an operand of Acquire or Release at a place is, which stands at another; a local
@@ -313,12 +316,14 @@ module _ (here : Around) where
   breaking at env = leaving env.looped at (record no_exits { broke = if_counts env.counts env }) env
 
   abbrev pub continuing : ℕ → Rule Yield
-  continuing at env = leaving env.looped at (record no_exits { continued = if_counts env.counts env }) env
+  continuing at env =
+      leaving env.looped at (record no_exits { continued = if_counts env.counts env }) env
 
   -- the arguments of a call fit what its method takes
   abbrev pub are_within : List Kind → List Kind → Trees → Rule (Unit {0})
   are_within [] [] none = goes tt
-  are_within (k ∷ ks) (a ∷ as') (more t ts) = if within k a then are_within ks as' ts else stops cause.WrongKind (at_of t)
+  are_within (k ∷ ks) (a ∷ as') (more t ts) =
+      if within k a then are_within ks as' ts else stops cause.WrongKind (at_of t)
   are_within ks as' ts = stops cause.OutsideProfile 0
 
   abbrev pub not_reaching : ℕ → Bool → Rule (Unit {0})
@@ -360,70 +365,24 @@ module _ (here : Around) where
     _ ← not_reaching at (here.callee id.0).reaches
     ks ← given
     judged_call w at (here.callee id.0) arguments ks
-  judged_invoked w (link.Data id) at arguments given = judged_content at (kind_at here.kinds.shared id.0)
+  judged_invoked w (link.Data id) at arguments given =
+      judged_content at (kind_at here.kinds.shared id.0)
   judged_invoked w (link.Own k) at arguments given = judged_own (field_at here.kinds.fields k) k at
   judged_invoked w link.OsInterfaces at arguments given = do
     ks ← given
     judged_interface at arguments ks
   judged_invoked w (link.Field id) at arguments given = judged_field (here.field id.0) at
-  judged_invoked w (link.BufferField id) at arguments given = judged_part (here.buffer_field id.0) at
+  judged_invoked w (link.BufferField id) at arguments given =
+      judged_part (here.buffer_field id.0) at
   judged_invoked w link.Missing at arguments given = stops cause.Unresolved at
   judged_invoked w (link.Object id) at arguments given = stops cause.WrongKind at
 
-  -- the number of an integer literal
-  abbrev pub spelled : Option ℕ → Option ℕ
-  spelled (Some n) = Some (n % 2 ^ here.width)
-  spelled None = None
-
-  abbrev pub number : Action → Trees → Option ℕ
-  number (Literal o) parts = spelled (literal_in o parts)
-  number a parts = None
-
+  -- the number of an integer literal, and a loop's shape, over integers of this width
   abbrev pub number_of : Tree → Option ℕ
-  number_of (Node o at stop parts) = number (action o) parts
-
-  abbrev pub is_number : ℕ → Option ℕ → Bool
-  is_number n (Some m) = m == n
-  is_number n None = false
-
-  abbrev pub is_one : Tree → Bool
-  is_one t = is_number 1 (number_of t)
-
-  -- a statement that makes a local one more, or one less
-  abbrev pub rises : ℕ → Action → Trees → Bool
-  rises l (ByOne arithmetic.Add) (more a none) = acts (is_local l) a
-  rises l (Binary arithmetic.Add) (more a (more b (more g none))) = acts (is_local l) g && ((acts (is_local l) a && is_one b) || (is_one a && acts (is_local l) b))
-  rises l a parts = false
-
-  abbrev pub falls : ℕ → Action → Trees → Bool
-  falls l (ByOne arithmetic.Subtract) (more a none) = acts (is_local l) a
-  falls l (Binary arithmetic.Subtract) (more a (more b (more g none))) = acts (is_local l) g && (acts (is_local l) a && is_one b)
-  falls l a parts = false
-
-  -- just one step stands in a list, the local is no target beside it, and no Continue stands before
-  -- it
-  abbrev pub steps : (ℕ → Action → Trees → Bool) → ℕ → Trees → Bool
-  steps moves l none = false
-  steps moves l (more (Node o at stop parts) ts) =
-      if moves l (action o) parts then not (assigns_in (is_local l) ts)
-      else not (assigns (is_local l) (Node o at stop parts)) && (not (continues (Node o at stop parts)) && steps moves l ts)
-
-  abbrev pub counted : (ℕ → ℕ → Shape) → (ℕ → Action → Trees → Bool) → ℕ → Option ℕ → Trees → Shape
-  counted shape moves l (Some c) body = if steps moves l body then shape l c else Endless
-  counted shape moves l None body = Endless
-
-  abbrev pub against : (ℕ → ℕ → Shape) → (ℕ → Action → Trees → Bool) → Action → Trees → Tree → Trees → Shape
-  against shape moves (Local l) none c body = counted shape moves l (number_of c) body
-  against shape moves a parts c body = Endless
-
-  abbrev pub shape_by : Action → Trees → Trees → Shape
-  shape_by (Compare comparison.LLess) (more (Node o at stop parts) (more c none)) body = against Up rises (action o) parts c body
-  shape_by (Compare comparison.LGreater) (more (Node o at stop parts) (more c none)) body = against Down falls (action o) parts c body
-  shape_by (Local l) none body = counted Down falls l (Some 0) body
-  shape_by a parts body = Endless
+  number_of = loops.number_of here.width
 
   abbrev pub shape_of : Tree → Trees → Shape
-  shape_of (Node o at stop parts) body = if leaves body && not (continues_in body) then Once else shape_by (action o) parts body
+  shape_of = loops.shape_of here.width
 
   -- what is known where a loop begins, each time
   abbrev pub begun : Trees → Env → Env
@@ -456,7 +415,9 @@ module _ (here : Around) where
   after_loop (Some b) env = join_env env b
 
   abbrev pub past : Bool → Env → Exits → ℕ → Judged (Unit {0})
-  past outer et x cost = Goes tt (in_loop outer (after_loop x.broke et)) (record x { broke = None; continued = None }) cost
+  past outer et x cost =
+      Goes tt (in_loop outer (after_loop x.broke et))
+      (record x { broke = None; continued = None }) cost
 
   -- a loop that ends in its first turn, from its test
   abbrev pub once_ended : Bool → ℕ → Env → Judged (Unit {0}) → Judged (Unit {0})
@@ -476,22 +437,28 @@ module _ (here : Around) where
 
   abbrev pub turned : Bool → ℕ → ℕ → ℕ → Env → Env → Judged (Unit {0}) → Judged (Unit {0})
   turned outer turns at n start et (Goes u eb x m) =
-      closed outer turns at (comes_back eb x.continued start) (holds_back eb x start et) et x (n + m)
+      closed outer turns at (comes_back eb x.continued start) (holds_back eb x start et)
+      et x (n + m)
   turned outer turns at n start et (Stops r) = Stops r
 
   abbrev pub often : Bool → ℕ → ℕ → Env → Judged Env → Rule (Unit {0}) → Judged (Unit {0})
-  often outer turns at start (Goes held et xt n) body = after xt n (turned outer turns at n start et (body held))
+  often outer turns at start (Goes held et xt n) body =
+      after xt n (turned outer turns at n start et (body held))
   often outer turns at start (Stops r) body = Stops r
 
   -- one that falls from a local's greatest; where the local has no integer kind, the test tells
   abbrev pub falling : Option Slot → ℕ → ℕ → Trees → Rule Env → Rule (Unit {0}) → Rule (Unit {0})
-  falling (Some (Some (IntUpTo a))) c at ts test body env = often env.looped (a - c) at (begun ts env) (test (begun ts env)) body
-  falling slot c at ts test body env = then_judge (test (begun ts env)) (λ u et. Stops (refusal cause.LoopShape at))
+  falling (Some (Some (IntUpTo a))) c at ts test body env =
+      often env.looped (a - c) at (begun ts env) (test (begun ts env)) body
+  falling slot c at ts test body env =
+      then_judge (test (begun ts env)) (λ u et. Stops (refusal cause.LoopShape at))
 
   abbrev pub judged_loop : Shape → ℕ → Trees → Rule Env → Rule (Unit {0}) → Rule (Unit {0})
   judged_loop Once at ts test body env = once env.looped at (test (in_loop true env)) body
-  judged_loop (Up l c) at ts test body env = often env.looped c at (begun ts env) (test (begun ts env)) body
-  judged_loop (Down l c) at ts test body env = falling (slice_get env.locals l) c at ts test body env
+  judged_loop (Up l c) at ts test body env =
+      often env.looped c at (begun ts env) (test (begun ts env)) body
+  judged_loop (Down l c) at ts test body env =
+      falling (slice_get env.locals l) c at ts test body env
   judged_loop Endless at ts test body env = Stops (refusal cause.LoopShape at)
 
   -- where LLess (X, c) held, X a local or an argument and c a literal that is not zero, X is below
@@ -502,7 +469,8 @@ module _ (here : Around) where
   narrowed_by a o env = env
 
   abbrev pub narrowed_act : Action → Trees → Env → Env
-  narrowed_act (Compare comparison.LLess) (more (Node x at stop none) (more c none)) env = narrowed_by (action x) (number_of c) env
+  narrowed_act (Compare comparison.LLess) (more (Node x at stop none) (more c none)) env =
+      narrowed_by (action x) (number_of c) env
   narrowed_act a parts env = env
 
   abbrev pub narrowed : Tree → Env → Env
@@ -531,12 +499,15 @@ module _ (here : Around) where
     pub judged_value : Tree → Rule Kind
     judged_value (Node o at stop parts) = do
       _ ← step
-      y ← if is_operand (action o) parts then judged_act true (action o) at parts else stops cause.OutsideProfile at
+      y ← if is_operand (action o) parts then judged_act true (action o) at parts
+          else stops cause.OutsideProfile at
       wanted at y
 
     pub judged_act : Bool → Action → ℕ → Trees → Rule Yield
-    judged_act w (Literal o) at parts = goes (Always (IntUpTo (unwrap_or (literal_in o parts) 0 % 2 ^ here.width)))
-    judged_act w (Data o) at parts = judged_literal (computed_size o at parts) (kind_by (here.literal o parts))
+    judged_act w (Literal o) at parts =
+        goes (Always (IntUpTo (unwrap_or (literal_in o parts) 0 % 2 ^ here.width)))
+    judged_act w (Data o) at parts =
+        judged_literal (computed_size o at parts) (kind_by (here.literal o parts))
     judged_act w (Local i) at parts = judged_local at i
     judged_act w (Argument i) at parts = judged_arg at i
     judged_act w (Binary f) at (more a (more b (more g none))) = do
@@ -598,7 +569,8 @@ module _ (here : Around) where
       returning v
     judged_act w If at (more t body) = do
       held ← judged_test t (judged_value t)
-      _ ← λ env. meet (refusal cause.HeldDiffers at) (judged_block body held) (judged_otherwise body env)
+      _ ← λ env. meet (refusal cause.HeldDiffers at)
+          (judged_block body held) (judged_otherwise body env)
       goes Never
     judged_act w While at (more t body) = do
       _ ← judged_loop (shape_of t body) at body (judged_test t (judged_value t)) (judged_all body)
@@ -607,7 +579,8 @@ module _ (here : Around) where
     judged_act w Continue at parts = continuing at
     judged_act w Nothing at parts = goes Never
     judged_act w Name at parts = judged_name (here.link at) at
-    judged_act w Invoke at (more name arguments) = judged_invoked w (here.link (at_of name)) (at_of name) arguments (judged_values arguments)
+    judged_act w Invoke at (more name arguments) =
+        judged_invoked w (here.link (at_of name)) (at_of name) arguments (judged_values arguments)
     judged_act w Notify at (more o (more a none)) = do
       may ← judged_notified (action (operator_of o)) (at_of o)
       k ← judged_value a
@@ -636,7 +609,8 @@ module _ (here : Around) where
     judged_stored Index at (more x (more i (more g none))) k = do
       from ← judged_indexed at (action (operator_of g)) x
       j ← judged_value i
-      _ ← ruled (byte_written_kind (place_at at) (place_at from) (held_kind (here.link from)) (place i) j k)
+      _ ← ruled (byte_written_kind (place_at at) (place_at from) (held_kind (here.link from))
+          (place i) j k)
       pays 1 tt
     judged_stored other at parts k = judged_put other at k
 
@@ -675,4 +649,5 @@ module _ (here : Around) where
 
     pub judged_otherwise : Trees → Rule (Unit {0})
     judged_otherwise none = goes tt
-    judged_otherwise (more (Node o at stop parts) ts) = if is_else o then judged_all parts else judged_otherwise ts
+    judged_otherwise (more (Node o at stop parts) ts) =
+        if is_else o then judged_all parts else judged_otherwise ts

@@ -1,5 +1,5 @@
 -- What a verdict means, and that there is one: the laws.
-use Rattle.std.specs.Prelude.{◌==◌, ◌≡◌, ℕ, ◌≤◌, List, [], ◌∷◌, Option, Some, None, true, false, if◌then◌else◌}
+use Rattle.std.specs.Prelude.{◌==◌, ◌≡◌, ℕ, ◌≤◌, List, [], ◌∷◌, Option, Some, None, false, if◌then◌else◌}
 use Rattle.aml_operators.specs.Tree.{Trees}
 use Rattle.aml_namespace.specs.declared.width.Width.{Width}
 use Rattle.aml_namespace.specs.Widths.{bits_of}
@@ -12,7 +12,8 @@ use Rattle.aml_meaning.specs.Whole.{evaluated}
 use Rattle.aml_judged.specs.Judged.{Accepted}
 use Rattle.aml_judged.specs.Safe.{Allows, IsWord, FitScript, FitAll, FitNames, FitsYield, IsCalled}
 use Rattle.aml_judged.specs.Bodies.{shared_only}
-use Rattle.aml_judged.specs.Verdicts.{accepted_of, Judging, is_among, every, is_short, verdict_by, AreAccepted}
+use Rattle.aml_bounds.specs.Chains.{is_among, is_short, IsBehindCallees}
+use Rattle.aml_judged.specs.Verdicts.{accepted_of, called_from, Judging, verdict_by, AreAccepted}
 use Rattle.aml_meaning.specs.State as state
 
 module _ (all : Judging) where
@@ -97,17 +98,10 @@ module _ (all : Judging) where
   judged_in_order known [] = known
   judged_in_order known (k ∷ ks) = judged_in_order (judged_one known k) ks
 
-  -- each method stands once and behind its callees, where some stand before
-  abbrev pub IsBehindCallees : List ℕ → List ℕ → Type 0
-  IsBehindCallees done [] = Unit {0}
-  IsBehindCallees done (k ∷ ks) =
-      (every (λ j. is_among j done) (all.calls k) ≡ true) ×
-      (is_among k done ≡ false) × IsBehindCallees (k ∷ done) ks
-
--- judged in such an order, where the methods that are left out reach a cycle or begin too long a
--- chain, they are the answer
+-- judged in an order in which each stands behind its callees, where the methods that are left out
+-- reach a cycle or begin too long a chain, they are the answer
 abbrev pub OrderAnswers : Type 0
 OrderAnswers =
-    (all : Judging) (order : List ℕ) → IsBehindCallees all [] order →
-    ((k : ℕ) → is_among k order ≡ false → is_short all 64 k ≡ false) →
+    (all : Judging) (order : List ℕ) → IsBehindCallees (called_from all) [] order →
+    ((k : ℕ) → is_among k order ≡ false → is_short (called_from all) 64 k ≡ false) →
     AreAccepted all (judged_in_order all (λ k. None) order)

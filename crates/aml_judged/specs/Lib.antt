@@ -2,7 +2,7 @@ pub mod Causes
 pub mod Known
 pub mod Judged
 pub mod KindRules
-pub mod Shapes
+pub use Rattle.aml_bounds.specs.Shapes
 pub mod Judge
 pub mod Bodies
 pub mod Verdicts
@@ -11,6 +11,5 @@ pub mod Safe
 pub mod Laws
 pub mod Events
 pub mod Fine
-pub mod Chains
 pub mod Keeps
 pub mod InPlace

@@ -71,7 +71,9 @@ module _ (width : ℕ) where
     pub words : (i : ℕ) (v : Value) → content_at contents i ≡ Some v → IsWord v
 
   pub record FitScript (kinds : ContentKinds) (script : List Event) : Type 0 where
-    pub left : (i milliseconds : ℕ) (contents : Contents) → slice_get script i ≡ Some (Slept milliseconds (Some contents)) → FitContents kinds contents
+    pub left :
+        (i milliseconds : ℕ) (contents : Contents) →
+        slice_get script i ≡ Some (Slept milliseconds (Some contents)) → FitContents kinds contents
 
   abbrev pub FitsYield : Option Value → Yield → Type 0
   FitsYield (Some v) (Always k) = IsOf v k
@@ -127,7 +129,8 @@ module _ (width : ℕ) (kinds : NameKinds) (above : ℕ) where
   -- short of steps only where fewer were there
   abbrev pub IsSafe : {V K : Type 0} → (V → K → State → Type 0) → ℕ → Judged K → Out V → Type 0
   IsSafe P before (Stops r) out = Unit {0}
-  IsSafe P before (Goes k env x n) (state.Goes v s) = P v k s × FitsState env s × (before ≤ s.steps + n)
+  IsSafe P before (Goes k env x n) (state.Goes v s) =
+      P v k s × FitsState env s × (before ≤ s.steps + n)
   IsSafe P before (Goes k env x n) (Halts stop s) = FitsStop x stop s × (before ≤ s.steps + n)
   IsSafe P before (Goes k env x n) (NoAnswer s) = Unit {0}
   IsSafe P before (Goes k env x n) (Spent s) = before < n
@@ -138,13 +141,16 @@ module _ (width : ℕ) (kinds : NameKinds) where
   -- the method takes
   abbrev pub IsCalled : Accepted → Frame → ℕ → Out (Option Value) → Type 0
   IsCalled m frame before (state.Goes v s) =
-      FitsYield width v m.result × (s.frame ≡ frame) × FitNames width kinds.shared s.names × (before ≤ s.steps + m.bound)
-  IsCalled m frame before (Halts (Error e) s) = OnlyAbove m.least (held_level frame) e × (before ≤ s.steps + m.bound)
+      FitsYield width v m.result × (s.frame ≡ frame) × FitNames width kinds.shared s.names ×
+      (before ≤ s.steps + m.bound)
+  IsCalled m frame before (Halts (Error e) s) =
+      OnlyAbove m.least (held_level frame) e × (before ≤ s.steps + m.bound)
   IsCalled m frame before (Halts stop s) = ⊥
   IsCalled m frame before (NoAnswer s) = Unit {0}
   IsCalled m frame before (Spent s) = before < m.bound
 
-  pub record AreCalls (callee : ℕ → Seen) (call : Place → ℕ → List Value → M (Option Value)) : Type 0 where
+  pub record AreCalls (callee : ℕ → Seen) (call : Place → ℕ → List Value → M (Option Value)) :
+      Type 0 where
     pub each :
         (p : Place) (k : ℕ) (m : Accepted) (vs : List Value) (script : List Event) (s : State) →
         (callee k).accepted ≡ Some m → FitAll width vs m.args →
@@ -160,4 +166,6 @@ IsTame frame (NoAnswer s) = Unit {0}
 IsTame frame (Spent s) = Unit {0}
 
 pub record AreTame (call : Place → ℕ → List Value → M (Option Value)) : Type 0 where
-  pub each : (p : Place) (k : ℕ) (vs : List Value) (script : List Event) (s : State) → IsTame s.frame ((call p k vs).run script s)
+  pub each :
+      (p : Place) (k : ℕ) (vs : List Value) (script : List Event) (s : State) →
+      IsTame s.frame ((call p k vs).run script s)

@@ -1,8 +1,10 @@
 -- A method's verdict, by those of the methods that it calls, and how long chains of calls are.
-use Rattle.std.specs.Prelude.{◌&&◌, Result, Ok, Err, not, ◌==◌, ◌||◌, ◌≡◌, ℕ, zero, suc, ◌^◌, List, [], ◌∷◌, Option, Some, None, nat_lt, Bool, true, false, if◌then◌else◌}
+use Rattle.std.specs.Prelude.{◌&&◌, Result, Ok, Err, not, ◌≡◌, ℕ, ◌^◌, List, [], Option, Some, None, nat_lt, Bool, true, false, if◌then◌else◌}
 use Rattle.aml_kinds.specs.Kinds.{Kind}
 use Rattle.aml_contents.specs.Contents.{ContentKinds}
 use Rattle.aml_meaning.specs.Within.{Callee, Methods}
+use Rattle.aml_bounds.specs.Calls.{calls_of}
+use Rattle.aml_bounds.specs.Chains.{is_among, is_short, TellsReach}
 use Rattle.aml_judged.specs.Causes.{Refusal}
 use Rattle.aml_judged.specs.Known.{Env}
 use Rattle.aml_judged.specs.Judged.{Yield, Always, Sometimes, Never, Accepted, Seen, Around, Judged, Goes, Stops}
@@ -42,35 +44,33 @@ abbrev pub accepted_of : Option Verdict → Option Accepted
 accepted_of (Some (Ok a)) = Some a
 accepted_of v = None
 
--- a namespace's methods, the kinds of its names, which arguments each method has, which methods it
--- calls (reached or not), and whether a chain leads from one to another
+-- a namespace's methods, the kinds of its names, which arguments each method has, and whether a chain
+-- of calls leads from one method to another
 pub record Judging : Type 0 where
   pub methods : Methods
   pub kinds : ContentKinds
   pub args : ℕ → List Kind
-  pub calls : ℕ → List ℕ
   pub reaches : ℕ → ℕ → Bool
 
-abbrev pub is_among : ℕ → List ℕ → Bool
-is_among j [] = false
-is_among j (k ∷ ks) = (j == k) || is_among j ks
-
-abbrev pub every : (ℕ → Bool) → List ℕ → Bool
-every holds [] = true
-every holds (k ∷ ks) = holds k && every holds ks
+-- the methods that a method calls, reached or not, where its body parses
+abbrev pub calls_by : Option Callee → List ℕ
+calls_by (Some m) = calls_of m.link m.body
+calls_by None = []
 
 module _ (all : Judging) where
-  -- each chain from a method has at most so many methods, so none has a cycle
-  unfoldable pub is_short : ℕ → ℕ → Bool
-  is_short zero k = false
-  is_short (suc d) k = every (is_short d) (all.calls k)
+  abbrev pub called_from : ℕ → List ℕ
+  called_from k = calls_by (all.methods.callee k)
+
+  -- what is told of chains of calls is so
+  pub record TellsChains : Type 0 where
+    pub each : (from to : ℕ) → TellsReach called_from from to (all.reaches from to)
 
   -- what a method sees of one that it calls
   abbrev pub seen_from : (ℕ → Option Accepted) → ℕ → ℕ → Seen
   seen_from known k j = record {
     reaches = all.reaches j k;
-    deep = not (is_short 63 j);
-    accepted = if is_among j (all.calls k) then known j else None;
+    deep = not (is_short called_from 63 j);
+    accepted = if is_among j (called_from k) then known j else None;
   }
 
   abbrev pub around_for : (ℕ → Option Accepted) → ℕ → Callee → Around
@@ -95,7 +95,7 @@ module _ (all : Judging) where
   abbrev pub verdict_by : (ℕ → Option Accepted) → ℕ → Option Callee → Option Verdict
   verdict_by known k None = None
   verdict_by known k (Some m) = Some (
-      verdict_of (is_short 64 k) (too_large m) (all.args k)
+      verdict_of (is_short called_from 64 k) (too_large m) (all.args k)
       (judged_method (around_for known k m) m.opcode m.body (entry (all.args k))))
 
   -- the accepted methods

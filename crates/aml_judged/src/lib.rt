@@ -2,15 +2,15 @@
 //! `aml_meaning` (ACPI 6.5, 5.5.2 and 19.6; kinds, causes and bounds are the project's own).
 //!
 //! The text to believe stands in `specs/`: `Known` (what is known of a frame), `Judged` (what judging
-//! gives), `KindRules` (the kinds of what operators give), `Shapes` (what stands in a loop), `Judge`
-//! (a clause an operator, in the order of causes, beside `aml_meaning`'s `Meaning`), `Bodies`,
-//! `Verdicts`, `Integers` (which methods evaluate integers alone), and in `Safe` and `Laws` what a
-//! verdict means. `docs/VERDICTS.md` tells the same in plain words, with the clause for each cause.
+//! gives), `KindRules` (the kinds of what operators give), `Judge` (a clause an operator, in the order
+//! of causes, beside `aml_meaning`'s `Meaning`), `Bodies`, `Verdicts`, `Integers` (which methods
+//! evaluate integers alone), and in `Safe` and `Laws` what a verdict means. Shapes of loops, calls of
+//! bodies and lengths of chains are those of `aml_bounds`. `docs/VERDICTS.md` tells the same in plain
+//! words, with the clause for each cause.
 #![tactic(auto)]
 
 ghost use Rattle.std.specs.Prelude.{Option};
 ghost use Rattle.aml_values.specs.Values.{Value};
-ghost use Rattle.aml_judged.specs.Chains.{ChainsAreCounted};
 ghost use Rattle.aml_judged.specs.Events.{FieldsCost};
 ghost use Rattle.aml_judged.specs.Fine.{FineParts};
 ghost use Rattle.aml_judged.specs.InPlace.{ExitsAreJoined, PartsAreJoined};
@@ -28,11 +28,6 @@ pub fn verdicts_mean()
 pub fn verdicts_are_found()
     ensures one { VerdictsAreOne }
     ensures found { OrderAnswers }
-{}
-
-/// What is said of the lengths of methods' chains is so of each chain, and cycles have no length.
-pub fn chains_are_counted()
-    ensures { ChainsAreCounted }
 {}
 
 /// A local that is no target in a term is kept by it, and a turn is ended early only by a Continue in

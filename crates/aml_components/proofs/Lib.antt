@@ -1,0 +1,10 @@
+pub mod Raising
+pub mod Rising
+pub mod Waiting
+pub mod Marking
+pub mod Finding
+pub mod Closing
+pub mod Found
+pub mod Stepping
+pub mod Cutting
+pub mod Visiting

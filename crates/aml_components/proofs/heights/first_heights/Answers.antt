@@ -1,0 +1,20 @@
+use Rattle.std.proofs.Common.{arith}
+use Rattle.aml_bounds.proofs.GoingOn.{among_at}
+use Rattle.aml_components.proofs.Raising.{begins_more}
+use Rattle.aml_components.proofs.heights.first_heights.Goals as goal
+
+pub index_mut-requires : goal.index_mut-requires
+index_mut-requires c =
+    let below = c.requires _ (among_at c.args.endless.now c.endless.method-index (record {
+      0 = 0;
+    }) c.endless-test.true) in
+    omega (arith, below, c.endless.invariant.sized, c.endless.heights.ok.0)
+
+pub endless-preserved : goal.endless-preserved
+endless-preserved c =
+    let below = c.requires _ (among_at c.args.endless.now c.endless.method-index (record {
+      0 = 0;
+    }) c.endless-test.true) in
+    begins_more c.args.endless.now c.endless.method-index (record {
+      0 = 0;
+    }) c.args.room c.endless.heights.items c.endless-test.true below c.endless.invariant
