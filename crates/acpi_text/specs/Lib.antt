@@ -7,3 +7,4 @@ pub mod Names
 pub mod Values
 pub mod Events
 pub mod Outcome
+pub mod Verdicts

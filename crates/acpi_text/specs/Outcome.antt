@@ -1,10 +1,11 @@
 -- How an evaluation ended, as it is printed.
-use Rattle.std.specs.Prelude.{ℕ, List, [], ◌∷◌, ◌++◌, Some, None, codes, decimal}
+use Rattle.std.specs.Prelude.{ℕ, List, [], ◌∷◌, Some, None, codes, decimal}
 use Rattle.aml_meaning.specs.Causes.{aml_cause_text}
 use Rattle.aml_meaning.specs.declared.error.AmlError.{AmlError}
-use Rattle.aml_tree.specs.Causes.{tree_cause_text}
 use Rattle.acpi_text.specs.Text.{joined}
 use Rattle.acpi_text.specs.Values.{value_text}
+use Rattle.acpi_text.specs.Verdicts.{verdict_line}
+use Rattle.acpi_text.specs.declared.verdict.VerdictLine.TheVariants.{Unreadable}
 use Rattle.aml_values.specs.Values.{Value}
 use Rattle.aml_values.specs.Views.{view}
 use Rattle.aml_namespace.specs.Entries.{Entries}
@@ -28,11 +29,6 @@ outcome_line entries (outcome.Done None) = codes "result none\n"
 outcome_line entries (outcome.AmlError error) = error_line error
 outcome_line entries outcome.OutOfSteps = codes "out of steps\n"
 
--- what stands behind a path whose method's body cannot be read: its table, and the place, number and name of what is wrong
-unfoldable pub refusal_part : ℕ → Refusal → List ℕ
-refusal_part table refusal =
-    joined (codes " refused " ∷ decimal table ∷ codes " " ∷ decimal refusal.at ∷ codes " " ∷ tree_cause_text refusal.cause ∷ codes "\n" ∷ [])
-
--- the line of such a method
-unfoldable pub refusal_line : List ℕ → ℕ → Refusal → List ℕ
-refusal_line path table refusal = path ++ refusal_part table refusal
+-- the line of a method whose body cannot be read
+abbrev pub refusal_line : List ℕ → ℕ → Refusal → List ℕ
+refusal_line path table refusal = verdict_line path (Unreadable table refusal)
