@@ -1,0 +1,4 @@
+pub mod Keys
+pub mod Literals
+pub mod Numbers
+pub mod Tables

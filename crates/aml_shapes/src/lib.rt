@@ -1,0 +1,15 @@
+//! The shapes of packages, each kept once under a number of its own. Rooms: `table`, with `key` by which a
+//! shape is found, `kept`, and `joined`, the join of all its places; `numbering`, a table that grows or
+//! one that stays; `walk` over the terms of data, with `told`; `literals` in bodies.
+#![tactic(auto)]
+
+mod joined;
+mod kept;
+mod key;
+mod literals;
+mod numbering;
+mod table;
+mod told;
+mod walk;
+
+pub use table::ShapeTable;
