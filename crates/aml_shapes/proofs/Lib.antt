@@ -1,5 +1,7 @@
+pub mod Grown
 pub mod Keys
 pub mod LiteralKinds
+pub mod NamesTold
 pub mod Numbers
 pub mod Orders
 pub mod PartsTold

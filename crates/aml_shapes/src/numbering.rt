@@ -3,7 +3,7 @@
 ghost use Rattle.std.specs.Prelude.{◌≡◌, ◌<◌, List, IfOk, length};
 ghost use Rattle.aml_kinds.specs.Kinds.{Shape};
 ghost use Rattle.aml_shapes.specs.Keys.{AreBelow, HasRoom, key_shape};
-ghost use Rattle.aml_shapes.specs.Numbers.{Keeps, numbered};
+ghost use Rattle.aml_shapes.specs.Numbers.{IsNumber, Keeps, numbered};
 
 use crate::key::ShapeKey;
 use crate::table::ShapeTable;
@@ -22,8 +22,8 @@ pub(crate) trait Numbering {
     fn number_of(&mut self, alloc: Global, key: ShapeKey) -> Result<usize, AllocError>
         requires room { HasRoom key }
         requires below { AreBelow (length (shapes self.old)) key.parts.items }
-        ensures number { IfOk result (λ n. (n < length (shapes self.new))
-            × (numbered (shapes self.new) n ≡ key_shape (numbered (shapes self.new)) key)) }
+        ensures number { IfOk result (λ n.
+            IsNumber (shapes self.new) n (key_shape (numbered (shapes self.new)) key)) }
         ensures keeps { Keeps (shapes self.old) (shapes self.new) }
         ensures stays { stays → shapes self.new ≡ shapes self.old };
 }

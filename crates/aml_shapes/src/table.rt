@@ -4,7 +4,7 @@ ghost use Rattle.std.specs.Prelude.{◌≡◌, ◌<◌, [], IfOk, IfSome, None, 
 ghost use Rattle.std.specs.BTreeMap.{get};
 ghost use Rattle.aml_known.specs.Views.{AreApart};
 ghost use Rattle.aml_shapes.specs.Keys.{AreBelow, HasRoom, key_order, key_shape};
-ghost use Rattle.aml_shapes.specs.Numbers.{Keeps, numbered};
+ghost use Rattle.aml_shapes.specs.Numbers.{IsNumber, Keeps, numbered};
 ghost use Rattle.aml_shapes.specs.Tables.{IsPut, IsTable, Stands};
 
 use crate::joined::joined_places;
@@ -16,8 +16,8 @@ use std::alloc::{AllocError, Global};
 use std::collections::BTreeMap;
 use std::marker::Model;
 
-/// The shapes of packages in some tables and bodies, each kept once, under the number that counts those
-/// kept before it. A number stands for its shape as long as the table grows.
+/// The shapes of packages in some tables and bodies, each kept once, under the number that counts
+/// those kept before it. A number stands for its shape however the table grows.
 #[derive(Drop)]
 pub struct ShapeTable {
     shapes: Vec<Kept>,
@@ -62,8 +62,8 @@ impl ShapeTable {
 
     /// The number of a shape, where the table has it.
     pub(crate) fn number(&self, key: &ShapeKey) -> Option<usize>
-        ensures { IfSome result (λ n. (n < length self.now)
-            × (numbered self.now n ≡ key_shape (numbered self.now) key.now)) }
+        ensures { IfSome result (λ n.
+            IsNumber self.now n (key_shape (numbered self.now) key.now)) }
     {
         looked_up(&self.numbers, key)
     }
@@ -72,8 +72,7 @@ impl ShapeTable {
     pub(crate) fn add(&mut self, alloc: Global, key: ShapeKey) -> Result<usize, AllocError>
         requires room { HasRoom key }
         requires below { AreBelow (length self.old) key.parts.items }
-        ensures number { IfOk result (λ n. (n < length self.new)
-            × (numbered self.new n ≡ key_shape (numbered self.new) key)) }
+        ensures number { IfOk result (λ n. IsNumber self.new n (key_shape (numbered self.new) key)) }
         ensures keeps { Keeps self.old self.new }
     {
         if let Some(number) = looked_up(&self.numbers, &key) {

@@ -1,14 +1,12 @@
 // The kinds of data by its terms: no value is made, and of packages only the numbers of their shapes.
 
-ghost use Rattle.std.specs.Prelude.{◌≡◌, ◌<◌, ◌%◌, ◌^◌, IfOk, length, map, take};
+ghost use Rattle.std.specs.Prelude.{◌≡◌, IfOk, map, take};
 ghost use Rattle.aml_operators.specs.Tree.{view, views};
-ghost use Rattle.aml_namespace.specs.Widths.{bits_of};
 ghost use Rattle.aml_kinds.specs.Kinds.{ValueOf};
 ghost use Rattle.aml_contents.specs.DataKinds.{counted_places, shape_behind, tree_place};
 ghost use Rattle.aml_contents.specs.FirstContents as first;
-ghost use Rattle.aml_known.specs.Views.{kind_of};
-ghost use Rattle.aml_shapes.specs.Keys.{AreBelow, IsBelow, part_kind};
-ghost use Rattle.aml_shapes.specs.Numbers.{IsKnown, Keeps, numbered};
+ghost use Rattle.aml_shapes.specs.PartsKnown.{TellParts, TellsPart};
+ghost use Rattle.aml_shapes.specs.Numbers.{IsNumber, Keeps, Tells};
 ghost use Rattle.aml_shapes.specs.Literals.{literal_kind};
 
 use crate::key::{Part, ShapeKey};
@@ -24,16 +22,6 @@ pub(crate) fn number_of(op: Op, parts: &[Term]) -> u64
     ensures { result ≡ first.number_of op (views parts.now) }
 {
     literal_in(op, parts).unwrap_or(0)
-}
-
-/// A number modulo 2 to the width.
-fn modulo(width: Width, number: u64) -> u64
-    ensures { result ≡ number % 2 ^ bits_of width }
-{
-    match width {
-        Width::Bits32 => number % 0x1_0000_0000,
-        Width::Bits64 => number,
-    }
 }
 
 /// So many terms, or all where there are fewer.
@@ -53,8 +41,8 @@ pub(crate) fn package<N: Numbering>(
     count: u64,
     parts: &[Term],
 ) -> Result<usize, AllocError>
-    ensures number { IfOk result (λ n. (n < length (N.shapes numbers.new))
-        × (numbered (N.shapes numbers.new) n ≡ counted_places count (shape_behind width (views parts.now)))) }
+    ensures number { IfOk result (λ n. IsNumber (N.shapes numbers.new) n
+        (counted_places count (shape_behind width (views parts.now)))) }
     ensures keeps { Keeps (N.shapes numbers.old) (N.shapes numbers.new) }
     ensures stays { N.stays → N.shapes numbers.new ≡ N.shapes numbers.old }
 {
@@ -79,13 +67,12 @@ fn parts_in<N: Numbering>(
     width: Width,
     terms: &[Term],
 ) -> Result<Vec<Part>, AllocError>
-    ensures parts { IfOk result (λ ps. (AreBelow (length (N.shapes numbers.new)) ps.items)
-        × (map (part_kind (numbered (N.shapes numbers.new))) ps.items
-        ≡ map (λ t. tree_place width (view t)) terms.now)) }
+    ensures parts { IfOk result (λ ps.
+        TellParts (N.shapes numbers.new) ps.items (map (λ t. tree_place width (view t)) terms.now)) }
     ensures keeps { Keeps (N.shapes numbers.old) (N.shapes numbers.new) }
     ensures stays { N.stays → N.shapes numbers.new ≡ N.shapes numbers.old }
 {
-    let mut parts = Vec::new(alloc);
+    let mut parts = Vec::with_capacity(alloc, terms.len())?;
     for term in terms {
         let part = part_of(alloc, numbers, width, term)?;
         parts.push(part)?;
@@ -102,8 +89,8 @@ fn part_of<N: Numbering>(
     width: Width,
     term: &Term,
 ) -> Result<Part, AllocError>
-    ensures part { IfOk result (λ p. (IsBelow (length (N.shapes numbers.new)) p)
-        × (part_kind (numbered (N.shapes numbers.new)) p ≡ tree_place width (view term.now))) }
+    ensures part { IfOk result (λ p.
+        TellsPart (N.shapes numbers.new) p (tree_place width (view term.now))) }
     ensures keeps { Keeps (N.shapes numbers.old) (N.shapes numbers.new) }
     ensures stays { N.stays → N.shapes numbers.new ≡ N.shapes numbers.old }
 {
@@ -122,14 +109,13 @@ fn value_part<N: Numbering>(
     op: Op,
     parts: &[Term],
 ) -> Result<Part, AllocError>
-    ensures part { IfOk result (λ p. (IsBelow (length (N.shapes numbers.new)) p)
-        × (part_kind (numbered (N.shapes numbers.new)) p
-        ≡ ValueOf (literal_kind width op (views parts.now)))) }
+    ensures part { IfOk result (λ p.
+        TellsPart (N.shapes numbers.new) p (ValueOf (literal_kind width op (views parts.now)))) }
     ensures keeps { Keeps (N.shapes numbers.old) (N.shapes numbers.new) }
     ensures stays { N.stays → N.shapes numbers.new ≡ N.shapes numbers.old }
 {
     match content_in(op, parts) {
-        Content::Integer => Ok(Part::Int(modulo(width, number_of(op, parts)))),
+        Content::Integer => Ok(Part::Int(width.wrapped(number_of(op, parts)))),
         Content::Buffer(size) => Ok(Part::Buf(size)),
         Content::String(size) => Ok(Part::Str(size)),
         Content::Package(count) => {
@@ -147,13 +133,13 @@ pub(crate) fn kind<N: Numbering>(
     op: Op,
     parts: &[Term],
 ) -> Result<Known, AllocError>
-    ensures known { IfOk result (λ k. (IsKnown (length (N.shapes numbers.new)) k)
-        × (kind_of (numbered (N.shapes numbers.new)) k ≡ literal_kind width op (views parts.now))) }
+    ensures known { IfOk result (λ k.
+        Tells (N.shapes numbers.new) k (literal_kind width op (views parts.now))) }
     ensures keeps { Keeps (N.shapes numbers.old) (N.shapes numbers.new) }
     ensures stays { N.stays → N.shapes numbers.new ≡ N.shapes numbers.old }
 {
     match content_in(op, parts) {
-        Content::Integer => Ok(Known::Int(modulo(width, number_of(op, parts)))),
+        Content::Integer => Ok(Known::Int(width.wrapped(number_of(op, parts)))),
         Content::Buffer(size) => Ok(Known::Buf(size)),
         Content::String(size) => Ok(Known::Str(size)),
         Content::Package(count) => {
