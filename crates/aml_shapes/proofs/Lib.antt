@@ -1,0 +1,9 @@
+pub mod Grown
+pub mod Keys
+pub mod LiteralKinds
+pub mod NamesTold
+pub mod Numbers
+pub mod Orders
+pub mod PartsTold
+pub mod PlaceJoins
+pub mod TableLaws
