@@ -21,6 +21,11 @@ unfoldable pub registers_note : List ℕ → ℕ → List ℕ
 registers_note label line =
     joined (label ∷ codes ": line " ∷ decimal line ∷ codes " is not SPACE ADDRESS BYTES, as io 60 1527: mem, io, pci, ec or cmos, hex without prefix" ∷ [])
 
+-- a line that is no signature, or has the path of a line before it
+unfoldable pub signatures_note : List ℕ → ℕ → List ℕ
+signatures_note label line =
+    joined (label ∷ codes ": line " ∷ decimal line ∷ codes " is not PATH KINDS, as \\_SB_.EC0_.WRIT int:15 buf:32, or has a path for the second time: int, int:MAX, buf:N, str:N or pkg, decimal below 2^64" ∷ [])
+
 -- a line of standard input that is no file
 unfoldable pub line_note : ℕ → List ℕ
 line_note number = joined (codes "file " ∷ decimal number ∷ codes " of standard input: a line of hex text is wanted, two digits a byte" ∷ [])

@@ -1,7 +1,7 @@
 // What is told of the words of a command and of the texts that they name.
 
 ghost use Rattle.std.specs.Prelude.{◌≡◌, IfOk, string_bytes};
-ghost use Rattle.acpi_notes.specs.Command.{argument_note, count_note, greatest_note, line_note, registers_note};
+ghost use Rattle.acpi_notes.specs.Command.{argument_note, count_note, greatest_note, line_note, registers_note, signatures_note};
 
 use std::alloc::{AllocError, Global};
 
@@ -45,6 +45,17 @@ pub fn registers_note(alloc: Global, label: &str, line: usize) -> Result<String,
 {
     format!(in alloc;
         "{label}: line {line} is not SPACE ADDRESS BYTES, as io 60 1527: mem, io, pci, ec or cmos, hex without prefix"
+    )
+}
+
+/// Of a line of the text of `--kinds` that is no signature, or has the path of a line before it: its
+/// number, from 1.
+#[tactic(auto, unfolding(crate::specs::Command::signatures_note))]
+pub fn signatures_note(alloc: Global, label: &str, line: usize) -> Result<String, AllocError>
+    ensures { IfOk result (λ note. string_bytes note ≡ signatures_note label.now line) }
+{
+    format!(in alloc;
+        "{label}: line {line} is not PATH KINDS, as \\_SB_.EC0_.WRIT int:15 buf:32, or has a path for the second time: int, int:MAX, buf:N, str:N or pkg, decimal below 2^64"
     )
 }
 

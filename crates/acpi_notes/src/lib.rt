@@ -10,7 +10,9 @@ mod near;
 mod table;
 mod tree;
 
-pub use command::{argument_note, count_note, greatest_note, line_note, registers_note};
+pub use command::{
+    argument_note, count_note, greatest_note, line_note, registers_note, signatures_note,
+};
 pub use definitions::{Found, Place, find_again};
 pub use help::{Help, help_of};
 pub use label::file_label;
