@@ -1,7 +1,7 @@
 # WORDS of the program, as make try WORDS="names my.dat".
 WORDS =
 
-.PHONY: try run test cases rows growths edits bench loops stack check fmt
+.PHONY: try run test cases rows growths edits hostile bench loops stack check fmt
 
 # The first answer in a minute: builds acpicheck from its sources, without proofs, and runs it on the example, or on
 # words and files of your own: make try WORDS="eval --plain 100 --method '\_SB_.PCI0._STA' my.dat".
@@ -38,6 +38,10 @@ growths:
 # The edits that must be refused: of every crate, or with CRATE=name of one, and with EDIT=name one of them.
 edits:
 	@python3 bench/edits.py $(CRATE) $(EDIT)
+
+# Every command over tables that are changed at random, by the program that `make test` leaves.
+hostile:
+	@python3 bench/hostile.py
 
 # Loops timed beside ACPICA's acpiexec (apt-get install acpica-tools), by the program that `make run` builds.
 bench:
