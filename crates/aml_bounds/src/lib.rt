@@ -19,5 +19,5 @@ pub use costs::Costs;
 pub use law::chains_are_counted;
 pub use order::call_order;
 pub use reach::reaches;
-pub use shape::{Turns, loop_shape};
+pub use shape::{Turns, loop_shape, number_of, turns_of};
 pub use turn_count::TurnCount;

@@ -37,7 +37,7 @@ enum Step {
 
 /// The number of an integer literal, taken modulo 2 to the width.
 #[tactic(auto, using(aml_operators::proofs::Views::view_out))]
-fn number_of(term: &Term, width: Width) -> Option<u64>
+pub fn number_of(term: &Term, width: Width) -> Option<u64>
     ensures { result ≡ number_of (bits_of width) (view term.now) }
 {
     match action_of(term.op) {
@@ -243,7 +243,7 @@ fn turns_by(test: &Term, body: &[Term], width: Width) -> Option<Turns>
 }
 
 /// The turns of a loop by its test and its body.
-fn turns_of(test: &Term, body: &[Term], width: Width) -> Option<Turns>
+pub fn turns_of(test: &Term, body: &[Term], width: Width) -> Option<Turns>
     ensures { result ≡ turns_of
         (shape_of (bits_of width) (view test.now) (views body.now)) }
 {

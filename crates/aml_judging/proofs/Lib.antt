@@ -1,0 +1,11 @@
+pub mod Going
+pub mod Branches
+pub mod Loops
+pub mod Stops
+pub mod Holding
+pub mod OnlyParts
+pub mod Calling
+pub mod Leaving
+pub mod Narrow
+pub mod Stored
+pub mod Makings

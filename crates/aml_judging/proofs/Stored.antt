@@ -1,0 +1,70 @@
+-- What is stored into fields, and what is paid for.
+use Rattle.std.proofs.Common.{◌≡◌, ℕ, ◌+◌, List, Option, Some, None, Ok, Err, ◌∙◌, refl, sym, ap, subst, arith}
+use Rattle.std.specs.Option.{option_map}
+use Rattle.aml_causes.specs.declared.cause.Refusal.{Refusal}
+use Rattle.aml_kinds.specs.Kinds.{Kind, Shape}
+use Rattle.aml_regions.specs.Fields.{layout_of}
+use Rattle.aml_regions.specs.declared.field.AnyField.{AnyField}
+use Rattle.aml_meaning.specs.Fields.{write_count}
+use Rattle.aml_meaning.specs.declared.mutex.TakenMutex.{TakenMutex}
+use Rattle.aml_meaning.specs.declared.part.BufferPart.{BufferPart}
+use Rattle.aml_judged.specs.Known.{Env}
+use Rattle.aml_judged.specs.Judged as judged
+use Rattle.aml_judged.specs.Judged.{Around, no_exits, pays, Rule, ruled, Stops, then_judge}
+use Rattle.aml_judged.specs.Judge.{held_kind, judged_field_stored, judged_part_stored, place_at}
+use Rattle.aml_judged.specs.KindRules.{given_kind, part_stored_kind}
+use Rattle.aml_known.specs.Views.{CanBeRead, env_of, exits_of, Grown}
+use Rattle.aml_known.proofs.Takings.{same_grown}
+use Rattle.aml_judging.specs.declared.around.FieldCosts.{FieldCosts}
+use Rattle.aml_judging.specs.declared.progress.Progress.{Progress}
+use Rattle.aml_judging.specs.Views.{FieldSeen, costs_of, field_seen, held_cost}
+use Rattle.aml_judging.specs.Follows.{Judges, Paid}
+use Rattle.aml_judging.proofs.Going.{exits_same, paid_judges}
+
+abbrev bits_in : Option FieldSeen → ℕ
+bits_in (Some f) = f.bits
+bits_in None = 0
+
+abbrev writes_in : Option FieldSeen → ℕ
+writes_in (Some f) = f.writes
+writes_in None = 0
+
+module _ (here : Around) (at : ℕ) (k : Kind) where
+  pub field_refused : (f : Option AnyField) (field : FieldCosts) (r : Refusal) → option_map costs_of (Some field) ≡ option_map field_seen f → given_kind here.width (place_at here at) field.bits k ≡ Err r → (env : Env) → judged_field_stored here f at k env ≡ Stops r
+  field_refused None field r e g env = absurd cc
+  field_refused (Some f) field r e g env =
+      let b : field.bits ≡ (layout_of f).bits = ap bits_in e in
+      let h : given_kind here.width (place_at here at) (layout_of f).bits k ≡ Err r = rw b at g in
+      rw h refl
+
+  pub field_stored : (f : Option AnyField) (field : FieldCosts) → option_map costs_of (Some field) ≡ option_map field_seen f → given_kind here.width (place_at here at) field.bits k ≡ Ok tt → (env : Env) → judged_field_stored here f at k env ≡ judged.Goes tt env no_exits (1 + field.writes)
+  field_stored None field e g env = absurd cc
+  field_stored (Some f) field e g env =
+      let b : field.bits ≡ (layout_of f).bits = ap bits_in e in
+      let w : field.writes ≡ write_count f = ap writes_in e in
+      let h : given_kind here.width (place_at here at) (layout_of f).bits k ≡ Ok tt = rw b at g in
+      rw h (ap (judged.Goes tt env no_exits) (omega (arith, w)))
+
+  pub part_refused : (f : BufferPart) (r : Refusal) → part_stored_kind here.width (place_at here at) f (held_kind here f.source) k ≡ Err r → (env : Env) → judged_part_stored here (Some f) at k env ≡ Stops r
+  part_refused f r h env = ap (λ x. then_judge (ruled x env) (λ u. pays 1 tt)) h
+
+  pub part_stored : (f : BufferPart) → part_stored_kind here.width (place_at here at) f (held_kind here f.source) k ≡ Ok tt → (env : Env) → judged_part_stored here (Some f) at k env ≡ judged.Goes tt env no_exits 1
+  part_stored f h env = ap (λ x. then_judge (ruled x env) (λ u. pays 1 tt)) h
+
+-- what is paid for, and gives nothing
+pub costs_judge : {shapes : ℕ → Shape} {rule : Rule (Unit {0})} {old new : Progress} {n : ℕ} → Paid n old new → ((env : Env) → rule env ≡ judged.Goes tt env no_exits n) → Judges shapes (λ l. λ u. u) rule old new (Ok tt)
+costs_judge {n} p g = paid_judges {see = λ u. u} (λ u. n) {x = tt} p refl g
+
+-- a step behind which the environment alone is another
+pub put_judges : {shapes : ℕ → Shape} {rule : Rule (Unit {0})} (old mid new : Progress) → Paid 1 mid new → mid.exits ≡ old.exits → mid.cost ≡ old.cost → mid.locks.takings.items ≡ old.locks.takings.items → ((lists : ℕ → List TakenMutex) → rule (env_of shapes lists old.env) ≡ judged.Goes tt (env_of shapes lists mid.env) no_exits 1) → Judges shapes (λ l. λ u. u) rule old new (Ok tt)
+put_judges {shapes} {rule} old mid new p x c t g = record {
+  grows = subst (Grown old.locks.takings.items) (sym (p.takings ∙ t)) (same_grown old.locks.takings.items);
+  read = subst CanBeRead (sym (p.takings ∙ t));
+  follows = λ lists apart says. record {
+    exits = no_exits;
+    cost = 1;
+    goes = g lists ∙ ap (λ v. judged.Goes tt (env_of shapes lists v) no_exits 1) (sym p.env);
+    joined = ap (exits_of shapes lists) (p.exits ∙ x) ∙ exits_same (exits_of shapes lists old.exits);
+    counted = p.paid ∙ ap (λ m. held_cost (held_cost m + 1)) c;
+  };
+}

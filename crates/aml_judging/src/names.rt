@@ -1,0 +1,128 @@
+// Names that are read.
+
+ghost use Rattle.std.specs.Prelude.{◌≡◌, Option};
+ghost use Rattle.std.specs.Option.{option_map};
+ghost use Rattle.aml_causes.specs.declared.cause.Refusal.{Refusal};
+ghost use Rattle.aml_regions.specs.declared.field.AnyField.{AnyField};
+ghost use Rattle.aml_meaning.specs.Owns.{field_at};
+ghost use Rattle.aml_meaning.specs.Rules.{Place};
+ghost use Rattle.aml_judged.specs.Judge.{held_kind, judged_content, judged_field, judged_name, judged_own, judged_part, place_at, refusal};
+ghost use Rattle.aml_rules.specs.Tells.{place_of};
+ghost use Rattle.aml_judging.specs.Follows.{Costs};
+ghost use Rattle.aml_judging.specs.Views.{content_of, costs_of, field_seen, read_of};
+
+use crate::around::{Around, FieldCosts};
+use aml_causes::{Cause, Refusal};
+use aml_fields::usable_part;
+use aml_kind_rules::{field_kind, source_kind};
+use aml_known::Known;
+use aml_meaning::BufferPart;
+use aml_namespace::Link;
+use aml_rules::Place;
+
+/// What is read of a name: a value of a kind, for some events.
+#[derive(Clone, Copy, Debug, PartialEq, Eq)]
+pub struct Read {
+    pub kind: Known,
+    pub events: u64,
+}
+
+/// A place in the body's table.
+pub fn place<A: Around>(here: &A, at: usize) -> Place
+    ensures { place_of result ≡ place_at (A.around here.now) at }
+{
+    Place {
+        table: here.table(),
+        at,
+    }
+}
+
+/// A cause at a place in the body's table.
+pub fn refusal<A: Around>(here: &A, why: Cause, at: usize) -> Refusal
+    ensures { result ≡ refusal (A.around here.now) why at }
+{
+    Refusal {
+        table: here.table(),
+        at,
+        why,
+    }
+}
+
+/// What a data name or an own name holds, by its kind. V3 at the name that holds nothing.
+fn content<A: Around>(here: &A, at: usize, kind: Option<Known>) -> Result<Read, Refusal>
+    ensures { Costs (read_of (A.numbered here.now)) (λ r. r.events)
+        (judged_content (A.around here.now) at (content_of (A.numbered here.now) kind)) result }
+{
+    match kind {
+        Some(kind) => Ok(Read { kind, events: 0 }),
+        None => Err(refusal(here, Cause::WrongKind, at)),
+    }
+}
+
+/// A field of a region (ACPI 6.5, 19.6, Field). V9 at the name of one that cannot be read.
+fn field<A: Around>(here: &A, field: Option<FieldCosts>, at: usize) -> Result<Read, Refusal>
+    ensures { (f : Option AnyField) → option_map costs_of field ≡ option_map field_seen f →
+        Costs (read_of (A.numbered here.now)) (λ r. r.events)
+        (judged_field (A.around here.now) f at) result }
+{
+    match field {
+        Some(field) => Ok(Read {
+            kind: field_kind(here.width(), field.bits),
+            events: field.reads,
+        }),
+        None => Err(refusal(here, Cause::Region, at)),
+    }
+}
+
+/// The kind of what a data name or an own name holds.
+pub fn held_kind<A: Around>(here: &A, link: Link) -> Option<Known>
+    ensures { content_of (A.numbered here.now) result ≡ held_kind (A.around here.now) link }
+{
+    match link {
+        Link::Data(id) => here.shared(id),
+        Link::Own(number) => here.own(number),
+        _ => None,
+    }
+}
+
+/// A field of a buffer (19.6, CreateField). V9 at the name of one that cannot be read, V3 where its source
+/// is no buffer's name, V7 where it does not lie in its buffer.
+fn part<A: Around>(here: &A, part: Option<BufferPart>, at: usize) -> Result<Read, Refusal>
+    ensures { Costs (read_of (A.numbered here.now)) (λ r. r.events)
+        (judged_part (A.around here.now) part at) result }
+{
+    let Some(part) = part else {
+        return Err(refusal(here, Cause::Region, at));
+    };
+    source_kind(place(here, at), part, held_kind(here, part.source))?;
+    let kind = field_kind(here.width(), part.bits);
+    Ok(Read { kind, events: 0 })
+}
+
+/// An own name, or the field of a buffer that it is.
+fn own<A: Around>(here: &A, number: usize, at: usize) -> Result<Read, Refusal>
+    ensures { Costs (read_of (A.numbered here.now)) (λ r. r.events) (judged_own (A.around here.now)
+        (field_at (A.around here.now).kinds.fields number) number at) result }
+{
+    match here.own_field(number) {
+        Some(made) => part(here, usable_part(made), at),
+        None => content(here, at, here.own(number)),
+    }
+}
+
+/// What a name alone means, read. V1 where it names nothing, V3 where what it names cannot be read.
+pub fn name<A: Around>(here: &A, link: Link, at: usize) -> Result<Read, Refusal>
+    ensures { Costs (read_of (A.numbered here.now)) (λ r. r.events)
+        (judged_name (A.around here.now) link at) result }
+{
+    match link {
+        Link::Data(id) => content(here, at, here.shared(id)),
+        Link::Own(number) => own(here, number, at),
+        Link::Missing => Err(refusal(here, Cause::Unresolved, at)),
+        Link::Field(id) => field(here, here.field(id), at),
+        Link::BufferField(id) => part(here, here.buffer_field(id), at),
+        Link::Method(_) | Link::OsInterfaces | Link::Object(_) => {
+            Err(refusal(here, Cause::WrongKind, at))
+        }
+    }
+}

@@ -1,0 +1,183 @@
+// Names, locals and arguments that are stored into.
+
+ghost use Rattle.std.specs.Prelude.{◌≡◌, ◌+◌, Option};
+ghost use Rattle.std.specs.Option.{option_map};
+ghost use Rattle.aml_operators.specs.Tree.{view, views};
+ghost use Rattle.aml_regions.specs.declared.field.AnyField.{AnyField};
+ghost use Rattle.aml_meaning.specs.Actions.{action};
+ghost use Rattle.aml_meaning.specs.Owns.{field_at};
+ghost use Rattle.aml_judged.specs.Judge.{judged_bound, judged_field_stored, judged_indexed, judged_into, judged_name_indexed, judged_own_stored, judged_part_stored, judged_placed, judged_put, judged_target};
+ghost use Rattle.aml_known.specs.Views.{kind_of};
+ghost use Rattle.aml_judging.specs.Follows.{Costs, Gives, Judges};
+ghost use Rattle.aml_judging.specs.Views.{content_of, costs_of, field_seen};
+
+use crate::around::{Around, FieldCosts};
+use crate::names::{held_kind, place, refusal};
+use crate::progress::Progress;
+use aml_causes::{Cause, Refusal};
+use aml_fields::usable_part;
+use aml_kind_rules::{given_kind, may_replace, part_stored_kind};
+use aml_known::{Known, Stop, set_kind};
+use aml_meaning::{Action, BufferPart, action_of};
+use aml_namespace::Link;
+use aml_operators::{Op, Term};
+
+/// What is of a kind is stored into a field of a region: so many events. V9 at the name of one that cannot
+/// be written, V3 where it does not take such a value.
+fn field<A: Around>(
+    here: &A,
+    field: Option<FieldCosts>,
+    at: usize,
+    kind: Known,
+) -> Result<u64, Refusal>
+    ensures { (f : Option AnyField) → option_map costs_of field ≡ option_map field_seen f →
+        Costs (λ n. tt) (λ n. 1 + n) (judged_field_stored (A.around here.now) f at
+        (kind_of (A.numbered here.now) kind)) result }
+{
+    let Some(field) = field else {
+        return Err(refusal(here, Cause::Region, at));
+    };
+    given_kind(here.width(), place(here, at), field.bits, kind)?;
+    Ok(field.writes)
+}
+
+/// The same into a field of a buffer, without events. V9, V3 and V7 as where it is read, and V3 where it
+/// does not take such a value.
+fn part<A: Around>(
+    here: &A,
+    part: Option<BufferPart>,
+    at: usize,
+    kind: Known,
+) -> Result<u64, Refusal>
+    ensures { Costs (λ n. tt) (λ n. 1 + n) (judged_part_stored (A.around here.now) part at
+        (kind_of (A.numbered here.now) kind)) result }
+{
+    let Some(part) = part else {
+        return Err(refusal(here, Cause::Region, at));
+    };
+    let source = held_kind(here, part.source);
+    part_stored_kind(here.width(), place(here, at), part, source, kind)?;
+    Ok(0)
+}
+
+/// The same into a name that holds what is of a kind, if it holds something. V3 where it may not hold such
+/// a value.
+fn into<A: Around>(here: &A, at: usize, old: Option<Known>, kind: Known) -> Result<u64, Refusal>
+    ensures { Costs (λ n. tt) (λ n. 1 + n) (judged_into (A.around here.now) at
+        (content_of (A.numbered here.now) old) (kind_of (A.numbered here.now) kind)) result }
+{
+    match old {
+        Some(old) if may_replace(kind, old) => Ok(0),
+        _ => Err(refusal(here, Cause::WrongKind, at)),
+    }
+}
+
+/// The same into an own name, or the field of a buffer that it is.
+fn own<A: Around>(here: &A, number: usize, at: usize, kind: Known) -> Result<u64, Refusal>
+    ensures { Costs (λ n. tt) (λ n. 1 + n) (judged_own_stored (A.around here.now)
+        (field_at (A.around here.now).kinds.fields number) number at
+        (kind_of (A.numbered here.now) kind)) result }
+{
+    match here.own_field(number) {
+        Some(made) => part(here, usable_part(made), at, kind),
+        None => into(here, at, here.own(number), kind),
+    }
+}
+
+/// The same into what a name means. V1 where it names nothing, V3 where it names nothing that is stored
+/// into.
+fn name<A: Around>(here: &A, link: Link, at: usize, kind: Known) -> Result<u64, Refusal>
+    ensures { Costs (λ n. tt) (λ n. 1 + n) (judged_target (A.around here.now) link at
+        (kind_of (A.numbered here.now) kind)) result }
+{
+    match link {
+        Link::Data(id) => into(here, at, here.shared(id), kind),
+        Link::Own(number) => own(here, number, at, kind),
+        Link::Missing => Err(refusal(here, Cause::Unresolved, at)),
+        Link::Field(id) => field(here, here.field(id), at, kind),
+        Link::BufferField(id) => part(here, here.buffer_field(id), at, kind),
+        Link::Method(_) | Link::OsInterfaces | Link::Object(_) => {
+            Err(refusal(here, Cause::WrongKind, at))
+        }
+    }
+}
+
+/// What is of a kind is put into a target that is no Index. V2 at a target that is none of these.
+pub fn put<A: Around>(
+    here: &A,
+    action: Action,
+    at: usize,
+    kind: Known,
+    progress: &mut Progress,
+) -> Result<(), Stop>
+    ensures { Judges (A.numbered here.now) (λ lists u. u) (judged_put (A.around here.now) action at
+        (kind_of (A.numbered here.now) kind)) progress.old progress.new result }
+{
+    match action {
+        Action::Local(number) => set_kind(&mut progress.env.locals, number, kind),
+        Action::Argument(number) => set_kind(&mut progress.env.args, number, kind),
+        Action::NoTarget => return Ok(()),
+        Action::Debug => {}
+        Action::Name => {
+            let events = name(here, here.link(at), at, kind)?;
+            progress.pay(events);
+        }
+        _ => return Err(Stop::Refused(refusal(here, Cause::OutsideProfile, at))),
+    }
+    progress.step();
+    Ok(())
+}
+
+/// The place of a name that a written Index is of, which names something. V1 where it does not.
+fn bound<A: Around>(here: &A, link: Link, at: usize) -> Result<usize, Refusal>
+    ensures { Gives (λ p. p) (judged_bound (A.around here.now) link at) result }
+{
+    match link {
+        Link::Missing => Err(refusal(here, Cause::Unresolved, at)),
+        _ => Ok(at),
+    }
+}
+
+/// The place of the name that a written Index is of, alone or with arguments, which are not judged. V2 at
+/// an Index of what is no name.
+#[tactic(auto, using(aml_operators::proofs::Views::view_out))]
+fn name_indexed<A: Around>(
+    here: &A,
+    at: usize,
+    action: Action,
+    from: usize,
+    parts: &[Term],
+) -> Result<usize, Refusal>
+    ensures { Gives (λ p. p)
+        (judged_name_indexed (A.around here.now) at action from (views parts.now)) result }
+{
+    match (action, parts) {
+        (Action::Name, _) => bound(here, here.link(from), from),
+        (Action::Invoke, [name, ..]) => bound(here, here.link(name.at), name.at),
+        _ => Err(refusal(here, Cause::OutsideProfile, at)),
+    }
+}
+
+/// The place of the name that a written Index with this target of its own is of. V2 at an Index that has
+/// such a target.
+#[tactic(auto, using(aml_operators::proofs::Views::view_out))]
+pub fn indexed<A: Around>(here: &A, at: usize, own: Op, of: &Term) -> Result<usize, Refusal>
+    ensures { Gives (λ p. p)
+        (judged_indexed (A.around here.now) at (action own) (view of.now)) result }
+{
+    match action_of(own) {
+        Action::NoTarget => name_indexed(here, at, action_of(of.op), of.at, &of.parts),
+        _ => Err(refusal(here, Cause::OutsideProfile, at)),
+    }
+}
+
+/// What is changed in place is no DerefOf. V2 at one.
+#[tactic(auto, using(aml_operators::proofs::Views::view_out))]
+pub fn placed<A: Around>(here: &A, term: &Term) -> Result<(), Refusal>
+    ensures { Gives (λ u. u) (judged_placed (A.around here.now) (view term.now)) result }
+{
+    match action_of(term.op) {
+        Action::Dereference => Err(refusal(here, Cause::OutsideProfile, term.at)),
+        _ => Ok(()),
+    }
+}
