@@ -9,3 +9,4 @@ pub mod Leaving
 pub mod Narrow
 pub mod Stored
 pub mod Makings
+pub mod Bodies

@@ -1,10 +1,11 @@
-use Rattle.std.proofs.Common.{◌≡◌, ℕ, suc, ◌+◌, ◌∷◌, drop, Ok, Err, refl, sym, ap, subst, ◌∙◌, arith}
+use Rattle.std.proofs.Common.{◌≡◌, suc, ◌+◌, [], ◌∷◌, drop, Ok, Err, refl, ap, subst, ◌∙◌, arith}
+use Rattle.std.proofs.lemmas.List.{drop_all}
 use Rattle.std.proofs.lemmas.Result.{err_from_is_err_and}
 use Rattle.aml_operators.specs.Tree.{view, views}
 use Rattle.aml_judged.specs.Bodies.{grown, judged_body, judged_statement}
 use Rattle.aml_judging.specs.Views.{made_of}
 use Rattle.aml_judging.specs.Follows.{Judges}
-use Rattle.aml_judging.proofs.Going.{Leads, leads_begin, leads_more, leads_on, stops_judge}
+use Rattle.aml_judging.proofs.Going.{gives_judges, leads_begin, leads_more, leads_on, stops_judge}
 use Rattle.aml_judging.proofs.Makings.{left_with}
 use Rattle.aml_judging.proofs.body.statements.Goals as goal
 
@@ -32,3 +33,9 @@ returns-in_err-made-clause-judges g c =
 
 pub returns-in_err-made-clause-shapes : goal.returns-in_err-made-clause-shapes
 returns-in_err-made-clause-shapes g c = c.loop-term.invariant.0
+
+pub returns-clause-judges : goal.returns-clause-judges
+returns-clause-judges g c =
+    let all : drop c.loop-term.term-index c.args.body.now ≡ [] = drop_all c.loop-term.term-index c.args.body.now c.loop-term-test.false in
+    let leads = rw all at c.loop-term.invariant.2 in
+    leads_on (Ok tt) leads (gives_judges {see = λ u. u} c.loop-term.progress tt (λ env. refl))

@@ -1,20 +1,13 @@
-use Rattle.std.proofs.Common.{◌≡◌, ◌+◌, Some, Ok, Err, true, refl, sym, ap, subst, ◌∙◌, arith}
+use Rattle.std.proofs.Common.{◌≡◌, Ok, refl, sym, ◌∙◌}
 use Rattle.std.proofs.lemmas.Result.{err_from_is_err_and}
-use Rattle.std.specs.Option.{option_map}
-use Rattle.aml_operators.specs.Literal.{literal_of}
-use Rattle.aml_operators.specs.Tree.{Node, more, none, view, views}
+use Rattle.aml_operators.specs.Tree.{Node, view, views}
 use Rattle.aml_operators.specs.declared.term.Term.TheViews.{out-Term}
 use Rattle.aml_operators.proofs.Views.{view_out}
-use Rattle.aml_meaning.specs.Meaning.{at_of}
-use Rattle.aml_meaning.specs.declared.definition.Definition.TheVariants as makes
-use Rattle.aml_judged.specs.Bodies.{judged_made, may_make}
-use Rattle.aml_known.specs.Views.{kind_of}
+use Rattle.aml_judged.specs.Bodies.{judged_made}
 use Rattle.aml_judging.specs.Views.{made_of}
-use Rattle.aml_judging.proofs.Going.{gives_judges, gives_stops, paid_judges, stops_judge, then_judges}
-use Rattle.aml_meaning.specs.Actions.{action}
+use Rattle.aml_judging.proofs.Going.{gives_judges, stops_judge, then_judges}
 use Rattle.aml_judged.specs.Judged.{goes, step}
 use Rattle.aml_judged.specs.Bodies.{Nothing}
-use Rattle.aml_meaning.specs.Definitions.{definition}
 use Rattle.aml_judging.specs.declared.around.Made.TheVariants as program
 use Rattle.aml_judging.proofs.Stored.{costs_judge}
 use Rattle.aml_judging.proofs.Makings.{stated_nothing, stated_what}
