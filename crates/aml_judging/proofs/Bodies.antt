@@ -36,6 +36,7 @@ none_held_told a b at env e = by env.counts env.held
   where
     told : still at a.table ≡ still at b.table
     told = ap (still at) e
+
     by : (counts : Bool) (h : known.Held) → none_held_at a counts h at env ≡ none_held_at b counts h at env
     by false h = refl
     by true (known.These []) = refl

@@ -1,20 +1,14 @@
 // A method's body: its own names, its statements one by one, and what they make of it.
 
-ghost use Rattle.std.specs.Prelude.{◌≡◌, ℕ, Bool, OnOk, Option};
+ghost use Rattle.std.specs.Prelude.{◌≡◌, ℕ, OnOk};
 ghost use Rattle.std.specs.Option.{option_map};
 ghost use Rattle.aml_kinds.specs.Kinds.{Shape};
-ghost use Rattle.aml_contents.specs.FirstKinds.{kind_by, name_kind};
-ghost use Rattle.aml_operators.specs.Tree.{more, none, view, views};
-ghost use Rattle.aml_namespace.specs.declared.link.Link.{Link};
-ghost use Rattle.aml_meaning.specs.Actions.{action};
-ghost use Rattle.aml_meaning.specs.Definitions as definitions;
-ghost use Rattle.aml_meaning.specs.declared.definition.Definition.TheVariants as makes;
-ghost use Rattle.aml_judged.specs.Bodies.{entry, first_kind_by, judged_body, judged_data, judged_field_made, judged_made, judged_method, judged_own_source, judged_source, judged_statement, may_make};
+ghost use Rattle.aml_operators.specs.Tree.{view, views};
+ghost use Rattle.aml_judged.specs.Bodies.{entry, judged_body, judged_method, judged_statement};
 ghost use Rattle.aml_judged.specs.Causes as cause;
-ghost use Rattle.aml_judged.specs.Judged as judged;
 ghost use Rattle.aml_judged.specs.Verdicts.{result_of, verdict_of};
-ghost use Rattle.aml_known.specs.Views.{AreApart, accepted_of, kind_of, kinds_of, yield_of};
-ghost use Rattle.aml_judging.specs.Follows.{Gives, GivesOrMemory, IsVerdict, Judges};
+ghost use Rattle.aml_known.specs.Views.{AreApart, kind_of, kinds_of, yield_of};
+ghost use Rattle.aml_judging.specs.Follows.{IsVerdict, Judges};
 ghost use Rattle.aml_judging.specs.Views.{made_of};
 
 use crate::around::{Around, Made};
@@ -23,13 +17,10 @@ use crate::mutexes::none_held;
 use crate::names::refusal;
 use crate::progress::{MOST_STEPS, Progress};
 use crate::terms::statement;
-use aml_causes::{Cause, Refusal};
-
-use aml_fields::made_part;
+use aml_causes::Cause;
 use aml_known::{Accepted, Env, Exits, Known, Locks, Stop, Yield};
-use aml_meaning::{Action, Definition, action_of, definition_of};
-use aml_namespace::{BufferFieldSize, Link};
-use aml_operators::{Op, Term, first_place, literal_of};
+use aml_meaning::{Definition, definition_of};
+use aml_operators::Term;
 use std::alloc::Global;
 
 /// A statement at the top of a body, and what it makes.
