@@ -5,7 +5,7 @@ ghost use Rattle.aml_operators.specs.Tree.{views};
 ghost use Rattle.aml_judged.specs.Judge.{are_within, judged_call, judged_interface, judged_levels, not_reaching, with_result};
 ghost use Rattle.aml_known.specs.Views.{AreApart, accepted_of, kinds_of, yield_of};
 ghost use Rattle.std.specs.Option.{option_map};
-ghost use Rattle.aml_judging.specs.Follows.{Gives, Judges};
+ghost use Rattle.aml_judging.specs.Follows.{Costs, Gives, Judges};
 ghost use Rattle.aml_judging.specs.Views.{read_of, seen_of};
 
 use crate::around::{Around, Seen};
@@ -131,8 +131,9 @@ pub fn interface<A: Around>(
     arguments: &[Term],
     kinds: &[Known],
 ) -> Result<Read, Refusal>
-    ensures { Gives (read_of (A.numbered here.now)) (judged_interface (A.around here.now) at
-        (views arguments.now) (kinds_of (A.numbered here.now) kinds.now)) result }
+    ensures { Costs (read_of (A.numbered here.now)) (λ r. r.events)
+        (judged_interface (A.around here.now) at (views arguments.now)
+        (kinds_of (A.numbered here.now) kinds.now)) result }
 {
     match (arguments, kinds) {
         ([argument], [kind]) => Ok(Read {

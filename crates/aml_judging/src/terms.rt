@@ -40,7 +40,6 @@ use std::mem;
 
 /// The statement that a term is. V13 at a definition: those stand at the top of a body alone.
 #[cycle(terms)]
-#[tactic(auto, using(aml_operators::proofs::Views::view_out))]
 pub fn statement<A: Around>(
     alloc: Global,
     here: &A,
@@ -60,7 +59,6 @@ pub fn statement<A: Around>(
 /// A term's value, where one is wanted. V2 at what gives none as an operand, V10 where it need not give
 /// one.
 #[cycle(terms)]
-#[tactic(auto, using(aml_operators::proofs::Views::view_out))]
 fn value<A: Around>(
     alloc: Global,
     here: &A,
@@ -352,7 +350,6 @@ fn stored<A: Around>(
 /// What is of a kind is stored into a target, whose own operands come first; a byte of a name's buffer is
 /// written behind its index (19.6, Index).
 #[cycle(terms)]
-#[tactic(auto, using(aml_operators::proofs::Views::view_out))]
 fn store<A: Around>(
     alloc: Global,
     here: &A,
@@ -403,7 +400,6 @@ fn store_byte<A: Around>(
 
 /// What an Index leads to (19.6, DerefOf). V2 at a DerefOf of anything else.
 #[cycle(terms)]
-#[tactic(auto, using(aml_operators::proofs::Views::view_out))]
 fn dereferenced<A: Around>(
     alloc: Global,
     here: &A,
