@@ -35,7 +35,7 @@ module _ (all : Judging) where
   long_verdict true late args j e = absurd cc
 
   -- a method that begins too long a chain is not accepted
-  long_refused : (known : ℕ → Option Accepted) (k : ℕ) (o : Option Callee) → is_short (called_from all) 64 k ≡ false → accepted_of (verdict_by all known k o) ≡ None
+  pub long_refused : (known : ℕ → Option Accepted) (k : ℕ) (o : Option Callee) → is_short (called_from all) 64 k ≡ false → accepted_of (verdict_by all known k o) ≡ None
   long_refused known k None e = refl
   long_refused known k (Some m) e = long_verdict (is_short (called_from all) 64 k) _ _ (judged_method (around_for all known k m) m.opcode m.body (entry (all.args k))) e
 
@@ -95,19 +95,23 @@ module _ (all : Judging) where
       none_by : (j : ℕ) → ((j == k) || is_among j done) ≡ false → judged_one all known k j ≡ None
       none_by j away = let two = or_parts (j == k) (is_among j done) away in sym (kept known k j two.0) ∙ h.none j two.1
 
-  in_order : (order : List ℕ) (known : ℕ → Option Accepted) (done : List ℕ) → Answers known done → IsBehindCallees (called_from all) done order → ((k : ℕ) → is_among k done ≡ false → is_among k order ≡ false → is_short (called_from all) 64 k ≡ false) → AreAccepted all (judged_in_order all known order)
+  in_order : (order : List ℕ) (known : ℕ → Option Accepted) (done : List ℕ) → Answers known done → IsBehindCallees (called_from all) done order → ((k : ℕ) (m : Callee) → all.methods.callee k ≡ Some m → is_among k done ≡ false → is_among k order ≡ false → is_short (called_from all) 64 k ≡ false) → AreAccepted all (judged_in_order all known order)
   in_order [] known done h ordered others = record { each = λ k. by k (is_among k done) refl }
     where
+      left_out : (k : ℕ) → is_among k done ≡ false → (o : Option Callee) → all.methods.callee k ≡ o → accepted_of (verdict_by all known k o) ≡ None
+      left_out k e None there = refl
+      left_out k e (Some m) there = long_refused known k (Some m) (others k m there e refl)
+
       by : (k : ℕ) (t : Bool) → is_among k done ≡ t → known k ≡ accepted_of (verdict_by all known k (all.methods.callee k))
       by k true e = h.each k e
-      by k false e = h.none k e ∙ sym (long_refused known k (all.methods.callee k) (others k e refl))
+      by k false e = h.none k e ∙ sym (left_out k e (all.methods.callee k) refl)
   in_order (k ∷ ks) known done h ordered others =
       in_order ks (judged_one all known k) (k ∷ done) (one_more known done k h ordered.0 ordered.1) ordered.2
-      (λ j away out. let two = or_parts (j == k) (is_among j done) away in others j two.1 (neither (j == k) (is_among j ks) two.0 out))
+      (λ j m there away out. let two = or_parts (j == k) (is_among j done) away in others j m there two.1 (neither (j == k) (is_among j ks) two.0 out))
 
 pub verdicts_are_one : VerdictsAreOne
 verdicts_are_one all known other a b k = all_same all known other a b k (is_short (called_from all) 64 k) refl
 
 pub order_answers : OrderAnswers
 order_answers all order ordered others =
-    in_order all order (λ k. None) [] (record { each = λ k e. absurd cc; within = λ k e. absurd cc; none = λ k e. refl }) ordered (λ k away out. others k out)
+    in_order all order (λ k. None) [] (record { each = λ k e. absurd cc; within = λ k e. absurd cc; none = λ k e. refl }) ordered (λ k m there away out. others k m there out)

@@ -58,13 +58,13 @@ module _ (here : Around) (other : ℕ → Seen) where
   there = record here { callee = other }
 
   -- both see the same of these
-  abbrev Agree : List ℕ → Type 0
+  abbrev pub Agree : List ℕ → Type 0
   Agree ks = (j : ℕ) → is_among j ks ≡ true → here.callee j ≡ other j
 
-  abbrev Agrees : Tree → Type 0
+  abbrev pub Agrees : Tree → Type 0
   Agrees t = Agree (calls_in_term here.link t)
 
-  abbrev AgreeAll : Trees → Type 0
+  abbrev pub AgreeAll : Trees → Type 0
   AgreeAll ts = Agree (calls_of here.link ts)
 
   first_agrees : (t : Tree) (ts : Trees) → AgreeAll (more t ts) → Agrees t
@@ -225,7 +225,7 @@ body_same here other none env o = refl
 body_same here other (more t ts) env o =
     then_same _ _ _ _ (statement_same here other t env (first_agrees here other t ts o)) (λ made next. body_same (grown here made) other ts next (rest_agree here other t ts o))
 
-method_same : (here : Around) (other : ℕ → Seen) (opcode : ℕ) (ts : Trees) (env : Env) → AgreeAll here other ts → judged_method here opcode ts env ≡ judged_method (record here { callee = other }) opcode ts env
+pub method_same : (here : Around) (other : ℕ → Seen) (opcode : ℕ) (ts : Trees) (env : Env) → AgreeAll here other ts → judged_method here opcode ts env ≡ judged_method (record here { callee = other }) opcode ts env
 method_same here other opcode ts env o = then_same _ _ _ _ (body_same here other ts env o) (λ u next. refl)
 
 if_true : {X : Type 0} (b : Bool) (x y : X) → b ≡ true → (if b then x else y) ≡ x

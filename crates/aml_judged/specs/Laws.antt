@@ -104,7 +104,8 @@ module _ (all : Judging) where
 abbrev pub OrderAnswers : Type 0
 OrderAnswers =
     (all : Judging) (order : List ℕ) → IsBehindCallees (called_from all) [] order →
-    ((k : ℕ) → is_among k order ≡ false → is_short (called_from all) 64 k ≡ false) →
+    ((k : ℕ) (m : Callee) → all.methods.callee k ≡ Some m → is_among k order ≡ false →
+    is_short (called_from all) 64 k ≡ false) →
     AreAccepted all (judged_in_order all (λ k. None) order)
 
 module _ (all : Judging) where

@@ -1,0 +1,2 @@
+pub mod Judgings
+pub mod Gathered
