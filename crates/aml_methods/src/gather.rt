@@ -33,7 +33,10 @@ impl Place<'_> {
     {
         match (action, parts) {
             (Action::Invoke, [name, ..]) => {
-                match self.namespace.link_with_owns(self.method, self.bytes, self.owns, name.at) {
+                match self
+                    .namespace
+                    .link_with_owns(self.method, self.bytes, self.owns, name.at)
+                {
                     Link::Method(id) => Some(id),
                     _ => None,
                 }
@@ -55,7 +58,7 @@ fn gather_all(
     callees: &mut Vec<ObjectId>,
 ) -> Result<(), NoMemory>
     ensures { OnOk result (numbers callees.new.items
-        ≡ numbers callees.old.items ++ calls_of (links_of place) (views terms.now)) }
+        ≡ numbers callees.old.items ++ calls_of (links_of place.entry) (views terms.now)) }
 {
     for term in terms {
         gather(alloc, place, inside, term, shapes, callees)?;
@@ -74,23 +77,32 @@ fn gather(
     callees: &mut Vec<ObjectId>,
 ) -> Result<(), NoMemory>
     ensures { OnOk result (numbers callees.new.items
-        ≡ numbers callees.old.items ++ calls_in_term (links_of place) (view term.now)) }
+        ≡ numbers callees.old.items ++ calls_in_term (links_of place.entry) (view term.now)) }
 {
     let action = action_of(term.op);
-    if let Some(id) = place.callee(action, &term.parts) {
-        push(callees, id)?;
-    }
+    push(callees, place.callee(action, &term.parts))?;
     let literal = matches!(action, Action::Data(_));
     if literal && !inside {
         shapes.intern(alloc, place.namespace.width(), term.op, &term.parts)?;
     }
-    gather_all(alloc, place, inside || literal, &term.parts, shapes, callees)
+    gather_all(
+        alloc,
+        place,
+        inside || literal,
+        &term.parts,
+        shapes,
+        callees,
+    )
 }
 
-/// Adds a method behind some.
-fn push(callees: &mut Vec<ObjectId>, id: ObjectId) -> Result<(), NoMemory>
-    ensures { OnOk result (callees.new.items ≡ callees.old.items ++ id ∷ []) }
+/// Adds the method that is called behind some, if one is.
+fn push(callees: &mut Vec<ObjectId>, callee: Option<ObjectId>) -> Result<(), NoMemory>
+    ensures { OnOk result (numbers callees.new.items
+        ≡ numbers callees.old.items ++ if_any callee) }
 {
+    let Some(id) = callee else {
+        return Ok(());
+    };
     match callees.push(id) {
         Ok(()) => Ok(()),
         Err(_) => Err(NoMemory),
@@ -144,7 +156,8 @@ pub fn gathered(
     ensures { IfOk result (λ pairs. AreCalls (shown namespace.now) pairs.items) }
 {
     let mut pairs = Vec::new(alloc);
-    for id in namespace.methods() {
+    let methods = namespace.methods();
+    for id in methods {
         let callees = callees_of(alloc, namespace, *id, shapes)?;
         keep(&mut pairs, *id, callees)?;
     }

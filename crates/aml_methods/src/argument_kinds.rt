@@ -30,11 +30,7 @@ fn known(kind: ArgumentKind, width: Width) -> Known
 }
 
 /// The same of some arguments.
-fn all_known(
-    alloc: Global,
-    kinds: &[ArgumentKind],
-    width: Width,
-) -> Result<Vec<Known>, AllocError>
+fn all_known(alloc: Global, kinds: &[ArgumentKind], width: Width) -> Result<Vec<Known>, AllocError>
     ensures { IfOk result (λ args. (shapes : ℕ → Shape) →
         kinds_of shapes args.items ≡ map (kind_of_argument width) kinds.now) }
 {
