@@ -1,5 +1,5 @@
 -- What is known around a body, as its judgement has it.
-use Rattle.std.specs.Prelude.{ℕ, ◌++◌, ◌∷◌, [], map, not, Option}
+use Rattle.std.specs.Prelude.{◌≡◌, ℕ, ◌++◌, ◌∷◌, [], map, not, Option}
 use Rattle.std.specs.Option.{option_map}
 use Rattle.aml_components.specs.Components.{are_together}
 use Rattle.aml_components.specs.Heights.{is_short_in}
@@ -54,9 +54,8 @@ around_body b = let ns = shown b.namespace.now in record {
   callee = callee_seen b;
 }
 
--- with one own name more
-abbrev pub grown_body : Body → Option Known → Option BufferPart → Body
-grown_body b held field = record b {
-  held = record b.held { items = b.held.items ++ held ∷ [] };
-  fields = record b.fields { items = b.fields.items ++ field ∷ [] };
-}
+-- with one own name more, which holds what is of a kind, or is a field; and all else the same
+pub record IsGrown (old new : Body) (kind : Option Known) (part : Option BufferPart) : Type 0 where
+  pub same : new ≡ record old { held = new.held; fields = new.fields }
+  pub held : new.held.items ≡ old.held.items ++ kind ∷ []
+  pub fields : new.fields.items ≡ old.fields.items ++ part ∷ []

@@ -1,8 +1,8 @@
 // What is known around a body that is judged.
 
-ghost use Rattle.std.specs.Prelude.{◌≡◌, ◌++◌, ◌∷◌, [], None, OnOk, slice_get, unwrap_or};
+ghost use Rattle.std.specs.Prelude.{◌≡◌, None, OnOk, slice_get, unwrap_or};
 ghost use Rattle.aml_shapes.specs.Numbers.{numbered};
-ghost use Rattle.aml_verify.specs.Bodies.{around_body, grown_body};
+ghost use Rattle.aml_verify.specs.Bodies.{around_body, IsGrown};
 
 use crate::verdict::{Verdict, accepted_at};
 use aml_components::{Components, Heights};
@@ -52,13 +52,23 @@ fn at<T: Copy>(places: &[Option<T>], number: usize) -> Option<T>
 
 impl Body<'_> {
     /// Makes an own name more.
-    fn grow(&mut self, held: Option<Known>, field: Option<BufferPart>) -> Result<(), AllocError>
-        ensures grown { OnOk result (self.new ≡ grown_body self.old held field) }
+    fn grow(&mut self, kind: Option<Known>, part: Option<BufferPart>) -> Result<(), NoMemory>
+        ensures grown { OnOk result (IsGrown self.old self.new kind part) }
+        ensures shapes { self.new.shapes ≡ self.old.shapes }
+    {
+        match self.pushed(kind, part) {
+            Ok(()) => Ok(()),
+            Err(_) => Err(NoMemory),
+        }
+    }
+
+    fn pushed(&mut self, kind: Option<Known>, part: Option<BufferPart>) -> Result<(), AllocError>
+        ensures grown { OnOk result (IsGrown self.old self.new kind part) }
         ensures shapes { self.new.shapes ≡ self.old.shapes }
     {
         self.held.reserve(1)?;
-        self.fields.push(field)?;
-        self.held.push(held)?;
+        self.fields.push(part)?;
+        self.held.push(kind)?;
         Ok(())
     }
 }
@@ -146,14 +156,10 @@ impl Around for Body<'_> {
     }
 
     fn make(&mut self, made: Made) -> Result<(), NoMemory> {
-        let grown = match made {
+        match made {
             Made::Nothing => Ok(()),
             Made::Holding(kind) => self.grow(Some(kind), None),
             Made::Field(part) => self.grow(None, Some(part)),
-        };
-        match grown {
-            Ok(()) => Ok(()),
-            Err(_) => Err(NoMemory),
         }
     }
 }
