@@ -101,7 +101,8 @@ impl Around for Body<'_> {
     }
 
     fn link(&self, at: usize) -> Link {
-        self.namespace.link_with_owns(self.method, self.bytes, self.owns, at)
+        self.namespace
+            .link_with_owns(self.method, self.bytes, self.owns, at)
     }
 
     fn lone(&self, at: usize) -> bool {
@@ -132,7 +133,8 @@ impl Around for Body<'_> {
     }
 
     fn literal(&self, op: Op, parts: &[Term]) -> Result<Known, NoMemory> {
-        self.shapes.find(self.alloc, self.namespace.width(), op, parts)
+        self.shapes
+            .find(self.alloc, self.namespace.width(), op, parts)
     }
 
     fn shared(&self, id: ObjectId) -> Option<Known> {
