@@ -24,7 +24,8 @@ use Rattle.aml_meaning.specs.declared.outcome.Outcome.TheVariants.{Done, AmlErro
 use Rattle.acpi_listing.specs.Arguments.{ListsArguments, ListsBadArguments}
 use Rattle.acpi_text.specs.Events.{events_text}
 use Rattle.acpi_text.specs.Lists.{Lists}
-use Rattle.acpi_text.specs.Names.{names_text, path_of}
+use Rattle.acpi_text.specs.Names.{names_text}
+use Rattle.aml_path_text.specs.Paths.{path_of}
 use Rattle.acpi_text.specs.Outcome.{outcome_line, refusal_line}
 use Rattle.acpi_listing.specs.Faults.{fault_line, nowhere}
 use Rattle.acpi_listing.specs.Files.{Answers, ListsFiles}

@@ -1,10 +1,11 @@
 -- The names of a namespace, as they are printed.
-use Rattle.std.specs.Prelude.{ℕ, List, [], ◌∷◌, ◌++◌, codes, decimal, is_some, unwrap_or, if◌then◌else◌}
+use Rattle.std.specs.Prelude.{ℕ, List, [], ◌∷◌, ◌++◌, codes, decimal, is_some, if◌then◌else◌}
 use Rattle.std.specs.List.{flat_map}
 use Rattle.acpi_text.specs.Text.{joined}
-use Rattle.aml_namespace.specs.Entries.{Entries, object_at, path_numbered}
+use Rattle.aml_namespace.specs.Entries.{Entries, object_at}
 use Rattle.aml_namespace.specs.Load.{Shown}
-use Rattle.aml_paths.specs.Paths.{Path, root}
+use Rattle.aml_path_text.specs.Paths.{path_of}
+use Rattle.aml_paths.specs.Paths.{Path}
 use Rattle.aml_paths.specs.Printed.{path_text}
 use Rattle.aml_namespace.specs.Widths.{bits_of, size_bits}
 use Rattle.aml_namespace.specs.declared.object.Content.{Content}
@@ -14,10 +15,6 @@ use Rattle.aml_namespace.specs.declared.object.Entry.TheVariants.{Own, Alias}
 use Rattle.aml_namespace.specs.declared.object.Object.{Object}
 use Rattle.aml_namespace.specs.declared.object.Object.TheVariants as object
 use Rattle.aml_paths.specs.declared.scope.ObjectId.{ObjectId}
-
--- the path with a number; the root's behind the last
-abbrev pub path_of : Entries → ℕ → Path
-path_of entries number = unwrap_or (path_numbered entries number) root
 
 -- the first path of the object with a number, where there is one
 abbrev pub object_text : Entries → ObjectId → List ℕ

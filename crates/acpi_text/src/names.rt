@@ -2,14 +2,15 @@
 
 ghost use Rattle.std.specs.Prelude.{◌≡◌, ◌++◌, ◌<◌, length, slice_get, IfOk, OnOk, string_bytes};
 ghost use Rattle.acpi_text.specs.Lists.{Lists};
-ghost use Rattle.acpi_text.specs.Names.{content_text, entry_line, entry_text, kind_text, names_text, path_of};
+ghost use Rattle.acpi_text.specs.Names.{content_text, entry_line, entry_text, kind_text, names_text};
+ghost use Rattle.aml_path_text.specs.Paths.{path_of};
 ghost use Rattle.aml_paths.specs.Paths.{Path};
 ghost use Rattle.aml_namespace.specs.Shows.{shown};
 ghost use Rattle.aml_namespace.specs.Widths.{bits_of};
 
-use crate::path::push_path;
 use crate::writing::{RunFault, put};
 use aml_namespace::{Content, Entry, Namespace, Object, Width};
+use aml_path_text::push_path;
 use aml_paths::ObjectId;
 use std::alloc::{AllocError, Global};
 use std::io::Write;
@@ -91,7 +92,8 @@ fn push_entry(
         }
         Entry::Alias(id) => {
             line.extend_from_slice(b"alias ")?;
-            push_path(alloc, line, namespace, id)
+            push_path(alloc, line, namespace, id)?;
+            Ok(())
         }
     }
 }

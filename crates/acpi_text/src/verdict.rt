@@ -2,17 +2,17 @@
 
 ghost use Rattle.std.specs.Prelude.{◌≡◌, IfOk, string_bytes};
 ghost use Rattle.acpi_text.specs.Lists.{Lists};
-ghost use Rattle.acpi_text.specs.Names.{path_of};
+ghost use Rattle.aml_path_text.specs.Paths.{path_of};
 ghost use Rattle.aml_paths.specs.Printed.{path_text};
 ghost use Rattle.acpi_text.specs.Outcome.{refusal_line};
 ghost use Rattle.acpi_text.specs.Verdicts.{refused_part, verdict_line, verdict_part};
 ghost use Rattle.aml_namespace.specs.Shows.{shown};
 
 use crate::cause::cause_text;
-use crate::path::push_path;
 use crate::writing::{RunFault, put};
 use aml_causes::Refusal;
 use aml_namespace::Namespace;
+use aml_path_text::push_path;
 use aml_paths::ObjectId;
 use aml_tree::Refusal as Unread;
 use std::alloc::{AllocError, Global};

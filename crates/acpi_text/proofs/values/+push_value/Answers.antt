@@ -1,5 +1,5 @@
 use Rattle.std.proofs.Common.{◌++◌, ◌≤◌, get_or, ap, ◌∙◌, sym, subst, append_assoc, append-nil, arith, codes}
-use Rattle.acpi_text.proofs.NameLemmas.{added}
+use Rattle.aml_path_text.proofs.PathLemmas.{added}
 use Rattle.acpi_text.proofs.ValueLemmas.{first_element, next_element}
 use Rattle.aml_values.proofs.Depths.{element_le}
 use Rattle.acpi_text.specs.Values.{element_text, element_texts}

@@ -1,8 +1,8 @@
 use Rattle.std.proofs.Common.{◌<◌, ◌++◌, List, [], ◌∷◌, ℕ, get_or, length, ap, ◌∙◌, append_assoc, arith}
-use Rattle.acpi_text.proofs.NameLemmas.{added, first_segment, next_segment}
+use Rattle.aml_path_text.proofs.PathLemmas.{added, first_segment, next_segment}
 use Rattle.aml_lex.specs.declared.names.NameSeg.{NameSeg}
-use Rattle.acpi_text.proofs.path.push_segments.Goals as goal
-use Rattle.acpi_text.proofs.path.push_segments.Goals.{then-i-gt0+in_ok-push-2, else-i-gt0}
+use Rattle.aml_path_text.proofs.path.push_segments.Goals as goal
+use Rattle.aml_path_text.proofs.path.push_segments.Goals.{then-i-gt0+in_ok-push-2, else-i-gt0}
 
 pub loop-i-preserved : goal.loop-i-preserved
 loop-i-preserved c =

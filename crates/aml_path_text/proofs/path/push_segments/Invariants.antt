@@ -1,7 +1,7 @@
 use Rattle.std.proofs.Common.{◌≡◌, ◌++◌, take}
 use Rattle.aml_paths.specs.Printed.{segments_text}
 use Rattle.aml_paths.specs.Steps.{path_seen}
-use Rattle.acpi_text.proofs.path.push_segments.Given as goal
+use Rattle.aml_path_text.proofs.path.push_segments.Given as goal
 
 -- the segments before were added, with a `.` between each two
 abbrev pub invariant-loop-i : goal.invariant-loop-i

@@ -1,0 +1,4 @@
+pub mod Judgings
+pub mod Calls
+pub mod Reaching
+pub mod MadeJudgings

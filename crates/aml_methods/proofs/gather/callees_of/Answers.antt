@@ -1,0 +1,34 @@
+use Rattle.std.proofs.Common.{◌++◌, List, map, ap, ◌∙◌, rules}
+use Rattle.std.specs.Prelude.{IsSome}
+use Rattle.aml_bounds.specs.Calls.{calls_of}
+use Rattle.aml_bounds.specs.Pairs.{numbers}
+use Rattle.aml_namespace.specs.Names.{link_with_owns, method_at}
+use Rattle.aml_namespace.specs.Shows.{shown}
+use Rattle.aml_operators.specs.declared.term.Term.{Term}
+use Rattle.aml_operators.specs.Tree.{view, views}
+use Rattle.aml_own_names.specs.OwnNames.{own_names}
+use Rattle.aml_own_names.specs.OwnNamesSeen.{owns_seen}
+use Rattle.aml_paths.specs.declared.scope.ObjectId.{ObjectId}
+use Rattle.aml_methods.proofs.Calls.{read_calls, refused_calls, there}
+use Rattle.aml_methods.proofs.gather.callees_of.Goals as goal
+
+pub returns-in-Err-Refused : goal.returns-in-Err-Refused
+returns-in-Err-Refused c = λ told all J.
+    ap numbers c.new-callees.ensures.items
+    ∙ refused_calls (shown c.args.namespace.now) c.args.id.0 c.in-Err-Refused.field-0 c.in-Err-Refused.field-0-0 c.in-Err-Refused.field-0-is c.in-Err-Refused.ensures told all J
+
+pub returns : goal.returns
+returns c =
+    let ns = shown c.args.namespace.now in
+    let k = c.args.id.0 in
+    let known : IsSome (method_at ns k) = search rules in
+    let m = there (method_at ns k) known in
+    let bytes = c.body_bytes-bytes.result.now in
+    let owns = owns_seen c.in_ok-owns.owns in
+    let links = link_with_owns ns.entries k bytes owns in
+    read_calls ns k m.0 (map view c.in-Ok.body.items) bytes owns (numbers c.gather_all.new.callees.items) m.1
+    (c.in-Ok.ensures m.0 m.1) (c.body_bytes-bytes.ensures m.0 m.1)
+    (c.in_ok-owns.ensures ∙ ap (λ (ts : List Term). own_names bytes (map view ts)) c.deref.ensures.value)
+    (c.in_ok-gather_all.ensures
+    ∙ ap (λ (ks : List ObjectId). numbers ks ++ calls_of links (views c.deref-2.result.now)) c.new-callees.ensures.items
+    ∙ ap (λ (ts : List Term). calls_of links (views ts)) c.deref-2.ensures.value)

@@ -1,0 +1,33 @@
+-- What methods call, as it is gathered from their bodies.
+use Rattle.std.specs.Prelude.{◌≡◌, ℕ, List, [], ◌∷◌, Option, Some, None, true}
+use Rattle.aml_bounds.specs.Chains.{is_among}
+use Rattle.aml_bounds.specs.Pairs.{calls_in, named, Pair}
+use Rattle.aml_judged.specs.Verdicts.{called_from, Judging}
+use Rattle.aml_namespace.specs.declared.link.Link.{Link}
+use Rattle.aml_namespace.specs.declared.object.Method.{Method}
+use Rattle.aml_namespace.specs.Load.{Shown}
+use Rattle.aml_namespace.specs.Names.{link_with_owns, method_at}
+use Rattle.aml_namespace.specs.Shows.{shown}
+use Rattle.aml_own_names.specs.OwnNamesSeen.{owns_seen}
+use Rattle.aml_paths.specs.declared.scope.ObjectId.{ObjectId}
+use Rattle.aml_methods.specs.Judgings.{IsJudging, Told}
+use Rattle.aml_methods.specs.declared.gather.Place.{Place}
+
+-- what the names of a body mean
+abbrev pub links_of : Place → ℕ → Link
+links_of p = link_with_owns (shown p.namespace.now).entries p.method.0 p.bytes.now (owns_seen p.owns.now)
+
+-- a method's number, if there is one
+abbrev pub if_any : Option ObjectId → List ℕ
+if_any (Some id) = id.0 ∷ []
+if_any None = []
+
+-- the methods that the method with a number calls, however its arguments are told
+abbrev pub IsCalledFrom : Shown → ℕ → List ℕ → Type 0
+IsCalledFrom ns k callees =
+    (told : Told) (all : Judging) → IsJudging ns told all → callees ≡ called_from all k
+
+-- each method has a pair, with those that it calls
+pub record AreCalls (ns : Shown) (pairs : List Pair) : Type 0 where
+  pub each : (k : ℕ) → IsCalledFrom ns k (calls_in pairs k)
+  pub all : (k : ℕ) (m : Method) → method_at ns k ≡ Some m → is_among k (named pairs) ≡ true

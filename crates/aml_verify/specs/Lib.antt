@@ -1,0 +1,3 @@
+pub mod Said
+pub mod Bodies
+pub mod Verdicts

@@ -1,0 +1,167 @@
+// What is known around a body that is judged.
+
+ghost use Rattle.std.specs.Prelude.{◌≡◌, None, OnOk, slice_get, unwrap_or};
+ghost use Rattle.aml_shapes.specs.Numbers.{numbered};
+ghost use Rattle.aml_verify.specs.Bodies.{around_body, IsGrown};
+
+use crate::verdict::{Verdict, accepted_at};
+use aml_components::{Components, Heights};
+use aml_fields::{field_in, part_numbered, read_count, write_count};
+use aml_judging::{Around, FieldCosts, Made, Seen};
+use aml_known::{ElementKnown, Known, ShapeNumber, Shapes};
+use aml_lex::name_there;
+use aml_meaning::BufferPart;
+use aml_namespace::{Link, Namespace, Object, Width};
+use aml_operators::{Op, Term};
+use aml_own_names::OwnNames;
+use aml_paths::{NoMemory, ObjectId};
+use aml_shapes::ShapeTable;
+use std::alloc::{AllocError, Global};
+
+/// What is known around a method's body, and the own names that it made so far.
+#[derive(Drop)]
+pub(crate) struct Body<'b> {
+    pub alloc: Global,
+    pub namespace: &'b Namespace<'b>,
+    pub method: ObjectId,
+    /// The number of its table.
+    pub table: usize,
+    pub bytes: &'b [u8],
+    pub owns: &'b OwnNames,
+    pub shapes: &'b ShapeTable,
+    /// The kinds of data names, by the numbers of their objects.
+    pub shared: &'b [Option<Known>],
+    pub verdicts: &'b [Option<Verdict>],
+    pub heights: &'b Heights,
+    pub components: &'b Components,
+    /// Of each own name that was made the kind of what it holds, unless it is a field.
+    pub held: Vec<Option<Known>>,
+    /// Of each the field that it is.
+    pub fields: Vec<Option<BufferPart>>,
+}
+
+/// A copy of what stands at a place, if anything does.
+fn at<T: Copy>(places: &[Option<T>], number: usize) -> Option<T>
+    ensures { result ≡ unwrap_or (slice_get places.now number) None }
+{
+    match places.get(number) {
+        Some(Some(found)) => Some(*found),
+        _ => None,
+    }
+}
+
+impl Body<'_> {
+    /// Makes an own name more.
+    fn grow(&mut self, kind: Option<Known>, part: Option<BufferPart>) -> Result<(), NoMemory>
+        ensures grown { OnOk result (IsGrown self.old self.new kind part) }
+        ensures shapes { self.new.shapes ≡ self.old.shapes }
+    {
+        match self.pushed(kind, part) {
+            Ok(()) => Ok(()),
+            Err(_) => Err(NoMemory),
+        }
+    }
+
+    fn pushed(&mut self, kind: Option<Known>, part: Option<BufferPart>) -> Result<(), AllocError>
+        ensures grown { OnOk result (IsGrown self.old self.new kind part) }
+        ensures shapes { self.new.shapes ≡ self.old.shapes }
+    {
+        self.held.reserve(1)?;
+        self.fields.push(part)?;
+        self.held.push(kind)?;
+        Ok(())
+    }
+}
+
+impl Shapes for Body<'_> {
+    ghost numbered = { λ b. numbered b.shapes.now };
+
+    fn places(&self, shape: ShapeNumber) -> Result<u64, NoMemory> {
+        self.shapes.places(shape)
+    }
+
+    fn place(&self, shape: ShapeNumber, number: u64) -> Result<Option<ElementKnown>, NoMemory> {
+        self.shapes.place(shape, number)
+    }
+
+    fn joined(&self, shape: ShapeNumber) -> Result<Option<ElementKnown>, NoMemory> {
+        self.shapes.joined(shape)
+    }
+}
+
+impl Around for Body<'_> {
+    ghost around = { around_body };
+
+    fn table(&self) -> usize {
+        self.table
+    }
+
+    fn width(&self) -> Width {
+        self.namespace.width()
+    }
+
+    fn link(&self, at: usize) -> Link {
+        self.namespace
+            .link_with_owns(self.method, self.bytes, self.owns, at)
+    }
+
+    fn lone(&self, at: usize) -> bool {
+        match name_there(self.bytes, at) {
+            Some(name) => name.lone_segment().is_some(),
+            None => false,
+        }
+    }
+
+    fn object(&self, id: ObjectId) -> Option<Object> {
+        self.namespace.object(id)
+    }
+
+    fn field(&self, id: ObjectId) -> Option<FieldCosts> {
+        let Some(Object::Field(field)) = self.namespace.object(id) else {
+            return None;
+        };
+        let any = field_in(self.namespace, &field)?;
+        Some(FieldCosts {
+            bits: any.layout().bits,
+            reads: read_count(&any),
+            writes: write_count(&any),
+        })
+    }
+
+    fn buffer_field(&self, id: ObjectId) -> Option<BufferPart> {
+        part_numbered(self.namespace, id)
+    }
+
+    fn literal(&self, op: Op, parts: &[Term]) -> Result<Known, NoMemory> {
+        self.shapes
+            .find(self.alloc, self.namespace.width(), op, parts)
+    }
+
+    fn shared(&self, id: ObjectId) -> Option<Known> {
+        at(self.shared, id.0)
+    }
+
+    fn callee(&self, id: ObjectId) -> Seen<'_> {
+        Seen {
+            reaches: self.components.reach_each_other(id, self.method),
+            deep: !self.heights.is_short(id, 63),
+            accepted: accepted_at(self.verdicts, id.0),
+        }
+    }
+
+    fn own(&self, number: usize) -> Option<Known> {
+        at(&self.held, number)
+    }
+
+    fn own_field(&self, number: usize) -> Option<BufferPart> {
+        at(&self.fields, number)
+    }
+
+    fn make(&mut self, made: Made) -> Result<(), NoMemory> {
+        match made {
+            Made::Nothing => Ok(()),
+            Made::Holding(kind) => self.grow(Some(kind), None),
+            Made::Field(part) => self.grow(None, Some(part)),
+        }
+    }
+}

@@ -1,0 +1,21 @@
+//! The verifier: a verdict on each method of a namespace before any of them runs (the rules are the
+//! project's own; `docs/VERDICTS.md` tells them).
+//!
+//! Rooms: `verifier` judges one body at a time, each behind those that it calls; `body` has what is known
+//! around a body, `verdict` what is said of a method, `checked` what is said of all.
+#![tactic(auto)]
+
+mod body;
+mod checked;
+mod verdict;
+mod verifier;
+
+pub use checked::Checked;
+pub use verdict::Verdict;
+pub use verifier::{Verifier, verify};
+
+use std::rt::HostRuntime;
+#[test]
+fn nothing(rt: HostRuntime) {
+    assert!(rt; 1 < 2);
+}
