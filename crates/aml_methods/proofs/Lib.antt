@@ -1,4 +1,3 @@
 pub mod Judgings
 pub mod Calls
-pub mod Reaching
-pub mod MadeJudgings
+pub mod JudgingsThere

@@ -1,9 +1,9 @@
-// A law of the definitions that judging speaks of.
+// A law over the definitions alone.
 
 ghost use Rattle.aml_methods.specs.Laws.{JudgingsAreThere};
 
-/// Each namespace whose methods have their statements has a judging of them, whatever signatures tell.
-/// So what is said for all such judgings is said of some.
+/// Each namespace has a judging of its methods, whatever signatures tell of them; so what is said of
+/// all of them is said of one.
 pub fn judgings_are_there()
     ensures { JudgingsAreThere }
 {}
