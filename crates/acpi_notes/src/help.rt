@@ -60,7 +60,7 @@ Usage: acpicheck verify [OPTIONS] FILES
 
 Loads a DSDT and the SSDTs behind it, and prints of each method that it is accepted, with the most
 steps that it takes, or why it is refused, with the table and the byte. An accepted method meets no
-AML error, whatever its arguments, its names and its registers hold.
+AML error, whatever its arguments of these kinds, the names and the registers hold.
   acpicheck verify dsdt.dat ssdt1.dat
 
   --kinds FILE        lines PATH KINDS that tell the kinds of a method's arguments, as
