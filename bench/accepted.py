@@ -4,14 +4,15 @@
     python3 bench/accepted.py [--program PATH] [--bodies N] [--seed S] [--keep FOLDER]
 
 A table has names of each kind, regions with fields, fields of buffers, mutexes, and methods that are made at random
-(bench/terms.py) and call each other. Beside it stands a second table, in which a few operators and literals of the
-first are others: of that much is refused, and what is accepted was not written to be. `verify` judges both, with the
-kinds of arguments that the methods were written for. Each accepted method is evaluated three times by `eval --plain`
-with just its own steps, over registers of all zeros, of all ones and of made bytes, with arguments that are least,
-greatest and made.
+(bench/terms.py) and call each other. Every second table is sure: each of its methods is written so that it must be
+accepted. In the others some dare more than is known. Beside each stands a table in which a few operators and literals
+of the first are others: of that much is refused, and what is accepted was not written to be. `verify` judges all, with
+the kinds of arguments that the methods were written for. Each accepted method is evaluated three times by
+`eval --plain` with just its own steps, over registers of all zeros, of all ones and of made bytes, with arguments that
+are least, greatest and made.
 
-A run is a failure where its last line is `error` or `out of steps`, or its status is not 0; where `verify` itself ends
-otherwise than with 0 or 3 that is one too. A failure is told with the seed and the number of its table, and kept in
+A run is a failure where its last line is `error` or `out of steps`, or its status is not 0; a refusal in a sure table
+is one; and where `verify` itself ends otherwise than with 0 or 3. A failure is told with the seed and the number of its table, and kept in
 FOLDER, if one is given. Methods of more than 200,000 steps are judged and not run. N accepted bodies are wanted, 10,000
 if it is not given; S is 1, and tables are numbered from 0. Behind all stands how often each operator stood in a method
 that was accepted as it was written.
@@ -32,6 +33,7 @@ MOST_STEPS = 200_000
 SECONDS = 60
 WORKERS = 4
 METHODS = 6
+DARING = 0.03
 TABLES = 8
 REGISTERS = ["zeros", "ones", "made"]
 SPACES = {"mem": (0, 0x1000, 64), "io": (1, 0x60, 64)}
@@ -130,11 +132,11 @@ def argument_kinds(chance, greatest):
     return [chance.choice(choices) for _ in range(chance.randint(0, 4))]
 
 
-def made_table(chance):
+def made_table(chance, daring):
     """A table, its revision, its methods, and the text of their kinds."""
     width = chance.choice([32, 64])
     definitions, names = surroundings(chance, width)
-    maker = terms.Maker(chance, names, width)
+    maker = terms.Maker(chance, names, width, daring)
     greatest = (1 << width) - 1
     for number in range(METHODS):
         gives = chance.choice([("int", 3), ("int", 255), ("int", greatest), ("buf", 4), ("str", 3), None])
@@ -227,7 +229,7 @@ def tried_method(program, tried, chance, room, method, steps):
     return found
 
 
-def tried_table(program, tried, chance, room, table, methods, written):
+def tried_table(program, tried, chance, room, table, methods, written, sure):
     """Judges a table and runs what is accepted."""
     with open(f"{room}/t.bin", "wb") as it:
         it.write(table)
@@ -240,6 +242,7 @@ def tried_table(program, tried, chance, room, table, methods, written):
         tried.methods[written] += 1
         if words[1] != "accepted":
             tried.causes[words[4]] += written
+            found += [f"it must be accepted: {line}"] if sure and written else []
             continue
         tried.accepted[written] += 1
         tried.operators += method.operators if written else Counter()
@@ -257,14 +260,15 @@ def part(task):
     with tempfile.TemporaryDirectory() as room:
         for number in range(first, behind):
             chance = random.Random(seed * 1_000_003 + number)
-            definitions, revision, methods, text = made_table(chance)
+            sure = number % 2 == 0
+            definitions, revision, methods, text = made_table(chance, 0 if sure else DARING)
             with open(f"{room}/t.kinds", "w", encoding="ascii") as it:
                 it.write(text)
             for written in (True, False):
                 inner = definitions if written else changed(chance, definitions, methods)
                 table = rows.table_of(b"DSDT", revision, inner)
                 name = f"table {number} of seed {seed}, {'as written' if written else 'changed'}"
-                found = tried_table(program, tried, chance, room, table, methods, written)
+                found = tried_table(program, tried, chance, room, table, methods, written, sure)
                 tried.failures += [f"{name}: {line}" for line in found]
                 if found and keep:
                     for suffix, content in (("bin", table), ("kinds", text.encode())):
@@ -274,9 +278,7 @@ def part(task):
 
 
 def told(tried, seed, tables):
-    """Tells what came of all tables."""
-    for line in tried.failures:
-        print(line)
+    """Tells what came of all tables, but for the failures."""
     causes = ", ".join(f"{count} {cause}" for cause, count in tried.causes.most_common())
     print("operators of accepted bodies: " + ", ".join(f"{name} {count}" for name, count in sorted(tried.operators.items())))
     print(f"refused as written: {causes or 'none'}")
@@ -304,6 +306,8 @@ def main():
             tasks = [(program, given.seed, number + k * TABLES, number + (k + 1) * TABLES, given.keep) for k in range(WORKERS)]
             for one in pool.map(part, tasks):
                 tried.add(one)
+                for line in one.failures:
+                    print(line, flush=True)
             number += WORKERS * TABLES
             if not sum(tried.accepted.values()):
                 break

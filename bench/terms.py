@@ -1,8 +1,8 @@
 """Makes methods' bodies at random, over every operator that has a meaning, most of which a verifier accepts.
 
 A Maker writes one method after the other. It knows of each local, argument and name the kind that a verifier would
-know, or less, and writes each operand of a kind that its operator takes; so what it writes is mostly accepted. With a
-small chance it dares more than it knows: an index or a value one past what may be. What a verifier accepts of that must
+know, or less, and writes each operand of a kind that its operator takes; so what it writes is accepted. A daring one
+writes now and then more than it knows: an index or a value one past what may be. What a verifier accepts of that must
 go well too.
 
 Kinds are tuples: ("int", most), ("buf", bytes), ("str", characters), ("pkg", elements), ("anypkg",); an element of a
@@ -15,7 +15,6 @@ import rows
 
 LOCALS, ARGUMENTS = range(0x60, 0x68), range(0x68, 0x6F)
 DEPTH, BREADTH = 3, 5
-DARING = 0.03
 PAIRS = {"Subtract": 0x74, "Nand": 0x7C, "Nor": 0x7E}
 COMPARED = {"LAnd": 0x90, "LOr": 0x91, "LGreater": 0x94, "LLess": 0x95}
 BUFFER_FIELDS = {"CreateBitField": (0x8D, 1), "CreateByteField": (0x8C, 8), "CreateWordField": (0x8B, 16),
@@ -60,8 +59,8 @@ class Names:
 class Maker:
     """Writes methods over the names of a table, at a width of integers."""
 
-    def __init__(self, chance, names, width):
-        self.chance, self.names, self.width = chance, names, width
+    def __init__(self, chance, names, width, daring):
+        self.chance, self.names, self.width, self.daring = chance, names, width, daring
         self.greatest = (1 << width) - 1
         self.methods = []
 
@@ -78,7 +77,7 @@ class Maker:
         self.method.operators[name] += 1
 
     def dares(self):
-        return self.chance.random() < DARING
+        return self.chance.random() < self.daring
 
     def flips(self, share=0.5):
         return self.chance.random() < share
@@ -118,8 +117,7 @@ class Maker:
         return self.chance.choice(ways)(kind) or b"\x00"
 
     def slot_target(self, kind):
-        slots = [slot for slot in LOCALS if self.takes(slot, kind)]
-        slots += [slot for slot in list(self.slots) if slot in ARGUMENTS and self.takes(slot, kind)]
+        slots = [slot for slot in [*LOCALS, *ARGUMENTS] if self.takes(slot, kind)]
         if not slots:
             return b""
         slot = self.chance.choice(slots)
@@ -183,10 +181,12 @@ class Maker:
         return ways
 
     def literal_term(self, most, _depth):
-        number = self.chance.choice([0, 1, most, self.chance.randrange(most + 1), self.chance.randrange(min(most, 20) + 1)])
+        number = self.chance.choice([0, min(1, most), most, self.chance.randint(0, most), self.chance.randint(0, min(most, 20))])
         self.took("literal")
         if number == self.greatest and self.flips():
             return b"\xFF", number
+        if self.width == 32 and self.flips(0.1):
+            return literal(number | self.chance.getrandbits(32) << 32), number
         return literal(number), number
 
     def known_term(self, most, _depth):
@@ -453,10 +453,14 @@ class Maker:
         return b"\x96" + term + self.target(kind)
 
     def package_term(self, kind):
-        known = [bytes([slot]) for slot in self.slots_of(lambda own: own == kind or kind[0] == "anypkg" and own[0] == "pkg")]
-        known += self.data_of(lambda own: own == kind or kind[0] == "anypkg" and own[0] == "pkg")
-        if known and self.flips(0.7):
+        fits = lambda own: own == kind or kind[0] == "anypkg" and own[0] in ("pkg", "anypkg")
+        known = [bytes([slot]) for slot in self.slots_of(fits)] + self.data_of(fits)
+        if known and self.flips(0.6):
             return self.chance.choice(known)
+        if self.flips(0.3):
+            element = self.element_of(fits, 1)
+            if element:
+                return element[0]
         self.took("Package")
         return package_literal(self.chance, kind[1] if kind[0] == "pkg" else (("int", 5), "name", "unset"))
 
@@ -484,7 +488,7 @@ class Maker:
         if self.may_break and self.flips(0.06):
             self.took("Break")
             return b"\xA5"
-        if self.may_continue and self.flips(0.06):
+        if self.may_continue and self.flips(0.2):
             self.took("Continue")
             return b"\x9F"
         return b""
@@ -588,10 +592,12 @@ class Maker:
         begins = self.widened()
         self.slots = dict(begins)
         body = self.in_loop(self.chance.randint(0, BREADTH), depth, None, begins)
+        leaves = b"\xA5"
         if self.may_return and self.flips(0.3):
-            return package([0xA2], test + body + self.returned())
-        self.took("Break")
-        return package([0xA2], test + body + b"\xA5")
+            leaves = self.returned()
+            self.slots = dict(begins)
+        self.took("While ONCE")
+        return package([0xA2], test + body + leaves)
 
     def counter(self, most):
         """A local that counts, with a store of at most `most` into it."""
@@ -723,6 +729,8 @@ def package_literal(chance, elements):
             found += b"\x0D" + bytes(chance.randint(1, 127) for _ in range(kind[1])) + b"\x00"
         else:
             found += package_literal(chance, kind[1])
+    if chance.random() < 0.3:
+        return package([0x13], literal(len(elements)) + found)
     return package([0x12], bytes([len(elements)]) + found)
 
 
