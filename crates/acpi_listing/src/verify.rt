@@ -59,11 +59,20 @@ fn verify_inputs<N: Notes, W: Write>(
 {
     let namespace = load_counted(alloc, inputs, &request.inputs, &[], notes)?;
     let checked = verdicts_on(alloc, &namespace, signatures)?;
-    let status = tell_verdicts(alloc, out, &checked)?;
+    tell_reasons(alloc, request, &checked, notes);
+    tell_verdicts(alloc, out, &checked)
+}
+
+// Tells people why methods are refused, where that is asked for.
+fn tell_reasons<N: Notes>(
+    alloc: Global,
+    request: &VerifyRequest<'_>,
+    checked: &Checked<'_>,
+    notes: &N,
+) {
     if request.explain {
-        tell_refused(alloc, notes, &checked, request.inputs.files.as_slice());
+        tell_refused(alloc, notes, checked, request.inputs.files.as_slice());
     }
-    Ok(status)
 }
 
 // The verdicts on the methods of a namespace.
