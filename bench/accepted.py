@@ -12,10 +12,10 @@ the kinds of arguments that the methods were written for. Each accepted method i
 are least, greatest and made.
 
 A run is a failure where its last line is `error` or `out of steps`, or its status is not 0; a refusal in a sure table
-is one; and where `verify` itself ends otherwise than with 0 or 3. A failure is told with the seed and the number of its table, and kept in
-FOLDER, if one is given. Methods of more than 200,000 steps are judged and not run. N accepted bodies are wanted, 10,000
-if it is not given; S is 1, and tables are numbered from 0. Behind all stands how often each operator stood in a method
-that was accepted as it was written.
+is one; and where `verify` itself ends otherwise than with 0 or 3. A failure is told with the seed and the number of its
+table, and kept in FOLDER, if one is given. Methods of more than 200,000 steps are judged and not run. N accepted bodies
+are wanted, 10,000 if it is not given; S is 1, and tables are numbered from 0. Behind all stands how often each operator
+stood in a method that was accepted as it was written.
 """
 import argparse
 import os
@@ -38,9 +38,9 @@ TABLES = 8
 REGISTERS = ["zeros", "ones", "made"]
 SPACES = {"mem": (0, 0x1000, 64), "io": (1, 0x60, 64)}
 # Operators of the same operands, and literals: each may stand for another of its row.
-ALIKE = [bytes([0x72, 0x74, 0x77, 0x79, 0x7A, 0x7B, 0x7C, 0x7D, 0x7E, 0x7F, 0x85, 0x73]), bytes([0x80, 0x81, 0x82, 0x96, 0x99]),
-         bytes([0x90, 0x91, 0x93, 0x94, 0x95]), bytes([0x75, 0x76, 0x87]), bytes([0xA3, 0xA5, 0x9F, 0xCC, 0x00, 0x01, 0xFF]),
-         bytes(range(0x60, 0x6F)), bytes([0x00, 0x01, 0xFF])]
+ALIKE = [bytes([0x72, 0x74, 0x77, 0x79, 0x7A, 0x7B, 0x7C, 0x7D, 0x7E, 0x7F, 0x85, 0x73]),
+         bytes([0x80, 0x81, 0x82, 0x96, 0x99]), bytes([0x90, 0x91, 0x93, 0x94, 0x95]), bytes([0x75, 0x76, 0x87]),
+         bytes([0xA3, 0xA5, 0x9F, 0xCC, 0x00, 0x01, 0xFF]), bytes(range(0x60, 0x6F)), bytes([0x00, 0x01, 0xFF])]
 
 
 def field_list(chance, region, prefix):
@@ -75,8 +75,8 @@ def data_names(chance, width):
     """Definitions of names of data, and their kinds."""
     greatest = (1 << width) - 1
     elements = (("int", 3), ("buf", 4), ("str", 3), "name", ("pkg", (("int", 1), ("int", 2))), "unset")
-    kinds = {b"INT0": ("int", greatest), b"INT1": ("int", greatest), b"BUF0": ("buf", 16), b"BUF1": ("buf", 4), b"BUF9": ("buf", 9),
-             b"BUFE": ("buf", 0), b"STR0": ("str", 3), b"STRE": ("str", 0),
+    kinds = {b"INT0": ("int", greatest), b"INT1": ("int", greatest), b"BUF0": ("buf", 16), b"BUF1": ("buf", 4),
+             b"BUF9": ("buf", 9), b"BUFE": ("buf", 0), b"STR0": ("str", 3), b"STRE": ("str", 0),
              b"PKG0": ("pkg", (("int", 3), ("int", 9))), b"PKG1": ("pkg", elements)}
     found = b""
     for name, kind in kinds.items():
@@ -128,7 +128,8 @@ def surroundings(chance, width):
 
 def argument_kinds(chance, greatest):
     """The kinds of a method's arguments."""
-    choices = [("int", greatest), ("int", 15), ("int", 0), ("int", 300), ("buf", 4), ("buf", 0), ("str", 3), ("anypkg",)]
+    choices = [("int", greatest), ("int", 15), ("int", 0), ("int", 300), ("buf", 4), ("buf", 0), ("str", 3),
+               ("anypkg",)]
     return [chance.choice(choices) for _ in range(chance.randint(0, 4))]
 
 
@@ -280,10 +281,12 @@ def part(task):
 def told(tried, seed, tables):
     """Tells what came of all tables, but for the failures."""
     causes = ", ".join(f"{count} {cause}" for cause, count in tried.causes.most_common())
-    print("operators of accepted bodies: " + ", ".join(f"{name} {count}" for name, count in sorted(tried.operators.items())))
+    operators = ", ".join(f"{name} {count}" for name, count in sorted(tried.operators.items()))
+    print(f"operators of accepted bodies: {operators}")
     print(f"refused as written: {causes or 'none'}")
-    print(f"seed {seed}, {tables} tables: accepted {tried.accepted[True]} of {tried.methods[True]} bodies as written and "
-          f"{tried.accepted[False]} of {tried.methods[False]} changed ones; {tried.runs} runs, {tried.long} bodies too long to run")
+    print(f"seed {seed}, {tables} tables: accepted {tried.accepted[True]} of {tried.methods[True]} bodies as written "
+          f"and {tried.accepted[False]} of {tried.methods[False]} changed ones; {tried.runs} runs, {tried.long} bodies "
+          "too long to run")
     print(f"{sum(tried.accepted.values()) - len(tried.failures)} passed, {len(tried.failures)} failed")
 
 
@@ -303,7 +306,8 @@ def main():
     program, tried, number = os.path.abspath(given.program), Tried(), given.first
     with ProcessPoolExecutor(WORKERS) as pool:
         while sum(tried.accepted.values()) < given.bodies:
-            tasks = [(program, given.seed, number + k * TABLES, number + (k + 1) * TABLES, given.keep) for k in range(WORKERS)]
+            tasks = [(program, given.seed, first, first + TABLES, given.keep)
+                     for first in range(number, number + WORKERS * TABLES, TABLES)]
             for one in pool.map(part, tasks):
                 tried.add(one)
                 for line in one.failures:

@@ -181,7 +181,8 @@ class Maker:
         return ways
 
     def literal_term(self, most, _depth):
-        number = self.chance.choice([0, min(1, most), most, self.chance.randint(0, most), self.chance.randint(0, min(most, 20))])
+        numbers = [0, min(1, most), most, self.chance.randint(0, most), self.chance.randint(0, min(most, 20))]
+        number = self.chance.choice(numbers)
         self.took("literal")
         if number == self.greatest and self.flips():
             return b"\xFF", number
@@ -225,7 +226,8 @@ class Maker:
         left, greatest = self.integer(min(most * divisor, self.greatest), depth)
         self.took("Divide")
         first = self.target(("int", min(greatest, divisor - 1)))
-        return b"\x78" + left + literal(divisor) + first + self.target(("int", greatest // divisor)), greatest // divisor
+        most = greatest // divisor
+        return b"\x78" + left + literal(divisor) + first + self.target(("int", most)), most
 
     def shifted_right(self, most, depth):
         count = self.chance.choice([0, 1, 3, 8, self.width - 1, self.width, 200])
@@ -331,7 +333,8 @@ class Maker:
         term, place, kind = self.chance.choice(places)
         self.took("DerefOf Index")
         whole = (self.names.data | self.owns).get(term) or self.slots.get(term[0])
-        if kind[0] == "int" and all(isinstance(it, tuple) and it[0] == "int" and test(it) for it in whole[1]) and self.flips():
+        alike = all(isinstance(it, tuple) and it[0] == "int" and test(it) for it in whole[1])
+        if kind[0] == "int" and alike and self.flips():
             index, _ = self.integer(len(whole[1]) - 1 + self.dares(), depth)
             return b"\x83\x88" + term + index + b"\x00", max(it[1] for it in whole[1])
         return b"\x83\x88" + term + literal(place) + b"\x00", kind[1]
@@ -408,8 +411,8 @@ class Maker:
         ways = [lambda: self.bytes_literal(kind), lambda: self.chance.choice(known) if known else None]
         if depth > 0:
             ways += [lambda: self.concatenated(kind, depth - 1), lambda: self.bytes_kept(kind, depth - 1),
-                     lambda: self.first(self.element_of(same, depth - 1)), lambda: self.first(self.call(same, depth - 1)),
-                     lambda: self.buffer_made(kind, depth - 1)]
+                     lambda: self.first(self.element_of(same, depth - 1)),
+                     lambda: self.first(self.call(same, depth - 1)), lambda: self.buffer_made(kind, depth - 1)]
         for _ in range(6):
             found = self.chance.choice(ways)()
             if found:
@@ -470,7 +473,8 @@ class Maker:
         """Statements, and whether the end behind them is reached."""
         found, reached = b"", True
         for _ in range(count):
-            ways = [self.stored] * 4 + [self.evaluated] * 2 + [self.nothing, self.event, self.notified, self.stored_bytes]
+            ways = [self.stored] * 4 + [self.evaluated] * 2
+            ways += [self.nothing, self.event, self.notified, self.stored_bytes]
             if depth > 0:
                 ways += [self.branch] * 3 + [self.loop] * 2 + [self.guarded]
             if top:
@@ -585,7 +589,8 @@ class Maker:
 
     def widened(self):
         """What is known, with any integer in each local and argument that holds one."""
-        return {slot: ("int", self.greatest) if kind and kind[0] == "int" else kind for slot, kind in self.slots.items()}
+        any_integer = ("int", self.greatest)
+        return {slot: any_integer if kind and kind[0] == "int" else kind for slot, kind in self.slots.items()}
 
     def once(self, depth):
         test, _, _ = self.test()
@@ -664,7 +669,8 @@ class Maker:
 
     def own_name(self, _depth):
         name = b"OW%02d" % (len(self.owns) + len(self.own_fields))
-        kind = self.chance.choice([("int", self.greatest), ("buf", 4), ("buf", 9), ("str", 3), ("pkg", (("int", 3), ("int", 9)))])
+        package_kind = ("pkg", (("int", 3), ("int", 9)))
+        kind = self.chance.choice([("int", self.greatest), ("buf", 4), ("buf", 9), ("str", 3), package_kind])
         self.took("Name")
         if kind[0] == "int":
             found = literal(self.chance.randint(0, self.greatest))
@@ -676,7 +682,8 @@ class Maker:
         return b"\x08" + name + found
 
     def own_field(self, _depth):
-        sources = [(name, (self.names.data | self.owns)[name][1]) for name in self.data_of(lambda kind: kind[0] == "buf")]
+        known = self.names.data | self.owns
+        sources = [(name, known[name][1]) for name in self.data_of(lambda kind: kind[0] == "buf")]
         name = b"OW%02d" % (len(self.owns) + len(self.own_fields))
         found, kind = buffer_field(self.chance, self.width, sources, name, self.dares())
         if found:
