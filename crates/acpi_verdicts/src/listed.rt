@@ -1,6 +1,6 @@
 // The verdicts on the methods of a namespace, as they are printed.
 
-ghost use Rattle.std.specs.Prelude.{◌≡◌, ◌↔◌, IsTrue};
+ghost use Rattle.std.specs.Prelude.{◌≡◌};
 ghost use Rattle.acpi_text.specs.Lists.{Lists};
 ghost use Rattle.acpi_verdicts.specs.Verdicts.{any_refused, is_refused, line_of, said_of, said_text, verdicts_text};
 ghost use Rattle.aml_namespace.specs.Shows.{shown};
