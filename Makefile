@@ -1,7 +1,7 @@
 # WORDS of the program, as make try WORDS="names my.dat".
 WORDS =
 
-.PHONY: try run test cases rows growths edits hostile bench loops stack check fmt
+.PHONY: try run test cases rows growths edits hostile accepted bench loops stack check fmt
 
 # The first answer in a minute: builds acpicheck from its sources, without proofs, and runs it on the example, or on
 # words and files of your own: make try WORDS="eval --plain 100 --method '\_SB_.PCI0._STA' my.dat".
@@ -43,6 +43,10 @@ edits:
 # Every command over tables that are changed at random, by the program that `make test` leaves.
 hostile:
 	@python3 bench/hostile.py
+
+# Bodies made at random, of which each that `verify` accepts is run over registers, by the program that `make test` leaves.
+accepted:
+	@python3 bench/accepted.py
 
 # Loops timed beside ACPICA's acpiexec (apt-get install acpica-tools), by the program that `make run` builds.
 bench:

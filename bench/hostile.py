@@ -71,6 +71,8 @@ def words_of(chance, count):
         ["tables", *files],
         ["names", *files],
         ["names", "--dead-externals", *files],
+        ["verify", *files],
+        ["verify", "--explain", "--dead-externals", *files],
         ["eval", "--plain", "10000", "--method", name, *files],
         ["eval", "--plain", "10000", "--dead-externals", "--method", name, *files],
         ["eval", "--plain", "10000", "--args", "0x1,buf:00FF,str:A,pkg", "--method", name, *files],

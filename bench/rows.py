@@ -45,8 +45,8 @@ between braces is its hex text.
 
 OUTPUT is the lines of standard output with `; ` between each two; `+ ` at a line's front stands for two spaces, and
 ` *N` behind a line for N of it; of a load `-` is no line. The status must be that of the last line: 2 of E520, 1 of
-another fault, 3 of an error, a refused body and `out of steps`, else 0. Standard error must be empty where the status
-is 0 or 3.
+another fault, 3 of an error and `out of steps`, else 0; but 3 where any line is that of a refused method and the last
+one is no fault. Standard error must be empty where the status is 0 or 3.
 
 The program is the one that `rt ci` leaves in crates/acpicheck/out, or the one at PATH. FILE is a path; without any, all
 files are taken.
@@ -362,12 +362,13 @@ def status_of(line):
     """The status that goes with a last line."""
     if line.startswith("fault "):
         return 2 if line.startswith("fault E520 ") else 1
-    return 3 if line.startswith("error ") or line == OUT_OF_STEPS or re.match(r"\\\S* refused ", line) else 0
+    return 3 if line.startswith("error ") or line == OUT_OF_STEPS else 0
 
 
 def answer_of(lines):
     """The standard output and the status that lines stand for."""
-    return "".join(f"{line}\n" for line in lines).encode(), status_of(lines[-1])
+    is_refused = any(re.match(r"\\\S* refused ", line) for line in lines)
+    return "".join(f"{line}\n" for line in lines).encode(), status_of(lines[-1]) or (3 if is_refused else 0)
 
 
 def lay_out(row, room):

@@ -1,7 +1,7 @@
 #!/usr/bin/env python3
 """Builds acpicheck from its sources without a proof and runs it, in about a minute.
 
-    python3 bench/try.py                    the example: its names, and one evaluation
+    python3 bench/try.py                    the example: its names, its verdicts, and one evaluation
     python3 bench/try.py names my.dat       any words of the program; each that names a file takes that file
 
 `rt try` builds the program with checks of its own and gives it copies of the files. It says on standard error that
@@ -18,6 +18,7 @@ EXAMPLE = f"{TOP}/examples"
 TMP = "\\_SB_.PCI0.SENS._TMP"
 RUNS = [
     ["names", f"{EXAMPLE}/board.dat"],
+    ["verify", f"{EXAMPLE}/board.dat"],
     ["eval", "--method", TMP, "--plain", "100", "--regs", f"{EXAMPLE}/board.regs", f"{EXAMPLE}/board.dat"],
 ]
 

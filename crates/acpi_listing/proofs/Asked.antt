@@ -10,7 +10,7 @@ use Rattle.acpi_listing.specs.declared.fault.Fault.{Fault}
 use Rattle.acpi_listing.specs.Faults.{nowhere}
 use Rattle.acpi_listing.specs.declared.fault.FaultCause.TheVariants as cause
 use Rattle.acpi_listing.specs.declared.words.Request.{Request}
-use Rattle.acpi_listing.specs.declared.words.Request.TheVariants.{Tables, Names, Eval}
+use Rattle.acpi_listing.specs.declared.words.Request.TheVariants.{Tables, Names, Verify, Eval}
 
 -- `clap` says of this command line what it takes
 pub takes_words : is_simple acpicheck_app ≡ true
@@ -38,6 +38,7 @@ none_before f (Some x) e = absurd (cc)
 pub nothing_of_none : (r : Request) → IsRequest None r → ⊥
 nothing_of_none (Tables names) (rows, is, files) = absurd (cc)
 nothing_of_none (Names names) (rows, is, inputs) = absurd (cc)
+nothing_of_none (Verify request) (rows, is, parts) = absurd (cc)
 nothing_of_none (Eval request) (rows, is, parts) = absurd (cc)
 
 abbrev name_in : Option (Text × List Row) → Text
@@ -45,11 +46,13 @@ name_in None = []
 name_in (Some p) = p.0
 
 -- another command, no request
-pub nothing_of_other : (name : Text) (rows : List Row) → (name ≡ codes "tables" → ⊥) → (name ≡ codes "names" → ⊥) → (name ≡ codes "eval" → ⊥)
+pub nothing_of_other : (name : Text) (rows : List Row) → (name ≡ codes "tables" → ⊥) → (name ≡ codes "names" → ⊥) → (name ≡ codes "verify" → ⊥)
+    → (name ≡ codes "eval" → ⊥)
     → (r : Request) → IsRequest (Some (name, rows)) r → ⊥
-nothing_of_other name rows first second third (Tables names) (others, is, files) = first (ap name_in is)
-nothing_of_other name rows first second third (Names names) (others, is, inputs) = second (ap name_in is)
-nothing_of_other name rows first second third (Eval request) (others, is, parts) = third (ap name_in is)
+nothing_of_other name rows first second third fourth (Tables names) (others, is, files) = first (ap name_in is)
+nothing_of_other name rows first second third fourth (Names names) (others, is, inputs) = second (ap name_in is)
+nothing_of_other name rows first second third fourth (Verify request) (others, is, parts) = third (ap name_in is)
+nothing_of_other name rows first second third fourth (Eval request) (others, is, parts) = fourth (ap name_in is)
 
 -- a value that is not there is none of a request
 pub missing : (o : Option Text) (t : Text) → None ≡ o → o ≡ Some t → ⊥

@@ -16,6 +16,8 @@ use Rattle.acpi_listing.specs.Files.{Answers}
 use Rattle.acpi_listing.specs.Inputs.{OpensInputs, ReadsInputs, tables_of}
 use Rattle.acpi_listing.specs.Loading.{IsNamespace, Loads, interfaces_of}
 use Rattle.acpi_listing.specs.Registers.{OpensRegisters, ReadsRegisters}
+use Rattle.acpi_listing.specs.Signatures.{OpensSignatures, ReadsSignatures}
+use Rattle.aml_signatures.specs.declared.signatures.Signatures.{Signatures}
 use Rattle.aml_regions.specs.Registers.{contents}
 use Rattle.aml_registers.specs.declared.registers.Registers.{Registers}
 use Rattle.acpi_listing.specs.Steps.{Step, Then, Obtains, Still, Tells, Writes}
@@ -80,49 +82,66 @@ no_outcome bytes word arguments steps interfaces tables ns id m ts f held r is l
     (given (Fit ns m arguments) (λ _. Then (Obtains (IsMeant ns bytes id m (trees ts) arguments steps)) (λ o. Tells (evaluation_text ns.entries o) (outcome_status o.0))) tt tt held held tt r takes
     (given_fault (IsMeant ns bytes id m (trees ts) arguments steps) (λ o. Tells (evaluation_text ns.entries o) (outcome_status o.0)) tt held f r is meant))
 
--- what stands behind the inputs, behind the registers, and behind the arguments
+-- what stands behind the inputs, behind the kinds, behind the registers, and behind the arguments
 abbrev behind_inputs : {F : Type 0} → Registers → List ℕ → List Value → ℕ → Option (List ℕ) → Inputs → Step F ℕ
 behind_inputs registers word arguments steps osi inputs = Still (EvaluatesTables (contents registers.file) word arguments steps (interfaces_of osi) (tables_of inputs))
 
-abbrev behind_registers : {F : Type 0} → Answers F → InputNames → List ℕ → ℕ → Option (List ℕ) → List Value → Registers → Step F ℕ
-behind_registers answers names word steps osi arguments registers = Then (ReadsInputs answers names) (behind_inputs registers word arguments steps osi)
+abbrev behind_signatures : {F : Type 0} → Answers F → InputNames → List ℕ → ℕ → Option (List ℕ) → List Value → Registers → Signatures → Step F ℕ
+behind_signatures answers names word steps osi arguments registers signatures =
+    Then (ReadsInputs answers names) (behind_inputs registers word arguments steps osi)
 
-abbrev behind_arguments : {F : Type 0} → Answers F → InputNames → List ℕ → Option (List ℕ) → ℕ → Option (List ℕ) → List Value → Step F ℕ
-behind_arguments answers names word regs steps osi arguments =
-    Then (ReadsRegisters answers regs) (behind_registers answers names word steps osi arguments)
+abbrev behind_registers : {F : Type 0} → Answers F → InputNames → List ℕ → Option (List ℕ) → ℕ → Option (List ℕ) → List Value → Registers → Step F ℕ
+behind_registers answers names word kinds steps osi arguments registers =
+    Then (ReadsSignatures answers kinds) (behind_signatures answers names word steps osi arguments registers)
+
+abbrev behind_arguments : {F : Type 0} → Answers F → InputNames → List ℕ → Option (List ℕ) → Option (List ℕ) → ℕ → Option (List ℕ) → List Value → Step F ℕ
+behind_arguments answers names word regs kinds steps osi arguments =
+    Then (ReadsRegisters answers regs) (behind_registers answers names word kinds steps osi arguments)
 
 -- arguments that cannot be read
-pub no_arguments : {F : Type 0} (answers : Answers F) (old : F) (names : InputNames) (word : List ℕ) (args regs : Option (List ℕ)) (steps : ℕ) (osi : Option (List ℕ)) (held : Option (List ℕ)) (f : Fault) (r : Result ℕ Stop)
-    → IsErrAnd r (λ s. s ≡ Faulty f) → ReadsArguments args (Err f) → Writes (EvaluatesFiles answers names word args regs steps osi) old old held held r
-no_arguments answers old names word args regs steps osi held f r is bad =
-    given_fault (ReadsArguments args) (behind_arguments answers names word regs steps osi) old held f r is bad
+pub no_arguments : {F : Type 0} (answers : Answers F) (old : F) (names : InputNames) (word : List ℕ) (args regs kinds : Option (List ℕ)) (steps : ℕ) (osi : Option (List ℕ)) (held : Option (List ℕ)) (f : Fault) (r : Result ℕ Stop)
+    → IsErrAnd r (λ s. s ≡ Faulty f) → ReadsArguments args (Err f) → Writes (EvaluatesFiles answers names word args regs kinds steps osi) old old held held r
+no_arguments answers old names word args regs kinds steps osi held f r is bad =
+    given_fault (ReadsArguments args) (behind_arguments answers names word regs kinds steps osi) old held f r is bad
 
 -- registers that cannot be set
-pub no_registers : {F : Type 0} (answers : Answers F) (old new : F) (names : InputNames) (word : List ℕ) (args regs : Option (List ℕ)) (arguments : List Value) (steps : ℕ) (osi : Option (List ℕ)) (held : Option (List ℕ)) (f : Fault) (r : Result ℕ Stop)
-    → IsErrAnd r (λ s. s ≡ Faulty f) → ListsArguments args arguments → OpensRegisters answers old regs (Err f) new → Writes (EvaluatesFiles answers names word args regs steps osi) old new held held r
-no_registers answers old new names word args regs arguments steps osi held f r is lists opens =
-    given (ReadsArguments args) (behind_arguments answers names word regs steps osi) old new held held arguments r lists
-    (quiet_fault (λ o x n. OpensRegisters answers o regs x n) (behind_registers answers names word steps osi arguments) old new held f r is opens)
+pub no_registers : {F : Type 0} (answers : Answers F) (old new : F) (names : InputNames) (word : List ℕ) (args regs kinds : Option (List ℕ)) (arguments : List Value) (steps : ℕ) (osi : Option (List ℕ)) (held : Option (List ℕ)) (f : Fault) (r : Result ℕ Stop)
+    → IsErrAnd r (λ s. s ≡ Faulty f) → ListsArguments args arguments → OpensRegisters answers old regs (Err f) new → Writes (EvaluatesFiles answers names word args regs kinds steps osi) old new held held r
+no_registers answers old new names word args regs kinds arguments steps osi held f r is lists opens =
+    given (ReadsArguments args) (behind_arguments answers names word regs kinds steps osi) old new held held arguments r lists
+    (quiet_fault (λ o x n. OpensRegisters answers o regs x n) (behind_registers answers names word kinds steps osi arguments) old new held f r is opens)
+
+-- kinds that cannot be read
+pub no_signatures : {F : Type 0} (answers : Answers F) (old set new : F) (names : InputNames) (word : List ℕ) (args regs kinds : Option (List ℕ)) (arguments : List Value) (registers : Registers) (steps : ℕ) (osi : Option (List ℕ)) (held : Option (List ℕ)) (f : Fault) (r : Result ℕ Stop)
+    → IsErrAnd r (λ s. s ≡ Faulty f) → ListsArguments args arguments → OpensRegisters answers old regs (Ok registers) set → OpensSignatures answers set kinds (Err f) new
+    → Writes (EvaluatesFiles answers names word args regs kinds steps osi) old new held held r
+no_signatures answers old set new names word args regs kinds arguments registers steps osi held f r is lists sets opens =
+    given (ReadsArguments args) (behind_arguments answers names word regs kinds steps osi) old new held held arguments r lists
+    (quiet (λ o x n. OpensRegisters answers o regs x n) (behind_registers answers names word kinds steps osi arguments) old set new held held registers r sets
+    (quiet_fault (λ o x n. OpensSignatures answers o kinds x n) (behind_signatures answers names word steps osi arguments registers) set new held f r is opens))
 
 -- inputs that cannot be read
-pub no_inputs : {F : Type 0} (answers : Answers F) (old mid new : F) (names : InputNames) (word : List ℕ) (args regs : Option (List ℕ)) (arguments : List Value) (registers : Registers) (steps : ℕ) (osi : Option (List ℕ)) (held : Option (List ℕ)) (f : Fault) (r : Result ℕ Stop)
-    → IsErrAnd r (λ s. s ≡ Faulty f) → ListsArguments args arguments → OpensRegisters answers old regs (Ok registers) mid → OpensInputs answers mid names (Err f) new
-    → Writes (EvaluatesFiles answers names word args regs steps osi) old new held held r
-no_inputs answers old mid new names word args regs arguments registers steps osi held f r is lists sets opens =
-    given (ReadsArguments args) (behind_arguments answers names word regs steps osi) old new held held arguments r lists
-    (quiet (λ o x n. OpensRegisters answers o regs x n) (behind_registers answers names word steps osi arguments) old mid new held held registers r sets
-    (quiet_fault (λ o x n. OpensInputs answers o names x n) (behind_inputs registers word arguments steps osi) mid new held f r is opens))
+pub no_inputs : {F : Type 0} (answers : Answers F) (old set told new : F) (names : InputNames) (word : List ℕ) (args regs kinds : Option (List ℕ)) (arguments : List Value) (registers : Registers) (signatures : Signatures) (steps : ℕ) (osi : Option (List ℕ)) (held : Option (List ℕ)) (f : Fault) (r : Result ℕ Stop)
+    → IsErrAnd r (λ s. s ≡ Faulty f) → ListsArguments args arguments → OpensRegisters answers old regs (Ok registers) set → OpensSignatures answers set kinds (Ok signatures) told
+    → OpensInputs answers told names (Err f) new → Writes (EvaluatesFiles answers names word args regs kinds steps osi) old new held held r
+no_inputs answers old set told new names word args regs kinds arguments registers signatures steps osi held f r is lists sets tells opens =
+    given (ReadsArguments args) (behind_arguments answers names word regs kinds steps osi) old new held held arguments r lists
+    (quiet (λ o x n. OpensRegisters answers o regs x n) (behind_registers answers names word kinds steps osi arguments) old set new held held registers r sets
+    (quiet (λ o x n. OpensSignatures answers o kinds x n) (behind_signatures answers names word steps osi arguments registers) set told new held held signatures r tells
+    (quiet_fault (λ o x n. OpensInputs answers o names x n) (behind_inputs registers word arguments steps osi) told new held f r is opens)))
 
 -- inputs that were read
-pub inputs_evaluated : {F : Type 0} (answers : Answers F) (old mid new : F) (names : InputNames) (word : List ℕ) (args regs : Option (List ℕ)) (arguments : List Value) (registers : Registers) (inputs : Inputs) (steps : ℕ) (osi : Option (List ℕ)) (held holds : Option (List ℕ)) (r : Result ℕ Stop)
-    → ListsArguments args arguments → OpensRegisters answers old regs (Ok registers) mid → OpensInputs answers mid names (Ok inputs) new
+pub inputs_evaluated : {F : Type 0} (answers : Answers F) (old set told new : F) (names : InputNames) (word : List ℕ) (args regs kinds : Option (List ℕ)) (arguments : List Value) (registers : Registers) (signatures : Signatures) (inputs : Inputs) (steps : ℕ) (osi : Option (List ℕ)) (held holds : Option (List ℕ)) (r : Result ℕ Stop)
+    → ListsArguments args arguments → OpensRegisters answers old regs (Ok registers) set → OpensSignatures answers set kinds (Ok signatures) told
+    → OpensInputs answers told names (Ok inputs) new
     → Writes (EvaluatesTables (contents registers.file) word arguments steps (interfaces_of osi) (tables_of inputs)) tt tt held holds r
-    → Writes (EvaluatesFiles answers names word args regs steps osi) old new held holds r
-inputs_evaluated answers old mid new names word args regs arguments registers inputs steps osi held holds r lists sets opens does =
-    given (ReadsArguments args) (behind_arguments answers names word regs steps osi) old new held holds arguments r lists
-    (quiet (λ o x n. OpensRegisters answers o regs x n) (behind_registers answers names word steps osi arguments) old mid new held holds registers r sets
-    (quiet (λ o x n. OpensInputs answers o names x n) (behind_inputs registers word arguments steps osi) mid new new held holds inputs r opens
-    (still (EvaluatesTables (contents registers.file) word arguments steps (interfaces_of osi) (tables_of inputs)) new held holds r does)))
+    → Writes (EvaluatesFiles answers names word args regs kinds steps osi) old new held holds r
+inputs_evaluated answers old set told new names word args regs kinds arguments registers signatures inputs steps osi held holds r lists sets tells opens does =
+    given (ReadsArguments args) (behind_arguments answers names word regs kinds steps osi) old new held holds arguments r lists
+    (quiet (λ o x n. OpensRegisters answers o regs x n) (behind_registers answers names word kinds steps osi arguments) old set new held holds registers r sets
+    (quiet (λ o x n. OpensSignatures answers o kinds x n) (behind_signatures answers names word steps osi arguments registers) set told new held holds signatures r tells
+    (quiet (λ o x n. OpensInputs answers o names x n) (behind_inputs registers word arguments steps osi) told new new held holds inputs r opens
+    (still (EvaluatesTables (contents registers.file) word arguments steps (interfaces_of osi) (tables_of inputs)) new held holds r does))))
 
 -- what stands behind the inputs of `names`, and behind their load
 abbrev behind_tables : {F : Type 0} → Inputs → Step F ℕ

@@ -8,3 +8,4 @@ pub mod ByWords
 pub mod Chains
 pub mod Telling
 pub mod Started
+pub mod Judgements

@@ -26,6 +26,14 @@ flag_rule name = record (new_rule name) { long = Some name; action = Some SetTru
 abbrev pub dead_externals_rule : Rule
 dead_externals_rule = flag_rule (codes "dead-externals")
 
+-- the file whose text tells the kinds of arguments
+abbrev pub kinds_rule : Rule
+kinds_rule = option_rule (codes "kinds")
+
+-- whether people are told why methods are refused
+abbrev pub explain_rule : Rule
+explain_rule = flag_rule (codes "explain")
+
 abbrev pub method_rule : Rule
 method_rule = record (option_rule (codes "method")) { required = true }
 
@@ -54,12 +62,15 @@ files_app name = with_rule (new_app name) files_rule
 abbrev pub names_app : App
 names_app = with_rule (with_rule (new_app (codes "names")) dead_externals_rule) files_rule
 
+abbrev pub verify_app : App
+verify_app = with_rule (with_rule (with_rule (with_rule (new_app (codes "verify")) kinds_rule) explain_rule) dead_externals_rule) files_rule
+
 -- `eval` without the options of its tables and of the system
 abbrev pub method_app : App
 method_app = with_rule (with_rule (with_rule (with_rule (new_app (codes "eval")) method_rule) args_rule) regs_rule) plain_rule
 
 abbrev pub eval_app : App
-eval_app = with_rule (with_rule (with_rule method_app osi_rule) dead_externals_rule) files_rule
+eval_app = with_rule (with_rule (with_rule (with_rule method_app kinds_rule) osi_rule) dead_externals_rule) files_rule
 
 -- the words have no program's name in front, and one of the commands is wanted
 abbrev pub commands_app : App
@@ -67,5 +78,5 @@ commands_app = on_top (λ s. record s { no_binary_name = true; subcommand_requir
 
 abbrev pub acpicheck_app : App
 acpicheck_app =
-    with_subcommand (with_subcommand (with_subcommand commands_app
-    (files_app (codes "tables")).top) names_app.top) eval_app.top
+    with_subcommand (with_subcommand (with_subcommand (with_subcommand commands_app
+    (files_app (codes "tables")).top) names_app.top) verify_app.top) eval_app.top

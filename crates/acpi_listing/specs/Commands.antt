@@ -1,5 +1,5 @@
 -- What the commands do, from words that were read to what is printed.
-use Rattle.std.specs.Prelude.{◌≡◌, ◌⊎◌, ◌&&◌, ℕ, List, [], ◌∷◌, ◌++◌, Bool, true, IsTrue, nat_le, option_and_then, length, Option, Some, None, Result, Ok, Err, IfOk, map, option_map, vec_items}
+use Rattle.std.specs.Prelude.{◌≡◌, ◌⊎◌, ◌&&◌, ℕ, List, [], ◌∷◌, ◌++◌, Bool, true, IsTrue, nat_le, option_and_then, length, if◌then◌else◌, Option, Some, None, Result, Ok, Err, IfOk, map, option_map, vec_items}
 use Rattle.std.specs.Io.KnownBytes.{Appends}
 use Rattle.aml_namespace.specs.declared.width.Width.{Width}
 use Rattle.aml_operators.specs.Tree.{Tree, Trees, trees}
@@ -32,6 +32,7 @@ use Rattle.acpi_listing.specs.Files.{Answers, ListsFiles}
 use Rattle.acpi_listing.specs.Inputs.{ReadsInputs, tables_of}
 use Rattle.acpi_listing.specs.Loading.{Loads, interfaces_of}
 use Rattle.acpi_listing.specs.Registers.{ReadsRegisters}
+use Rattle.acpi_listing.specs.Signatures.{ReadsSignatures}
 use Rattle.acpi_listing.specs.Steps.{Step, Then, Obtains, Still, Tells, Tries}
 use Rattle.acpi_listing.specs.FirstLine.{StartsWith, FailsToStart}
 use Rattle.acpi_listing.specs.Input.{IsRead, hex_answers}
@@ -46,7 +47,13 @@ use Rattle.acpi_listing.specs.declared.inputs.InputNames.{InputNames}
 use Rattle.acpi_listing.specs.declared.hex_lines.HexLines.{HexLines}
 use Rattle.acpi_text.specs.declared.writing.RunFault.{RunFault}
 use Rattle.acpi_listing.specs.declared.words.Request.{Request}
-use Rattle.acpi_listing.specs.declared.words.Request.TheVariants.{Tables, Names, Eval}
+use Rattle.acpi_listing.specs.declared.words.Request.TheVariants.{Tables, Names, Verify, Eval}
+use Rattle.acpi_verdicts.specs.Verdicts.{any_refused, verdicts_text}
+use Rattle.aml_methods.specs.Judgings.{Told}
+use Rattle.aml_namespace.specs.Shows.{shown}
+use Rattle.aml_signatures.specs.Signed.{kinds_told}
+use Rattle.aml_verify.specs.Verdicts.{IsChecked}
+use Rattle.aml_verify.specs.declared.checked.Checked.{Checked}
 
 -- the method whose printed path, or an alias's, a word is
 abbrev pub IsMethodAt : Shown → List ℕ → ℕ → Method → Type 0
@@ -128,6 +135,33 @@ ListsNames answers names =
     Then (Obtains (Loads [] (tables_of inputs))) (λ ns.
     Tells (names_text ns) 0))
 
+-- verdicts on just the methods of a namespace, whose arguments are of the kinds that are told
+abbrev pub AreVerdictsOn : Told → Shown → Checked → Type 0
+AreVerdictsOn told ns checked = IsChecked told checked × (shown checked.namespace.now ≡ ns)
+
+-- the methods of a namespace are judged, or memory is wanted
+abbrev pub Judges : Told → Shown → Result Checked Fault → Type 0
+Judges told ns (Ok checked) = AreVerdictsOn told ns checked
+Judges told ns (Err f) = f ≡ nowhere cause.NoMemory
+
+-- the status of verdicts: 3 where a method is refused
+abbrev pub verdicts_status : Checked → ℕ
+verdicts_status checked = if any_refused checked then 3 else 0
+
+-- `verify` of tables, where these kinds are told: the load, the verdicts on all methods, their lines
+abbrev pub VerifiesTables : Told → List (List ℕ) → Step (Unit {0}) ℕ
+VerifiesTables told tables =
+    Then (Obtains (Loads [] tables)) (λ ns.
+    Then (Obtains (Judges told ns)) (λ checked.
+    Tells (verdicts_text checked) (verdicts_status checked)))
+
+-- `verify`: the kinds that are told, the files, their tables
+abbrev pub VerifiesFiles : {F : Type 0} → Answers F → InputNames → Option (List ℕ) → Step F ℕ
+VerifiesFiles answers names kinds =
+    Then (ReadsSignatures answers kinds) (λ signatures.
+    Then (ReadsInputs answers names) (λ inputs.
+    Still (VerifiesTables (kinds_told signatures) (tables_of inputs))))
+
 -- the first path of the object with a number, as it is printed
 abbrev pub printed_path : Shown → ℕ → List ℕ
 printed_path ns id = path_text (path_of ns.entries id)
@@ -148,13 +182,15 @@ EvaluatesTables bytes word arguments steps interfaces tables =
     Then (Obtains (Finds ns word)) (λ found.
     Then (Obtains (ReadsBody ns found.0 found.1)) (EvaluatesBody bytes ns found arguments steps)))
 
--- `eval`: the arguments, the registers, the files, their tables over these registers, where `_OSI` knows the text of `--osi`
-abbrev pub EvaluatesFiles : {F : Type 0} → Answers F → InputNames → List ℕ → Option (List ℕ) → Option (List ℕ) → ℕ → Option (List ℕ) → Step F ℕ
-EvaluatesFiles answers names word args regs steps osi =
+-- `eval`: the arguments, the registers, the kinds, which have no effect, the files, their tables over these registers, where `_OSI` knows
+-- the text of `--osi`
+abbrev pub EvaluatesFiles : {F : Type 0} → Answers F → InputNames → List ℕ → Option (List ℕ) → Option (List ℕ) → Option (List ℕ) → ℕ → Option (List ℕ) → Step F ℕ
+EvaluatesFiles answers names word args regs kinds steps osi =
     Then (Obtains (ReadsArguments args)) (λ arguments.
     Then (ReadsRegisters answers regs) (λ registers.
+    Then (ReadsSignatures answers kinds) (λ _.
     Then (ReadsInputs answers names) (λ inputs.
-    Still (EvaluatesTables (contents registers.file) word arguments steps (interfaces_of osi) (tables_of inputs)))))
+    Still (EvaluatesTables (contents registers.file) word arguments steps (interfaces_of osi) (tables_of inputs))))))
 
 -- what the words ask for, or why there is nothing
 abbrev pub Asks : List (List ℕ) → Result Request Fault → Type 0
@@ -164,7 +200,8 @@ Asks words = Tries (AsksFor words) (λ f. (f ≡ nowhere cause.CommandLine) × A
 abbrev pub Obeys : {F : Type 0} → Answers F → Request → Step F ℕ
 Obeys answers (Tables names) = ListsFiles answers 0 (map (λ name. name.now) (vec_items names))
 Obeys answers (Names names) = ListsNames answers names
-Obeys answers (Eval request) = EvaluatesFiles answers request.inputs request.method.now (option_map (λ text. text.now) request.args) (option_map (λ name. name.now) request.regs) request.steps (option_map (λ text. text.now) request.osi)
+Obeys answers (Verify request) = VerifiesFiles answers request.inputs (option_map (λ name. name.now) request.kinds)
+Obeys answers (Eval request) = EvaluatesFiles answers request.inputs request.method.now (option_map (λ text. text.now) request.args) (option_map (λ name. name.now) request.regs) (option_map (λ name. name.now) request.kinds) request.steps (option_map (λ text. text.now) request.osi)
 
 -- a command: its words, and what they ask for
 abbrev pub ObeysWords : {F : Type 0} → Answers F → List (List ℕ) → Step F ℕ

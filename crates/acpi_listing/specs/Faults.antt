@@ -5,7 +5,7 @@ use Rattle.aml_namespace.specs.Causes.{load_cause_text}
 use Rattle.acpi_text.specs.Text.{joined}
 use Rattle.acpi_listing.specs.declared.fault.Fault.{Fault}
 use Rattle.acpi_listing.specs.declared.fault.FaultCause.{FaultCause}
-use Rattle.acpi_listing.specs.declared.fault.FaultCause.TheVariants.{CommandLine, BadRegs, BadArgs, ArgsDontFit, File, NoMemory, NoSuchObject, Table, Load}
+use Rattle.acpi_listing.specs.declared.fault.FaultCause.TheVariants.{CommandLine, BadKinds, BadRegs, BadArgs, ArgsDontFit, File, NoMemory, NoSuchObject, Table, Load}
 use Rattle.acpi_listing.specs.declared.fault.Where.{Where}
 use Rattle.acpi_listing.specs.declared.fault.Where.TheVariants as place
 
@@ -27,6 +27,7 @@ in_line cause line = fault_at cause (place.Line line)
 
 -- what is wrong, as it is printed: a number and a name
 abbrev pub cause_text : FaultCause → List ℕ
+cause_text BadKinds = codes "E501 BadKinds"
 cause_text BadRegs = codes "E511 BadRegs"
 cause_text CommandLine = codes "E520 CommandLine"
 cause_text BadArgs = codes "E521 BadArgs"

@@ -8,6 +8,7 @@ pub mod Words
 pub mod Input
 pub mod FirstLine
 pub mod Registers
+pub mod Signatures
 pub mod Inputs
 pub mod Loading
 pub mod Commands

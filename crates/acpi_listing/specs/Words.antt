@@ -8,8 +8,9 @@ use Rattle.acpi_listing.specs.CommandLine.{acpicheck_app}
 use Rattle.acpi_listing.specs.Inputs.{file_names}
 use Rattle.acpi_listing.specs.declared.inputs.InputNames.{InputNames}
 use Rattle.acpi_listing.specs.declared.words.Request.{Request}
-use Rattle.acpi_listing.specs.declared.words.Request.TheVariants.{Tables, Names, Eval}
+use Rattle.acpi_listing.specs.declared.words.Request.TheVariants.{Tables, Names, Verify, Eval}
 use Rattle.acpi_listing.specs.declared.words.EvalRequest.{EvalRequest}
+use Rattle.acpi_listing.specs.declared.words.VerifyRequest.{VerifyRequest}
 
 -- a text is a number below 2^64 in decimal digits, a plus may stand first
 abbrev pub IsCount : Text → ℕ → Type 0
@@ -25,6 +26,13 @@ abbrev pub HasInputs : List Row → InputNames → Type 0
 HasInputs rows names =
     (all_of (codes "files") rows ≡ Some (file_names names)) × (names.dead_externals ≡ has_flag (codes "dead-externals") rows)
 
+-- each part of a judgement is the value of its option
+abbrev pub HasVerifyParts : List Row → VerifyRequest → Type 0
+HasVerifyParts rows request =
+    HasInputs rows request.inputs
+    × (first_of (codes "kinds") rows ≡ option_map (λ name. name.now) request.kinds)
+    × (request.explain ≡ has_flag (codes "explain") rows)
+
 -- each part of an evaluation is the value of its option
 abbrev pub HasParts : List Row → EvalRequest → Type 0
 HasParts rows request =
@@ -32,6 +40,7 @@ HasParts rows request =
     × (first_of (codes "method") rows ≡ Some request.method.now)
     × (first_of (codes "args") rows ≡ option_map (λ text. text.now) request.args)
     × (first_of (codes "regs") rows ≡ option_map (λ name. name.now) request.regs)
+    × (first_of (codes "kinds") rows ≡ option_map (λ name. name.now) request.kinds)
     × ((text : Text) × (one_of (codes "plain") rows ≡ Some text) × IsCount text request.steps)
     × (first_of (codes "osi") rows ≡ option_map (λ text. text.now) request.osi)
 
@@ -41,6 +50,7 @@ IsRequest found (Tables names) =
     (rows : List Row) × (found ≡ Some (codes "tables", rows))
     × (all_of (codes "files") rows ≡ Some (map (λ name. name.now) (vec_items names)))
 IsRequest found (Names names) = (rows : List Row) × (found ≡ Some (codes "names", rows)) × HasInputs rows names
+IsRequest found (Verify request) = (rows : List Row) × (found ≡ Some (codes "verify", rows)) × HasVerifyParts rows request
 IsRequest found (Eval request) = (rows : List Row) × (found ≡ Some (codes "eval", rows)) × HasParts rows request
 
 -- the words are a command line, and this is what they ask for

@@ -28,6 +28,7 @@ use crate::inputs::Inputs;
 use crate::load::load_counted;
 use crate::notes::Notes;
 use crate::regs::read_registers;
+use crate::signed::read_signatures;
 use crate::source::Source;
 use crate::tell::{tell_argument, tell_misfit, tell_object};
 use crate::words::EvalRequest;
@@ -56,12 +57,14 @@ pub fn evaluate<F: Source, N: Notes, W: Write>(
     ensures status { IfOk result (λ status. status ≤ 3) }
     ensures printed { Writes (EvaluatesFiles F.answers request.now.inputs request.now.method.now
         (option_map (λ text. text.now) request.now.args)
-        (option_map (λ name. name.now) request.now.regs) request.now.steps
+        (option_map (λ name. name.now) request.now.regs)
+        (option_map (λ name. name.now) request.now.kinds) request.now.steps
         (option_map (λ text. text.now) request.now.osi))
         files.old files.new (W.contents out.old) (W.contents out.new) result }
 {
     let arguments = arguments_of(alloc, request, notes)?;
     let registers = read_registers(alloc, request.regs, files, notes)?;
+    let _signatures = read_signatures(alloc, request.kinds, files, notes)?;
     let inputs = Inputs::read(alloc, &request.inputs, files)?;
     evaluate_inputs(alloc, request, arguments, registers, &inputs, notes, out)
 }

@@ -5,6 +5,7 @@ ghost use Rattle.acpi_listing.specs.Files.{source_fault, load_fault};
 ghost use Rattle.acpi_listing.specs.Commands.{fault_status};
 ghost use Rattle.acpi_listing.specs.Faults.{cause_text, in_table, nowhere};
 ghost use Rattle.acpi_listing.specs.Registers.{registers_fault};
+ghost use Rattle.acpi_listing.specs.Signatures.{signatures_fault};
 ghost use Rattle.acpi_listing.specs.declared.fault.FaultCause.TheVariants as told;
 ghost use Rattle.acpi_listing.specs.declared.fault.Stop.TheVariants as stop;
 
@@ -14,6 +15,7 @@ use acpi_text::RunFault;
 use aml_namespace::{LoadCause, LoadFault, LoadRefusal};
 use aml_paths::NoMemory;
 use aml_regions::RegistersFault;
+use aml_signatures::SignatureFault;
 use std::alloc::{AllocError, AllocFailed};
 
 /// What ends a command with a fault line: what is wrong, and where.
@@ -28,6 +30,8 @@ pub struct Fault {
 pub enum FaultCause {
     /// The words are no command line.
     CommandLine,
+    /// A line of the text of `--kinds` that is no signature, or has the path of a line before it.
+    BadKinds,
     /// A line of the text of `--regs` that sets no registers.
     BadRegs,
     /// The text of `--args` is no list of arguments.
@@ -113,6 +117,7 @@ impl FaultCause {
         ensures { result.now ≡ cause_text self }
     {
         match self {
+            FaultCause::BadKinds => "E501 BadKinds",
             FaultCause::BadRegs => "E511 BadRegs",
             FaultCause::CommandLine => "E520 CommandLine",
             FaultCause::BadArgs => "E521 BadArgs",
@@ -194,6 +199,20 @@ impl From<RegistersFault> for Fault {
             RegistersFault::NoMemory => Fault::nowhere(FaultCause::NoMemory),
             RegistersFault::BadRegs { line } => Fault {
                 cause: FaultCause::BadRegs,
+                at: Where::Line(line),
+            },
+        }
+    }
+}
+
+impl From<SignatureFault> for Fault {
+    ghost from_gives = { λ e f. f ≡ signatures_fault e };
+
+    fn from(fault: SignatureFault) -> Fault {
+        match fault {
+            SignatureFault::NoMemory => Fault::nowhere(FaultCause::NoMemory),
+            SignatureFault::BadKinds { line } => Fault {
+                cause: FaultCause::BadKinds,
                 at: Where::Line(line),
             },
         }

@@ -5,7 +5,9 @@ use std::fs;
 use std::rt::Files;
 
 /// The options whose next word is a value.
-const VALUED: [&str; 5] = ["--method", "--plain", "--args", "--regs", "--osi"];
+const VALUED: [&str; 6] = [
+    "--method", "--plain", "--args", "--regs", "--kinds", "--osi",
+];
 
 /// Which files of a folder a command takes.
 #[derive(Clone, Copy, Debug, PartialEq, Eq)]

@@ -21,14 +21,17 @@ mod names;
 mod notes;
 mod program;
 mod regs;
+mod signed;
 mod source;
 mod tell;
+mod verify;
 mod words;
 
 pub use acpi_text::{
     RunFault, Table, list_evaluation, list_events, list_names, list_refusal, list_tables,
     list_value, put,
 };
+pub use acpi_verdicts::list_verdicts;
 pub use any_table::{FileKind, read_any_table};
 pub use arguments::read_arguments;
 pub use command_line::{command_words, run_program};

@@ -15,6 +15,7 @@ use crate::names::list_names_of;
 use crate::notes::{Notes, Silent};
 use crate::source::Source;
 use crate::tell::tell_end;
+use crate::verify::verify_files;
 use crate::words::{Request, read_words};
 use acpi_text::RunFault;
 use std::alloc::Global;
@@ -22,8 +23,8 @@ use std::convert::AsStr;
 use std::io::{Read, Write};
 
 /// Runs the command that the words ask for, and answers the status that the program ends with: 0 done;
-/// 1 a fault; 2 words that are no command line; 3 a method that cannot be read, an AML error, or out of
-/// steps.
+/// 1 a fault; 2 words that are no command line; 3 a refused method, one that cannot be read, an AML
+/// error, or out of steps.
 ///
 /// A fault's line is written last.
 pub fn run_words<S: AsStr, F: Source, W: Write>(
@@ -124,6 +125,7 @@ fn obey<S: AsStr, F: Source, N: Notes, W: Write>(
     match read_words(alloc, words)? {
         Request::Tables { files: names } => list_files(alloc, names.as_slice(), files, notes, out),
         Request::Names(inputs) => list_names_of(alloc, &inputs, files, notes, out),
+        Request::Verify(request) => verify_files(alloc, &request, files, notes, out),
         Request::Eval(request) => evaluate(alloc, &request, files, notes, out),
     }
 }

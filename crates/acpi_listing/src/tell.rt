@@ -6,15 +6,18 @@ use crate::notes::Notes;
 use crate::words::words_error;
 use acpi_notes::{
     Files, argument_note, count_note, file_label, greatest_note, help_of, load_note, object_note,
-    registers_note, table_note,
+    registers_note, signatures_note, table_note,
 };
 use acpi_tables::TableFault;
+use acpi_verdicts::explain;
 use aml_externals::is_dead_if;
 use aml_namespace::{LoadCause, LoadRefusal, Method, Namespace};
 use aml_tree::TreeCause;
 use aml_values::Value;
+use aml_verify::Checked;
 use std::alloc::{AllocError, Global};
 use std::convert::AsStr;
+use std::str;
 
 // Tells a note, if there is memory for it.
 fn tell<N: Notes>(notes: &N, note: Result<String, AllocError>) {
@@ -77,6 +80,48 @@ pub(crate) fn tell_registers<N: Notes>(alloc: Global, notes: &N, name: &str, fau
         name
     };
     tell(notes, registers_note(alloc, label, line));
+}
+
+/// Of a line that tells no kinds of arguments.
+pub(crate) fn tell_signatures<N: Notes>(alloc: Global, notes: &N, name: &str, fault: Fault) {
+    let Where::Line(line) = fault.at else {
+        return;
+    };
+    let label = if name == "@" {
+        "the file of --kinds"
+    } else {
+        name
+    };
+    tell(notes, signatures_note(alloc, label, line));
+}
+
+/// Of each method that is refused why it is, with the files by their names.
+pub(crate) fn tell_refused<N: Notes>(
+    alloc: Global,
+    notes: &N,
+    checked: &Checked<'_>,
+    names: &[&str],
+) {
+    for id in checked.namespace().methods() {
+        match explain(alloc, checked, names, *id) {
+            Ok(text) => tell_lines(notes, &text),
+            Err(_) => {
+                notes.tell("out of memory");
+                return;
+            }
+        }
+    }
+}
+
+// Tells lines that each end in a line feed.
+fn tell_lines<N: Notes>(notes: &N, text: &[u8]) {
+    for line in text.split(|b| *b == b'\n') {
+        if let Ok(line) = str::from_utf8(line)
+            && !line.is_empty()
+        {
+            notes.tell(line);
+        }
+    }
 }
 
 /// Of a path that is no method's.

@@ -4,8 +4,8 @@ ghost use Rattle.std.specs.Prelude.{◌≡◌, ◌⊎◌, IfOk, IfSome, Some, No
 ghost use Rattle.clap.specs.Words.{HasKind, all_of, app_of, fault_of, found_of, rows_of, rule_of, subcommand_rows_of};
 ghost use Rattle.clap.specs.declared.Command.TheViews.{out-Command as fields_of};
 ghost use Rattle.acpi_listing.specs.Steps.{Tries};
-ghost use Rattle.acpi_listing.specs.CommandLine.{acpicheck_app, commands_app, eval_app, files_app, files_rule, flag_rule, method_app, names_app, option_rule, plain_rule};
-ghost use Rattle.acpi_listing.specs.Words.{AsksFor, AsksNothing, HasInputs, HasParts, IsRequest, has_flag};
+ghost use Rattle.acpi_listing.specs.CommandLine.{acpicheck_app, commands_app, eval_app, files_app, files_rule, flag_rule, method_app, names_app, option_rule, plain_rule, verify_app};
+ghost use Rattle.acpi_listing.specs.Words.{AsksFor, AsksNothing, HasInputs, HasParts, HasVerifyParts, IsRequest, has_flag};
 ghost use Rattle.acpi_listing.specs.Faults.{nowhere};
 ghost use Rattle.acpi_listing.specs.declared.fault.FaultCause.TheVariants as cause;
 
@@ -23,8 +23,21 @@ pub enum Request<'a> {
     Tables { files: Vec<&'a str> },
     /// To list the names of a DSDT and its SSDTs.
     Names(InputNames<'a>),
+    /// To judge the methods of a DSDT and its SSDTs.
+    Verify(VerifyRequest<'a>),
     /// To evaluate a method.
     Eval(EvalRequest<'a>),
+}
+
+/// Which methods are to be judged, and how.
+#[derive(Debug, Drop)]
+pub struct VerifyRequest<'a> {
+    /// The DSDT and its SSDTs.
+    pub inputs: InputNames<'a>,
+    /// The file whose text tells the kinds of arguments.
+    pub kinds: Option<&'a str>,
+    /// Whether people are told why methods are refused.
+    pub explain: bool,
 }
 
 /// Which method is to be evaluated, and how.
@@ -38,6 +51,8 @@ pub struct EvalRequest<'a> {
     pub args: Option<&'a str>,
     /// The file whose text sets registers.
     pub regs: Option<&'a str>,
+    /// The file whose text tells the kinds of arguments, which has no effect but that it is read.
+    pub kinds: Option<&'a str>,
     /// The number of steps.
     pub steps: u64,
     /// The text that `_OSI` knows.
@@ -88,6 +103,7 @@ fn command<'a>(alloc: Global) -> Result<Command<'a>, AllocError>
     program(alloc)
         .subcommand(files_command(alloc, "tables")?)?
         .subcommand(names_command(alloc)?)?
+        .subcommand(verify_command(alloc)?)?
         .subcommand(eval_command(alloc)?)
 }
 
@@ -117,11 +133,23 @@ fn names_command<'a>(alloc: Global) -> Result<Command<'a>, AllocError>
         .arg(files_arg(alloc))
 }
 
+fn verify_command<'a>(alloc: Global) -> Result<Command<'a>, AllocError>
+    ensures app { IfOk result (λ c. app_of c ≡ verify_app) }
+    ensures local { IfOk result (λ c. (fields_of c).has_globals ≡ false) }
+{
+    Command::new(alloc, "verify")
+        .arg(option_arg(alloc, "kinds"))?
+        .arg(flag_arg(alloc, "explain"))?
+        .arg(flag_arg(alloc, "dead-externals"))?
+        .arg(files_arg(alloc))
+}
+
 fn eval_command<'a>(alloc: Global) -> Result<Command<'a>, AllocError>
     ensures app { IfOk result (λ c. app_of c ≡ eval_app) }
     ensures local { IfOk result (λ c. (fields_of c).has_globals ≡ false) }
 {
     method_command(alloc)?
+        .arg(option_arg(alloc, "kinds"))?
         .arg(option_arg(alloc, "osi"))?
         .arg(flag_arg(alloc, "dead-externals"))?
         .arg(files_arg(alloc))
@@ -190,6 +218,7 @@ fn request_of<'a>(alloc: Global, matches: &ArgMatches<'a>) -> Result<Request<'a>
             files: files_of(alloc, found)?,
         }),
         "names" => Ok(Request::Names(inputs_of(alloc, found)?)),
+        "verify" => Ok(Request::Verify(verify_of(alloc, found)?)),
         "eval" => Ok(Request::Eval(eval_of(alloc, found)?)),
         _ => Err(Fault::nowhere(FaultCause::CommandLine)),
     }
@@ -234,6 +263,19 @@ fn has_flag(found: &ArgMatches<'_>, name: &str) -> bool
 }
 
 // Each part of the request is the value of its option.
+fn verify_of<'a>(alloc: Global, found: &ArgMatches<'a>) -> Result<VerifyRequest<'a>, Fault>
+    ensures { let rows = rows_of (found_of found.now) in
+        Tries (HasVerifyParts rows)
+        (λ f. (f ≡ nowhere cause.CommandLine) × ((r : _) → HasVerifyParts rows r → ⊥)) result }
+{
+    Ok(VerifyRequest {
+        inputs: inputs_of(alloc, found)?,
+        kinds: found.get_str("kinds"),
+        explain: has_flag(found, "explain"),
+    })
+}
+
+// Each part of the request is the value of its option.
 fn eval_of<'a>(alloc: Global, found: &ArgMatches<'a>) -> Result<EvalRequest<'a>, Fault>
     ensures { let rows = rows_of (found_of found.now) in
         Tries (HasParts rows)
@@ -250,6 +292,7 @@ fn eval_of<'a>(alloc: Global, found: &ArgMatches<'a>) -> Result<EvalRequest<'a>,
         method,
         args: found.get_str("args"),
         regs: found.get_str("regs"),
+        kinds: found.get_str("kinds"),
         steps,
         osi: found.get_str("osi"),
     })

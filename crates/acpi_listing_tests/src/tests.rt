@@ -83,12 +83,14 @@ fn seal(table: &mut [u8]) -> Option<()> {
 }
 
 // What a command prints, into a writer that takes a byte at a time, and into one that fails at each
-// byte: a listing, an outcome, a fault's line and the line of a body that cannot be read.
+// byte: a listing, a verdict, an outcome, a fault's line and the line of a body that cannot be read.
 #[test]
 fn writers(rt: HostRuntime) -> Result<(), Fail> {
     let alloc = rt.alloc();
     let torn = dsdt(alloc, 2, "14084d30303000a45c").ok_or("a table")?;
     let rows = [
+        ("verify @", TABLE_1, 0),
+        ("verify @", torn.as_str(), 3),
         ("tables @ @", TABLE_1, 0),
         ("eval --plain 9 --method \\M000 --args 41 @", TABLE_1, 0),
         ("eval --plain 9 --method \\M001 @", TABLE_1, 1),

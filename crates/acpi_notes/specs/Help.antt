@@ -1,9 +1,9 @@
 -- Which help the words of a command line ask for.
 use Rattle.std.specs.Prelude.{ℕ, ◌-◌, ◌||◌, length, List, Bool, Option, Some, None, codes, not, option_and_then, slice_get, if◌then◌else◌}
 use Rattle.std.specs.Str.{bytes_eq}
-use Rattle.acpi_notes.specs.declared.help.TheConstants.{COMMANDS, EVAL, NAMES, TABLES, VERSION}
+use Rattle.acpi_notes.specs.declared.help.TheConstants.{COMMANDS, EVAL, NAMES, TABLES, VERIFY, VERSION}
 use Rattle.acpi_notes.specs.declared.help.Help.{Help}
-use Rattle.acpi_notes.specs.declared.help.Help.TheVariants.{Version, Commands, Tables, Names, Eval}
+use Rattle.acpi_notes.specs.declared.help.Help.TheVariants.{Version, Commands, Tables, Names, Verify, Eval}
 
 abbrev pub asks_for_help : List ℕ → Bool
 asks_for_help word = bytes_eq word (codes "--help") || bytes_eq word (codes "-h")
@@ -15,6 +15,7 @@ help_for first asks =
     else if not asks then None
     else if bytes_eq first (codes "tables") then Some Tables
     else if bytes_eq first (codes "names") then Some Names
+    else if bytes_eq first (codes "verify") then Some Verify
     else if bytes_eq first (codes "eval") then Some Eval
     else Some Commands
 
@@ -32,4 +33,5 @@ help_text Version = VERSION.now
 help_text Commands = COMMANDS.now
 help_text Tables = TABLES.now
 help_text Names = NAMES.now
+help_text Verify = VERIFY.now
 help_text Eval = EVAL.now

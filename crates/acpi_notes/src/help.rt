@@ -15,11 +15,12 @@ pub enum Help {
     /// The options of a command.
     Tables,
     Names,
+    Verify,
     Eval,
 }
 
 const COMMANDS: &str = "\
-acpicheck reads ACPI tables, lists what they define and evaluates their methods.
+acpicheck reads ACPI tables, lists what they define, judges their methods and evaluates them.
 
 Usage: acpicheck COMMAND [OPTIONS] FILES
 
@@ -27,12 +28,14 @@ Usage: acpicheck COMMAND [OPTIONS] FILES
                     acpicheck tables apic.dat
   names FILES     each path of a DSDT and the SSDTs behind it, and what stands there
                     acpicheck names dsdt.dat ssdt1.dat
+  verify FILES    of each method whether it can go wrong, and its steps or the first cause
+                    acpicheck verify dsdt.dat ssdt1.dat
   eval FILES      the events of a method's evaluation, and how it ended
                     acpicheck eval --method '\\_SB_.PCI0._STA' --plain 10000 dsdt.dat
 
 acpicheck COMMAND --help tells the options of a command. Without words the program takes them
 from the first line of standard input; there a file is @, the hex text of the next line.
-Status 0: done; 1: a fault; 2: the words; 3: AML stopped.
+Status 0: done; 1: a fault; 2: the words; 3: a method is refused, or AML stopped.
 ";
 
 const TABLES: &str = "\
@@ -52,6 +55,23 @@ Loads a DSDT and the SSDTs behind it, and prints each path with what stands ther
                         acpicheck names --dead-externals dsdt.dat
 ";
 
+const VERIFY: &str = "\
+Usage: acpicheck verify [OPTIONS] FILES
+
+Loads a DSDT and the SSDTs behind it, and prints of each method that it is accepted, with the most
+steps that it takes, or why it is refused, with the table and the byte. An accepted method meets no
+AML error, whatever its arguments of these kinds, the names and the registers hold.
+  acpicheck verify dsdt.dat ssdt1.dat
+
+  --kinds FILE        lines PATH KINDS that tell the kinds of a method's arguments, as
+                      \\_SB_.EC0_.WRIT int:15 buf:32 of int, int:MAX, buf:N, str:N and pkg:
+                      --kinds board.kinds
+  --explain           standard error says in words why each method is refused, and where a
+                      method that it calls is: acpicheck verify --explain dsdt.dat
+  --dead-externals    reads Externals that stand in an If (Zero), as iasl writes them:
+                      acpicheck verify --dead-externals dsdt.dat
+";
+
 const EVAL: &str = "\
 Usage: acpicheck eval --method PATH --plain N [OPTIONS] FILES
 
@@ -62,6 +82,8 @@ Loads a DSDT and the SSDTs behind it, evaluates a method, and prints its accesse
   --plain N           at most so many steps: --plain 10000
   --args TEXT         its arguments, by commas: --args 41,0x29,buf:00a5,str:ACPI,pkg
   --regs FILE         lines SPACE ADDRESS BYTES that set registers, as io 60 1527: --regs board.regs
+  --kinds FILE        kinds of arguments, as verify takes them: read, and without effect
+                      beside --plain: --kinds board.kinds
   --osi TEXT          the one text that _OSI knows: --osi 'Windows 2015'
   --dead-externals    reads Externals that stand in an If (Zero), as iasl writes them
 ";
@@ -78,6 +100,7 @@ impl Help {
             Help::Commands => COMMANDS,
             Help::Tables => TABLES,
             Help::Names => NAMES,
+            Help::Verify => VERIFY,
             Help::Eval => EVAL,
         }
     }
@@ -112,6 +135,8 @@ fn help_for(first: &str, asks: bool) -> Option<Help>
         Some(Help::Tables)
     } else if first == "names" {
         Some(Help::Names)
+    } else if first == "verify" {
+        Some(Help::Verify)
     } else if first == "eval" {
         Some(Help::Eval)
     } else {

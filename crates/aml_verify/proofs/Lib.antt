@@ -1,0 +1,5 @@
+pub mod Seeing
+pub mod Orders
+pub mod Places
+pub mod Stepping
+pub mod Judged

@@ -13,9 +13,3 @@ mod verifier;
 pub use checked::Checked;
 pub use verdict::Verdict;
 pub use verifier::{Verifier, verify};
-
-use std::rt::HostRuntime;
-#[test]
-fn nothing(rt: HostRuntime) {
-    assert!(rt; 1 < 2);
-}

@@ -1,12 +1,13 @@
 // Judging the methods of a namespace, one body at a time.
 
-ghost use Rattle.std.specs.Prelude.{◌≡◌, ◌++◌, ◌-◌, ◌+◌, ℕ, IfOk, IfErr, OnErr, None, Some, length, slice_get};
+ghost use Rattle.std.specs.Prelude.{◌≡◌, ◌++◌, ◌-◌, ◌+◌, ℕ, IfOk, OnErr, None, Some, length, map, slice_get};
 ghost use Rattle.aml_bounds.specs.Pairs.{numbers};
 ghost use Rattle.aml_namespace.specs.Names.{method_at};
+ghost use Rattle.aml_operators.specs.Tree.{view};
 ghost use Rattle.aml_namespace.specs.Shows.{shown};
 ghost use Rattle.aml_signatures.specs.Signed.{kinds_told};
 ghost use Rattle.aml_verify.specs.Said.{verdict_at};
-ghost use Rattle.aml_verify.specs.Verdicts.{IsChecked, IsOfSame, IsVerifier, JudgesNext, SaysNext, with_verdict};
+ghost use Rattle.aml_verify.specs.Verdicts.{IsChecked, IsOfSame, IsRead, IsVerifier, JudgesNext, kept, SaidOf, SaysNext};
 
 use crate::body::Body;
 use crate::checked::Checked;
@@ -17,6 +18,7 @@ use aml_judging::judge;
 use aml_known::{Known, Stop};
 use aml_methods::{arguments, gathered};
 use aml_namespace::{Method, Namespace};
+use aml_operators::Term;
 use aml_own_names::OwnNames;
 use aml_paths::{NoMemory, ObjectId};
 use aml_shapes::{ShapeTable, shared_kinds};
@@ -67,6 +69,15 @@ fn behind(mut order: Vec<ObjectId>, others: &[ObjectId]) -> Result<Vec<ObjectId>
     }
 }
 
+/// Keeps what is said of the method with a number, where there is room for it.
+fn keep(verdicts: &mut Vec<Option<Verdict>>, id: ObjectId, said: Option<Verdict>)
+    ensures { verdicts.new.items ≡ kept verdicts.old.items id.0 said }
+{
+    if said.is_some() && id.0 < verdicts.len() {
+        verdicts[id.0] = said;
+    }
+}
+
 impl<'a, 's> Verifier<'a, 's> {
     /// A verifier of the methods of a namespace, whose arguments are of the kinds that signatures tell. Each body is read once for what it calls.
     ///
@@ -79,8 +90,8 @@ impl<'a, 's> Verifier<'a, 's> {
         signatures: &'s Signatures,
     ) -> Result<Verifier<'a, 's>, NoMemory>
         ensures verifier { IfOk result IsVerifier }
-        ensures namespace { IfOk result (λ v. v.namespace ≡ namespace) }
-        ensures signatures { IfOk result (λ v. v.signatures ≡ signatures) }
+        ensures namespace { IfOk result (λ v. v.namespace.now ≡ namespace.now) }
+        ensures signatures { IfOk result (λ v. v.signatures.now ≡ signatures.now) }
     {
         let mut shapes = ShapeTable::new(alloc);
         let pairs = gathered(alloc, namespace, &mut shapes)?;
@@ -109,7 +120,7 @@ impl<'a, 's> Verifier<'a, 's> {
     pub fn left(&self) -> usize
         ensures { result ≡ length self.now.order.items - self.now.judged }
     {
-        self.order.len() - self.judged
+        self.order.len().saturating_sub(self.judged)
     }
 
     /// Judges the next method, and answers it; None where all are judged. Its body is read, judged and
@@ -124,45 +135,55 @@ impl<'a, 's> Verifier<'a, 's> {
         ensures next { IfOk result (JudgesNext self.old self.new) }
         ensures kept { OnErr result (self.new ≡ self.old) }
     {
-        if self.judged == self.order.len() {
+        if self.judged >= self.order.len() {
             return Ok(None);
         }
         let id = self.order[self.judged];
-        if let Some(method) = self.namespace.method(id) {
-            let verdict = self.judge(id, method)?;
-            self.keep(id, verdict);
-        }
+        let said = self.said(id)?;
+        keep(&mut self.verdicts, id, said);
         self.judged += 1;
         Ok(Some(id))
     }
 
-    /// Keeps what is said of a method.
-    fn keep(&mut self, id: ObjectId, verdict: Verdict)
-        ensures { self.new ≡ with_verdict self.old id.0 verdict }
+    /// What is said of the method with a number, which is next; None where no method has it.
+    fn said(&self, id: ObjectId) -> Result<Option<Verdict>, NoMemory>
+        requires next { slice_get (numbers self.now.order.items) self.now.judged ≡ Some id.0 }
+        ensures { IfOk result (λ said. IsVerifier self.now → SaidOf self.now id.0 said) }
     {
-        if id.0 < self.verdicts.len() {
-            self.verdicts[id.0] = Some(verdict);
+        match self.namespace.method(id) {
+            Some(method) => {
+                let verdict = self.judge(id, method)?;
+                Ok(Some(verdict))
+            }
+            None => Ok(None),
         }
     }
 
-    /// What is said of a method.
+    /// What is said of the next method.
     fn judge(&self, id: ObjectId, method: Method) -> Result<Verdict, NoMemory>
         requires next { slice_get (numbers self.now.order.items) self.now.judged ≡ Some id.0 }
         requires there { method_at (shown self.now.namespace.now) id.0 ≡ Some method }
-        ensures { IfOk result (λ v. IsVerifier self.now → SaysNext self.now id.0 method v) }
+        ensures { IfOk result (λ said. IsVerifier self.now → SaysNext self.now id.0 method said) }
     {
-        let body = match self.namespace.tree(self.alloc, id) {
-            Ok(body) => body,
-            Err(TreeFault::Refused(refusal)) => {
-                return Ok(Verdict::Unreadable {
-                    table: method.table,
-                    refusal,
-                });
-            }
-            Err(TreeFault::NoMemory) => return Err(NoMemory),
-        };
+        match self.namespace.tree(self.alloc, id) {
+            Ok(body) => self.judge_body(id, method, &body),
+            Err(TreeFault::Refused(refusal)) => Ok(Verdict::Unreadable {
+                table: method.table,
+                refusal,
+            }),
+            Err(TreeFault::NoMemory) => Err(NoMemory),
+        }
+    }
+
+    /// The same where its statements are read.
+    fn judge_body(&self, id: ObjectId, method: Method, body: &[Term]) -> Result<Verdict, NoMemory>
+        requires next { slice_get (numbers self.now.order.items) self.now.judged ≡ Some id.0 }
+        requires there { method_at (shown self.now.namespace.now) id.0 ≡ Some method }
+        requires read { IsRead (shown self.now.namespace.now) id.0 method (map view body.now) }
+        ensures { IfOk result (λ said. IsVerifier self.now → SaysNext self.now id.0 method said) }
+    {
         let bytes = self.namespace.body_bytes(id);
-        let owns = OwnNames::of(self.alloc, bytes, &body)?;
+        let owns = OwnNames::of(self.alloc, bytes, body)?;
         let args = arguments(self.alloc, self.namespace, self.signatures, id, method.args)?;
         let mut around = Body {
             alloc: self.alloc,
@@ -179,8 +200,9 @@ impl<'a, 's> Verifier<'a, 's> {
             held: Vec::new(self.alloc),
             fields: Vec::new(self.alloc),
         };
+        self.shapes.are_apart();
         let short = self.heights.is_short(id, 64);
-        match judge(self.alloc, &mut around, short, method.at, args, &body) {
+        match judge(self.alloc, &mut around, short, method.at, args, body) {
             Ok(accepted) => Ok(Verdict::Accepted(accepted)),
             Err(Stop::Refused(refusal)) => Ok(Verdict::Refused(refusal)),
             Err(Stop::NoMemory) => Err(NoMemory),
@@ -190,9 +212,10 @@ impl<'a, 's> Verifier<'a, 's> {
     /// What is said of all methods, where all are judged. It takes no memory.
     #[must_use]
     pub fn finish(self) -> Checked<'a>
-        ensures checked { IsVerifier self → length self.order.items - self.judged ≡ 0 →
-            IsChecked (kinds_told self.signatures.now) result }
-        ensures namespace { result.namespace ≡ self.namespace }
+        ensures checked { let v = self.entry in
+            IsVerifier v → length v.order.items - v.judged ≡ 0 →
+            IsChecked (kinds_told v.signatures.now) result }
+        ensures namespace { result.namespace.now ≡ self.entry.namespace.now }
     {
         Checked {
             namespace: self.namespace,
@@ -214,7 +237,7 @@ pub fn verify<'a>(
     signatures: &Signatures,
 ) -> Result<Checked<'a>, NoMemory>
     ensures checked { IfOk result (IsChecked (kinds_told signatures.now)) }
-    ensures namespace { IfOk result (λ c. c.namespace ≡ namespace) }
+    ensures namespace { IfOk result (λ c. c.namespace.now ≡ namespace.now) }
 {
     let mut verifier = Verifier::new(alloc, namespace, signatures)?;
     for _ in 0..verifier.left() {

@@ -36,6 +36,7 @@ const LINES: &[(FaultCause, Where, &str)] = &[
         IN_TABLE,
         "E301 Duplicate 1 38",
     ),
+    (FaultCause::BadKinds, Where::Line(2), "E501 BadKinds 2"),
     (FaultCause::File, Where::Line(1), "E523 File 1"),
     (FaultCause::File, Where::Line(65_536), "E523 File 65536"),
     (FaultCause::BadArgs, Where::Element(0), "E521 BadArgs 0"),

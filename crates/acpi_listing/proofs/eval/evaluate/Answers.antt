@@ -1,6 +1,6 @@
 use Rattle.std.proofs.Common.{option_map, map}
 use Rattle.aml_values.specs.Views.{view}
-use Rattle.acpi_listing.proofs.Evaluations.{no_arguments, no_registers, no_inputs, inputs_evaluated}
+use Rattle.acpi_listing.proofs.Evaluations.{no_arguments, no_registers, no_signatures, no_inputs, inputs_evaluated}
 use Rattle.acpi_listing.proofs.eval.evaluate.Goals as goal
 
 pub returns-in_err-arguments-clause-printed : goal.returns-in_err-arguments-clause-printed
@@ -8,8 +8,9 @@ returns-in_err-arguments-clause-printed g c =
     let request = c.args.request.now in
     let args = option_map (λ text. text.now) request.args in
     let regs = option_map (λ name. name.now) request.regs in
+    let kinds = option_map (λ name. name.now) request.kinds in
     let osi = option_map (λ text. text.now) request.osi in
-    no_arguments g.F.Source.answers c.args.files.now request.inputs request.method.now args regs request.steps osi _ _ c.from_residual.result
+    no_arguments g.F.Source.answers c.args.files.now request.inputs request.method.now args regs kinds request.steps osi _ _ c.from_residual.result
     c.from_residual.ensures.1 c.in_err-arguments.ensures
 
 pub returns-in_err-registers-clause-printed : goal.returns-in_err-registers-clause-printed
@@ -17,24 +18,37 @@ returns-in_err-registers-clause-printed g c =
     let request = c.args.request.now in
     let args = option_map (λ text. text.now) request.args in
     let regs = option_map (λ name. name.now) request.regs in
+    let kinds = option_map (λ name. name.now) request.kinds in
     let osi = option_map (λ text. text.now) request.osi in
-    no_registers g.F.Source.answers c.args.files.now _ request.inputs request.method.now args regs (map view c.in_ok-arguments.arguments.items) request.steps osi _ _ c.from_residual-in_err-registers.result
+    no_registers g.F.Source.answers c.args.files.now _ request.inputs request.method.now args regs kinds (map view c.in_ok-arguments.arguments.items) request.steps osi _ _ c.from_residual-in_err-registers.result
     c.from_residual-in_err-registers.ensures.1 c.in_ok-arguments.ensures c.in_err-registers.ensures.read
+
+pub returns-in_err-_signatures-clause-printed : goal.returns-in_err-_signatures-clause-printed
+returns-in_err-_signatures-clause-printed g c =
+    let request = c.args.request.now in
+    let args = option_map (λ text. text.now) request.args in
+    let regs = option_map (λ name. name.now) request.regs in
+    let kinds = option_map (λ name. name.now) request.kinds in
+    let osi = option_map (λ text. text.now) request.osi in
+    no_signatures g.F.Source.answers c.args.files.now _ _ request.inputs request.method.now args regs kinds (map view c.in_ok-arguments.arguments.items) c.in_ok-registers.registers request.steps osi _ _ c.from_residual-in_err-_signatures.result
+    c.from_residual-in_err-_signatures.ensures.1 c.in_ok-arguments.ensures c.in_ok-registers.ensures.read c.in_err-_signatures.ensures
 
 pub returns-in_err-inputs-clause-printed : goal.returns-in_err-inputs-clause-printed
 returns-in_err-inputs-clause-printed g c =
     let request = c.args.request.now in
     let args = option_map (λ text. text.now) request.args in
     let regs = option_map (λ name. name.now) request.regs in
+    let kinds = option_map (λ name. name.now) request.kinds in
     let osi = option_map (λ text. text.now) request.osi in
-    no_inputs g.F.Source.answers c.args.files.now _ _ request.inputs request.method.now args regs (map view c.in_ok-arguments.arguments.items) c.in_ok-registers.registers request.steps osi _ _ c.from_residual-in_err-inputs.result
-    c.from_residual-in_err-inputs.ensures.1 c.in_ok-arguments.ensures c.in_ok-registers.ensures.read c.in_err-inputs.ensures
+    no_inputs g.F.Source.answers c.args.files.now _ _ _ request.inputs request.method.now args regs kinds (map view c.in_ok-arguments.arguments.items) c.in_ok-registers.registers c.in_ok-_signatures._signatures request.steps osi _ _ c.from_residual-in_err-inputs.result
+    c.from_residual-in_err-inputs.ensures.1 c.in_ok-arguments.ensures c.in_ok-registers.ensures.read c.in_ok-_signatures.ensures c.in_err-inputs.ensures
 
 pub returns-clause-printed : goal.returns-clause-printed
 returns-clause-printed g c =
     let request = c.args.request.now in
     let args = option_map (λ text. text.now) request.args in
     let regs = option_map (λ name. name.now) request.regs in
+    let kinds = option_map (λ name. name.now) request.kinds in
     let osi = option_map (λ text. text.now) request.osi in
-    inputs_evaluated g.F.Source.answers c.args.files.now _ _ request.inputs request.method.now args regs (map view c.in_ok-arguments.arguments.items) c.in_ok-registers.registers c.in_ok-inputs.inputs request.steps osi _ _ c.evaluate_inputs.result
-    c.in_ok-arguments.ensures c.in_ok-registers.ensures.read c.in_ok-inputs.ensures c.evaluate_inputs.ensures.printed
+    inputs_evaluated g.F.Source.answers c.args.files.now _ _ _ request.inputs request.method.now args regs kinds (map view c.in_ok-arguments.arguments.items) c.in_ok-registers.registers c.in_ok-_signatures._signatures c.in_ok-inputs.inputs request.steps osi _ _ c.evaluate_inputs.result
+    c.in_ok-arguments.ensures c.in_ok-registers.ensures.read c.in_ok-_signatures.ensures c.in_ok-inputs.ensures c.evaluate_inputs.ensures.printed

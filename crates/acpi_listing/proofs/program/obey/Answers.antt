@@ -1,7 +1,7 @@
 use Rattle.std.proofs.Common.{Bor, List, ℕ, map, subst}
 use Rattle.acpi_listing.specs.Files.{ListsFiles}
 use Rattle.acpi_listing.specs.Steps.{Writes}
-use Rattle.acpi_listing.specs.declared.words.Request.TheVariants.{Tables, Names, Eval}
+use Rattle.acpi_listing.specs.declared.words.Request.TheVariants.{Tables, Names, Verify, Eval}
 use Rattle.acpi_listing.proofs.Telling.{obeyed}
 use Rattle.acpi_listing.proofs.program.obey.Goals as goal
 
@@ -22,6 +22,12 @@ returns-in-Names-clause-printed g c =
     obeyed g.F.Source.answers (map g.S.AsStr.text c.args.words.now) c.args.files.now c.list_names_of.new.files
     (g.W.Write.contents c.args.out.now) (g.W.Write.contents c.list_names_of.new.out) (Names c.in-Names.inputs) c.list_names_of.result
     (rw c.in-Names.is at c.in_ok-names.ensures) c.list_names_of.ensures.printed
+
+pub returns-in-Verify-clause-printed : goal.returns-in-Verify-clause-printed
+returns-in-Verify-clause-printed g c =
+    obeyed g.F.Source.answers (map g.S.AsStr.text c.args.words.now) c.args.files.now c.verify_files.new.files
+    (g.W.Write.contents c.args.out.now) (g.W.Write.contents c.verify_files.new.out) (Verify c.in-Verify.request) c.verify_files.result
+    (rw c.in-Verify.is at c.in_ok-names.ensures) c.verify_files.ensures.printed
 
 pub returns-in-Eval-clause-printed : goal.returns-in-Eval-clause-printed
 returns-in-Eval-clause-printed g c =

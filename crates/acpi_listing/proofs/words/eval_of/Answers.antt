@@ -12,7 +12,7 @@ returns-in_default c =
 pub returns-in_default-get_one : goal.returns-in_default-get_one
 returns-in_default-get_one c = inr (
   c.nowhere-in_default-get_one.ensures,
-  λ r parts. let (text, is, count) = parts.4 in
+  λ r parts. let (text, is, count) = parts.5 in
       let (e, gives) = c.in_default-get_one.ensures.value text (one_text-rows (found_of c.args.found.now) (codes "plain") ∙ is) in
       gives.0 (count.0, subst (λ m. m < 2 ^ 64) count.2 count.1),
 )
@@ -25,6 +25,7 @@ returns c =
       sym (first_value-rows found (codes "method")) ∙ sym c.in-Some.ensures,
       sym (first_value-rows found (codes "args")) ∙ sym c.get_str-2.ensures,
       sym (first_value-rows found (codes "regs")) ∙ sym c.get_str-3.ensures,
+      sym (first_value-rows found (codes "kinds")) ∙ sym c.get_str-4.ensures,
       (steps.0, sym (one_text-rows found (codes "plain")) ∙ steps.1, steps.2),
-      sym (first_value-rows found (codes "osi")) ∙ sym c.get_str-4.ensures,
+      sym (first_value-rows found (codes "osi")) ∙ sym c.get_str-5.ensures,
     )

@@ -1,0 +1,78 @@
+-- Laws of judging methods.
+use Rattle.std.proofs.Common.{◌≡◌, ℕ, List, [], Option, Result, Ok, Err}
+use Rattle.std.specs.Prelude.{IsErrAnd}
+use Rattle.aml_methods.specs.Judgings.{Told}
+use Rattle.aml_namespace.specs.Load.{Shown}
+use Rattle.aml_signatures.specs.Signed.{kinds_told}
+use Rattle.aml_signatures.specs.declared.signatures.Signatures.{Signatures}
+use Rattle.aml_verify.specs.declared.checked.Checked.{Checked}
+use Rattle.acpi_verdicts.specs.Verdicts.{verdicts_text}
+use Rattle.acpi_listing.specs.Commands.{AreVerdictsOn, Judges, VerifiesFiles, VerifiesTables, verdicts_status}
+use Rattle.acpi_listing.specs.Files.{Answers}
+use Rattle.acpi_listing.specs.Inputs.{OpensInputs, ReadsInputs, tables_of}
+use Rattle.acpi_listing.specs.Loading.{IsNamespace, Loads}
+use Rattle.acpi_listing.specs.Signatures.{OpensSignatures}
+use Rattle.acpi_listing.specs.Steps.{Step, Then, Obtains, Still, Tells, Writes}
+use Rattle.acpi_listing.specs.declared.fault.Fault.{Fault}
+use Rattle.acpi_listing.specs.declared.fault.Stop.{Stop}
+use Rattle.acpi_listing.specs.declared.fault.Stop.TheVariants.{Fault as Faulty}
+use Rattle.acpi_listing.specs.declared.inputs.InputNames.{InputNames}
+use Rattle.acpi_listing.specs.declared.inputs.Inputs.{Inputs}
+use Rattle.acpi_listing.proofs.Chains.{given, given_fault, quiet, quiet_fault, still}
+
+-- what stands behind the verdicts, and behind the load
+abbrev behind_verdicts : Checked → Step (Unit {0}) ℕ
+behind_verdicts checked = Tells (verdicts_text checked) (verdicts_status checked)
+
+abbrev behind_judged_load : Told → Shown → Step (Unit {0}) ℕ
+behind_judged_load told ns = Then (Obtains (Judges told ns)) behind_verdicts
+
+-- tables that cannot be loaded
+pub no_judged_load : (told : Told) (tables : List (List ℕ)) (held : Option (List ℕ)) (f : Fault) (r : Result ℕ Stop)
+    → IsErrAnd r (λ s. s ≡ Faulty f) → Loads [] tables (Err f) → Writes (VerifiesTables told tables) tt tt held held r
+no_judged_load told tables held f r is fails = given_fault (Loads [] tables) (behind_judged_load told) tt held f r is fails
+
+-- methods that memory is wanted for
+pub no_verdicts : (told : Told) (tables : List (List ℕ)) (ns : Shown) (held : Option (List ℕ)) (f : Fault) (r : Result ℕ Stop)
+    → IsErrAnd r (λ s. s ≡ Faulty f) → IsNamespace [] tables ns → Judges told ns (Err f) → Writes (VerifiesTables told tables) tt tt held held r
+no_verdicts told tables ns held f r is loaded wants =
+    given (Loads [] tables) (behind_judged_load told) tt tt held held ns r loaded
+    (given_fault (Judges told ns) behind_verdicts tt held f r is wants)
+
+-- verdicts that are listed
+pub verdicts_listed : (told : Told) (tables : List (List ℕ)) (ns : Shown) (checked : Checked) (held holds : Option (List ℕ)) (r : Result ℕ Stop)
+    → IsNamespace [] tables ns → AreVerdictsOn told ns checked → Writes (behind_verdicts checked) tt tt held holds r
+    → Writes (VerifiesTables told tables) tt tt held holds r
+verdicts_listed told tables ns checked held holds r loaded are does =
+    given (Loads [] tables) (behind_judged_load told) tt tt held holds ns r loaded
+    (given (Judges told ns) behind_verdicts tt tt held holds checked r are does)
+
+-- what stands behind the inputs, and behind the kinds
+abbrev behind_judged_inputs : {F : Type 0} → Signatures → Inputs → Step F ℕ
+behind_judged_inputs signatures inputs = Still (VerifiesTables (kinds_told signatures) (tables_of inputs))
+
+abbrev behind_kinds : {F : Type 0} → Answers F → InputNames → Signatures → Step F ℕ
+behind_kinds answers names signatures = Then (ReadsInputs answers names) (behind_judged_inputs signatures)
+
+-- kinds that cannot be read
+pub no_kinds : {F : Type 0} (answers : Answers F) (old new : F) (names : InputNames) (kinds : Option (List ℕ)) (held : Option (List ℕ)) (f : Fault) (r : Result ℕ Stop)
+    → IsErrAnd r (λ s. s ≡ Faulty f) → OpensSignatures answers old kinds (Err f) new → Writes (VerifiesFiles answers names kinds) old new held held r
+no_kinds answers old new names kinds held f r is opens = quiet_fault (λ o x n. OpensSignatures answers o kinds x n) (behind_kinds answers names) old new held f r is opens
+
+-- inputs that cannot be read
+pub no_judged_inputs : {F : Type 0} (answers : Answers F) (old told new : F) (names : InputNames) (kinds : Option (List ℕ)) (signatures : Signatures) (held : Option (List ℕ)) (f : Fault) (r : Result ℕ Stop)
+    → IsErrAnd r (λ s. s ≡ Faulty f) → OpensSignatures answers old kinds (Ok signatures) told → OpensInputs answers told names (Err f) new
+    → Writes (VerifiesFiles answers names kinds) old new held held r
+no_judged_inputs answers old told new names kinds signatures held f r is tells opens =
+    quiet (λ o x n. OpensSignatures answers o kinds x n) (behind_kinds answers names) old told new held held signatures r tells
+    (quiet_fault (λ o x n. OpensInputs answers o names x n) (behind_judged_inputs signatures) told new held f r is opens)
+
+-- inputs that were read
+pub inputs_judged : {F : Type 0} (answers : Answers F) (old told new : F) (names : InputNames) (kinds : Option (List ℕ)) (signatures : Signatures) (inputs : Inputs) (held holds : Option (List ℕ)) (r : Result ℕ Stop)
+    → OpensSignatures answers old kinds (Ok signatures) told → OpensInputs answers told names (Ok inputs) new
+    → Writes (VerifiesTables (kinds_told signatures) (tables_of inputs)) tt tt held holds r
+    → Writes (VerifiesFiles answers names kinds) old new held holds r
+inputs_judged answers old told new names kinds signatures inputs held holds r tells opens does =
+    quiet (λ o x n. OpensSignatures answers o kinds x n) (behind_kinds answers names) old told new held holds signatures r tells
+    (quiet (λ o x n. OpensInputs answers o names x n) (behind_judged_inputs signatures) told new new held holds inputs r opens
+    (still (VerifiesTables (kinds_told signatures) (tables_of inputs)) new held holds r does))

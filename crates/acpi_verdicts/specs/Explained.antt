@@ -1,0 +1,104 @@
+-- What people are told of why a method is refused.
+use Rattle.std.specs.Prelude.{ℕ, zero, suc, List, [], ◌∷◌, ◌++◌, Bool, true, false, Option, Some, None, codes, decimal, slice_get, if◌then◌else◌}
+use Rattle.std.specs.Option.{option_map_or}
+use Rattle.std.specs.Str.{bytes_eq}
+use Rattle.acpi_notes.specs.Label.{line_label}
+use Rattle.acpi_notes.specs.Tree.{tree_note}
+use Rattle.acpi_text.specs.Text.{joined}
+use Rattle.acpi_text.specs.Verdicts.{cause_text}
+use Rattle.acpi_verdicts.specs.Verdicts.{said_of}
+use Rattle.acpi_verdicts.specs.Words.{cause_words}
+use Rattle.aml_causes.specs.declared.cause.Cause.{Cause}
+use Rattle.aml_causes.specs.declared.cause.Cause.TheVariants as cause
+use Rattle.aml_causes.specs.declared.cause.Refusal.{Refusal}
+use Rattle.aml_namespace.specs.Bodies.{bytes_of}
+use Rattle.aml_namespace.specs.Load.{Shown}
+use Rattle.aml_namespace.specs.Names.{link_at}
+use Rattle.aml_namespace.specs.Shows.{shown}
+use Rattle.aml_namespace.specs.declared.link.Link.{Link}
+use Rattle.aml_namespace.specs.declared.link.Link.TheVariants as link
+use Rattle.aml_path_text.specs.Paths.{path_of}
+use Rattle.aml_paths.specs.Printed.{path_text}
+use Rattle.aml_paths.specs.declared.scope.ObjectId.{ObjectId}
+use Rattle.aml_tree.specs.Causes.{tree_cause_text}
+use Rattle.aml_tree.specs.declared.fault.Refusal.{Refusal as Unread}
+use Rattle.aml_verify.specs.declared.checked.Checked.{Checked}
+use Rattle.aml_verify.specs.declared.verdict.Verdict.{Verdict}
+use Rattle.aml_verify.specs.declared.verdict.Verdict.TheVariants as verdict
+
+-- how the file with a number is called: by its name, or by its number where the name is `@`, or there is none
+unfoldable pub label_of : List (List ℕ) → ℕ → List ℕ
+label_of names number =
+    option_map_or (λ name. if bytes_eq name (codes "@") then line_label number else name) (slice_get names number) (codes "file " ++ decimal number)
+
+-- the method that a name means, if it means one
+abbrev pub method_meant : Link → Option ObjectId
+method_meant (link.Method id) = Some id
+method_meant _ = None
+
+-- the method that the name at the place of a refusal calls
+abbrev pub called_at : Shown → ObjectId → Refusal → Option ObjectId
+called_at ns id refusal = method_meant (link_at ns.entries id.0 (bytes_of ns.tables refusal.table) refusal.at)
+
+-- whether a cause tells of the method that is called
+abbrev pub asks_callee : Cause → Bool
+asks_callee cause.Cycle = true
+asks_callee cause.CalleeRefused = true
+asks_callee cause.Depth = true
+asks_callee _ = false
+
+-- the method that is called where a method is refused, if the cause tells of a call
+abbrev pub callee_told : Shown → ObjectId → Refusal → Option ObjectId
+callee_told ns id refusal = if asks_callee refusal.why then called_at ns id refusal else None
+
+-- what stands behind the path of a method that is refused for a cause
+unfoldable pub refused_part : List ℕ → Refusal → List ℕ
+refused_part label refusal =
+    joined (codes ": " ∷ cause_text refusal.why ∷ codes ": " ∷ label ∷ codes ", byte " ∷ decimal refusal.at ∷ codes ": " ∷ cause_words refusal.why ∷ [])
+
+-- the line of a method that is refused for a cause
+abbrev pub refused_text : Shown → List ℕ → ObjectId → Refusal → List ℕ
+refused_text ns label id refusal =
+    path_text (path_of ns.entries id.0) ++ refused_part label refusal
+    ++ option_map_or (λ (callee : ObjectId). codes ": " ++ path_text (path_of ns.entries callee.0)) (callee_told ns id refusal) []
+    ++ codes "\n"
+
+-- how the place of a body that cannot be read is called, behind the method's path
+unfoldable pub unreadable_label : List ℕ → Unread → List ℕ
+unreadable_label label refusal = joined (codes ": " ∷ tree_cause_text refusal.cause ∷ codes ": " ∷ label ∷ [])
+
+-- the line of a method whose body cannot be read
+abbrev pub unreadable_text : Shown → List ℕ → List ℕ → ObjectId → Unread → List ℕ
+unreadable_text ns label bytes id refusal = path_text (path_of ns.entries id.0) ++ tree_note label bytes refusal.at refusal.cause ++ codes "\n"
+
+-- the line of what is said of a method, if it is refused
+abbrev pub said_reason : List (List ℕ) → Shown → ObjectId → Option Verdict → List ℕ
+said_reason names ns id None = []
+said_reason names ns id (Some (verdict.Accepted accepted)) = []
+said_reason names ns id (Some (verdict.Refused refusal)) = refused_text ns (label_of names refusal.table) id refusal
+said_reason names ns id (Some (verdict.Unreadable table refusal)) =
+    unreadable_text ns (unreadable_label (label_of names table) refusal) (bytes_of ns.tables table) id refusal
+
+-- the line of a method
+abbrev pub reason_text : List (List ℕ) → Checked → ObjectId → List ℕ
+reason_text names checked id = said_reason names (shown checked.namespace.now) id (said_of checked id.0)
+
+-- whether a cause is that of the method that is called
+abbrev pub is_of_callee : Cause → Bool
+is_of_callee cause.CalleeRefused = true
+is_of_callee _ = false
+
+-- the method whose own cause is told next, by what is said of one: that which it calls, where it is refused for that
+abbrev pub next_by : Shown → ObjectId → Option Verdict → Option ObjectId
+next_by ns id (Some (verdict.Refused refusal)) = if is_of_callee refusal.why then called_at ns id refusal else None
+next_by ns id _ = None
+
+abbrev pub next_of : Checked → ObjectId → Option ObjectId
+next_of checked id = next_by (shown checked.namespace.now) id (said_of checked id.0)
+
+-- the lines of a method and of those that are refused before it, so many methods at most
+abbrev pub chain_text : ℕ → List (List ℕ) → Checked → ObjectId → List ℕ
+chain_text zero names checked id = codes "and so on\n"
+chain_text (suc most) names checked id =
+    reason_text names checked id
+    ++ option_map_or (λ callee. codes "  " ++ chain_text most names checked callee) (next_of checked id) []

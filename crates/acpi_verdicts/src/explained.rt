@@ -1,0 +1,226 @@
+// What people are told of why a method is refused.
+
+ghost use Rattle.std.specs.Prelude.{◌≡◌, ◌++◌, IfOk, OnOk, map, string_bytes};
+ghost use Rattle.acpi_verdicts.specs.Explained.{asks_callee, called_at, callee_told, chain_text, label_of, next_of, reason_text, refused_part, refused_text, unreadable_label, unreadable_text};
+ghost use Rattle.aml_namespace.specs.Shows.{shown};
+
+use crate::words::cause_words;
+use acpi_notes::{TreePlace, file_label, tree_note};
+use acpi_text::{RunFault, cause_text};
+use aml_causes::{Cause, Refusal};
+use aml_namespace::{Link, Namespace};
+use aml_path_text::push_path;
+use aml_paths::ObjectId;
+use aml_tree::Refusal as Unread;
+use aml_verify::{Checked, Verdict};
+use std::alloc::{AllocError, Global};
+
+/// The most methods that are told of one behind the other: as many as may be active at once.
+const MOST_TOLD: u8 = 64;
+
+/// Why the method with a number is refused, in lines that each end in a line feed: its path, the cause,
+/// the file, the byte, and what the cause means; of a cause that tells of a call the path of the method
+/// that is called. Where that one is refused itself, the lines of it follow, two spaces further in, down
+/// to the first method that is refused for another cause, or 64 methods. No line where the method is
+/// accepted, or no method has the number.
+///
+/// The files are called by the names that are handed in, in the order of the tables.
+///
+/// # Errors
+///
+/// `NoMemory`, where memory is wanted.
+pub fn explain(
+    alloc: Global,
+    checked: &Checked<'_>,
+    names: &[&str],
+    id: ObjectId,
+) -> Result<Vec<u8>, RunFault>
+    ensures { IfOk result (λ text. text.items
+        ≡ chain_text 64 (map (λ name. name.now) names.now) checked.now id) }
+{
+    let mut text = Vec::new(alloc);
+    push_chain(alloc, &mut text, checked, names, id, MOST_TOLD)?;
+    Ok(text)
+}
+
+// Adds the lines of a method, and of those that are refused before it, so many methods at most.
+fn push_chain(
+    alloc: Global,
+    text: &mut Vec<u8>,
+    checked: &Checked<'_>,
+    names: &[&str],
+    id: ObjectId,
+    most: u8,
+) -> Result<(), RunFault>
+    ensures { OnOk result (text.new.items ≡ text.old.items
+        ++ chain_text most (map (λ name. name.now) names.now) checked.now id) }
+{
+    if most == 0 {
+        text.extend_from_slice(b"and so on\n")?;
+        return Ok(());
+    }
+    push_reason(alloc, text, checked, names, id)?;
+    let Some(callee) = next_of(checked, id) else {
+        return Ok(());
+    };
+    text.extend_from_slice(b"  ")?;
+    push_chain(alloc, text, checked, names, callee, most - 1)
+}
+
+// Adds the line of one method, if it is refused.
+fn push_reason(
+    alloc: Global,
+    text: &mut Vec<u8>,
+    checked: &Checked<'_>,
+    names: &[&str],
+    id: ObjectId,
+) -> Result<(), RunFault>
+    ensures { OnOk result (text.new.items ≡ text.old.items
+        ++ reason_text (map (λ name. name.now) names.now) checked.now id) }
+{
+    match checked.verdict(id) {
+        Some(Verdict::Refused(refusal)) => {
+            let label = label_of(alloc, names, refusal.table)?;
+            push_refused(
+                alloc,
+                text,
+                checked.namespace(),
+                id,
+                label.as_str(),
+                *refusal,
+            )
+        }
+        Some(Verdict::Unreadable { table, refusal }) => {
+            let label = label_of(alloc, names, *table)?;
+            let label = unreadable_label(alloc, label.as_str(), *refusal)?;
+            let bytes = checked.namespace().table_bytes(*table);
+            push_unreadable(
+                alloc,
+                text,
+                checked.namespace(),
+                id,
+                label.as_str(),
+                bytes,
+                *refusal,
+            )
+        }
+        Some(Verdict::Accepted(_)) | None => Ok(()),
+    }
+}
+
+// How the file with a number is called.
+#[tactic(auto, unfolding(crate::specs::Explained::label_of))]
+fn label_of(alloc: Global, names: &[&str], number: usize) -> Result<String, AllocError>
+    ensures { IfOk result (λ label. string_bytes label
+        ≡ label_of (map (λ name. name.now) names.now) number) }
+{
+    match names.get(number) {
+        Some(name) => file_label(alloc, name, number),
+        None => format!(in alloc; "file {number}"),
+    }
+}
+
+// Adds the line of a method that is refused for a cause at a place of its body.
+fn push_refused(
+    alloc: Global,
+    text: &mut Vec<u8>,
+    namespace: &Namespace<'_>,
+    id: ObjectId,
+    label: &str,
+    refusal: Refusal,
+) -> Result<(), RunFault>
+    ensures { OnOk result (text.new.items ≡ text.old.items
+        ++ refused_text (shown namespace.now) label.now id refusal) }
+{
+    push_path(alloc, text, namespace, id)?;
+    let part = refused_part(alloc, label, refusal)?;
+    text.extend_from_slice(part.as_bytes())?;
+    if let Some(callee) = callee_told(namespace, id, refusal) {
+        text.extend_from_slice(b": ")?;
+        push_path(alloc, text, namespace, callee)?;
+    }
+    text.extend_from_slice(b"\n")?;
+    Ok(())
+}
+
+// What stands behind the path of a method that is refused for a cause.
+#[tactic(auto, unfolding(crate::specs::Explained::refused_part))]
+fn refused_part(alloc: Global, label: &str, refusal: Refusal) -> Result<String, AllocError>
+    ensures { IfOk result (λ part. string_bytes part ≡ refused_part label.now refusal) }
+{
+    let cause = cause_text(refusal.why);
+    let words = cause_words(refusal.why);
+    let at = refusal.at;
+    format!(in alloc; ": {cause}: {label}, byte {at}: {words}")
+}
+
+// How the place of a body that cannot be read is called, behind the method's path.
+#[tactic(auto, unfolding(crate::specs::Explained::unreadable_label))]
+fn unreadable_label(alloc: Global, label: &str, refusal: Unread) -> Result<String, AllocError>
+    ensures { IfOk result (λ part. string_bytes part ≡ unreadable_label label.now refusal) }
+{
+    let cause = refusal.cause.text();
+    format!(in alloc; ": {cause}: {label}")
+}
+
+// Adds the line of a method whose body cannot be read.
+fn push_unreadable(
+    alloc: Global,
+    text: &mut Vec<u8>,
+    namespace: &Namespace<'_>,
+    id: ObjectId,
+    label: &str,
+    bytes: &[u8],
+    refusal: Unread,
+) -> Result<(), RunFault>
+    ensures { OnOk result (text.new.items ≡ text.old.items
+        ++ unreadable_text (shown namespace.now) label.now bytes.now id refusal) }
+{
+    push_path(alloc, text, namespace, id)?;
+    let at = refusal.at;
+    let note = tree_note(alloc, TreePlace { label, bytes, at }, refusal.cause)?;
+    text.extend_from_slice(note.as_bytes())?;
+    text.extend_from_slice(b"\n")?;
+    Ok(())
+}
+
+// The method whose own cause is told next: the one that is called, where a method is refused for that.
+fn next_of(checked: &Checked<'_>, id: ObjectId) -> Option<ObjectId>
+    ensures { result ≡ next_of checked.now id }
+{
+    match checked.verdict(id) {
+        Some(Verdict::Refused(refusal)) if refusal.why == Cause::CalleeRefused => {
+            called_at(checked.namespace(), id, *refusal)
+        }
+        _ => None,
+    }
+}
+
+// The method that is called where a method is refused, if the cause tells of a call.
+fn callee_told(namespace: &Namespace<'_>, id: ObjectId, refusal: Refusal) -> Option<ObjectId>
+    ensures { result ≡ callee_told (shown namespace.now) id refusal }
+{
+    if asks_callee(refusal.why) {
+        called_at(namespace, id, refusal)
+    } else {
+        None
+    }
+}
+
+// Whether a cause tells of the method that is called.
+fn asks_callee(cause: Cause) -> bool
+    ensures { result ≡ asks_callee cause }
+{
+    matches!(cause, Cause::Cycle | Cause::CalleeRefused | Cause::Depth)
+}
+
+// The method that the name at the place of a refusal calls. The name of a call is no own name.
+fn called_at(namespace: &Namespace<'_>, id: ObjectId, refusal: Refusal) -> Option<ObjectId>
+    ensures { result ≡ called_at (shown namespace.now) id refusal }
+{
+    let bytes = namespace.table_bytes(refusal.table);
+    match namespace.link(id, bytes, refusal.at) {
+        Link::Method(callee) => Some(callee),
+        _ => None,
+    }
+}

@@ -1,0 +1,14 @@
+//! The verdicts on the methods of a namespace, as they are printed, and what people are told of why a
+//! method is refused.
+//!
+//! Rooms: `listed` prints the verdicts and answers whether a method is refused, `words` has what causes
+//! mean, `explained` what is told of a refused method and of those that it calls.
+#![tactic(auto)]
+
+mod explained;
+mod listed;
+mod words;
+
+pub use explained::explain;
+pub use listed::{any_refused, list_verdicts};
+pub use words::cause_words;

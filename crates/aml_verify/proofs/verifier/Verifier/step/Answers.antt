@@ -1,0 +1,16 @@
+use Rattle.std.proofs.Common.{◌≡◌, ◌<◌, ℕ, Some, length, refl, slice_get, arith}
+use Rattle.aml_bounds.specs.Pairs.{numbers}
+use Rattle.aml_namespace.specs.Shows.{shown}
+use Rattle.aml_signatures.specs.Signed.{kinds_told}
+use Rattle.aml_verify.proofs.Stepping.{number_there, one_step}
+use Rattle.aml_verify.proofs.verifier.Verifier.step.Goals as goal
+
+pub returns-clause-verifier : goal.returns-clause-verifier
+returns-clause-verifier c = λ is. let v = c.args.self.now in
+    let lt : v.judged < length v.order.items = omega (arith, c.if-self-len.false, c.len.ensures) in
+    rw c.keep.ensures (one_step (shown v.namespace.now) (kinds_told v.signatures.now) v.shapes v.shared.items v.heights v.components (numbers v.order.items) v.judged v.verdicts.items is c.index-id.result.now.0 c.in_ok-said.said (number_there v.order.items v.judged c.index-id.result.now lt c.index-id.ensures) (c.in_ok-said.ensures is))
+
+pub returns-clause-next : goal.returns-clause-next
+returns-clause-next c =
+    let lt : c.args.self.now.judged < length c.args.self.now.order.items = omega (arith, c.if-self-len.false, c.len.ensures) in
+    (number_there c.args.self.now.order.items c.args.self.now.judged c.index-id.result.now lt c.index-id.ensures, refl)
