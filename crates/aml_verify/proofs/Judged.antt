@@ -1,5 +1,5 @@
 -- What is said of a body that was judged is its method's verdict.
-use Rattle.std.proofs.Common.{◌≡◌, ◌≤◌, ℕ, List, [], map, slice_get, Option, Some, None, Result, Ok, Err, refl, sym, ap, subst, ◌∙◌, arith}
+use Rattle.std.proofs.Common.{◌≡◌, ℕ, List, [], map, slice_get, Option, Some, Ok, Err, refl, sym, ap, subst, ◌∙◌, arith}
 use Rattle.std.specs.Prelude.{Bool}
 use Rattle.aml_components.specs.declared.components.Components.{Components}
 use Rattle.aml_components.specs.Heights.{is_short_in}
@@ -27,7 +27,7 @@ use Rattle.aml_namespace.specs.declared.object.Method.{Method}
 use Rattle.aml_namespace.specs.Load.{Shown}
 use Rattle.aml_namespace.specs.Names.{body_bytes, method_at, ReadsBodyOf}
 use Rattle.aml_operators.specs.declared.term.Term.{Term}
-use Rattle.aml_operators.specs.Tree.{Tree, trees, view, views}
+use Rattle.aml_operators.specs.Tree.{Tree, view, views}
 use Rattle.aml_own_names.specs.OwnNames.{own_names}
 use Rattle.aml_own_names.specs.declared.own_names.OwnName.{OwnName}
 use Rattle.aml_shapes.specs.Numbers.{numbered}

@@ -1,5 +1,6 @@
-pub mod Seeing
-pub mod Orders
 pub mod Places
+pub mod Orders
+pub mod Seeing
 pub mod Stepping
 pub mod Judged
+pub mod Beginning

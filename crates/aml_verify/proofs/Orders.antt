@@ -1,13 +1,12 @@
 -- An order in which each method stands behind those that it calls, and behind it those that begin too long a chain.
-use Rattle.std.proofs.Common.{◌≡◌, ◌≤◌, ◌<◌, ℕ, zero, suc, List, [], ◌∷◌, ◌++◌, map, length, take, slice_get, Some, None, refl, sym, ap, subst, ◌∙◌, arith}
-use Rattle.std.proofs.lemmas.Bool.{or_parts, eqb-true}
+use Rattle.std.proofs.Common.{◌≡◌, ℕ, zero, suc, List, [], ◌∷◌, ◌++◌, take, slice_get, Some, refl, sym, ap, subst, ◌∙◌}
+use Rattle.std.proofs.lemmas.Bool.{or_parts}
 use Rattle.std.proofs.lemmas.List.{map-append}
 use Rattle.std.proofs.lemmas.Option.{same_Some}
-use Rattle.std.specs.List.{list_all}
 use Rattle.std.specs.Prelude.{Bool, true, false, ◌==◌, ◌||◌}
-use Rattle.aml_bounds.specs.Chains.{Cycles, is_among, is_short, IsBehindCallees, TellsReach}
+use Rattle.aml_bounds.specs.Chains.{is_among, is_short, IsBehindCallees, TellsReach}
 use Rattle.aml_bounds.specs.Pairs.{calls_in, IsCallOrder, named, numbers, Pair}
-use Rattle.aml_bounds.proofs.Among.{among_all, among_append, first_among, neither, not_both, or_left, rest_among, same_number}
+use Rattle.aml_bounds.proofs.Among.{among_all, among_append, first_among, neither, not_both, rest_among}
 use Rattle.aml_bounds.proofs.ChainLaws.{chains_are_counted}
 use Rattle.aml_bounds.proofs.Places.{callee_named}
 use Rattle.aml_components.specs.Components.{AreComponents, are_together}
@@ -16,7 +15,7 @@ use Rattle.aml_components.specs.Heights.{AreHeights}
 use Rattle.aml_components.specs.declared.heights.Heights.{Heights}
 use Rattle.aml_judged.specs.Verdicts.{called_from, Judging}
 use Rattle.aml_methods.specs.Gathered.{AreCalls}
-use Rattle.aml_methods.specs.Judgings.{IsJudging, IsReady, TellsCalls, Told}
+use Rattle.aml_methods.specs.Judgings.{IsJudging, TellsCalls, Told}
 use Rattle.aml_namespace.specs.declared.object.Method.{Method}
 use Rattle.aml_namespace.specs.Load.{Shown}
 use Rattle.aml_namespace.specs.Names.{method_at}

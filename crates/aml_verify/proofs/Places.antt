@@ -1,15 +1,13 @@
 -- What is said of methods by their numbers, and where methods stand in their order.
-use Rattle.std.proofs.Common.{◌≡◌, ◌≢◌, ◌<◌, ◌≤◌, ◌+◌, ℕ, zero, suc, List, [], ◌∷◌, ◌++◌, length, take, slice_get, set, get_or, Option, Some, None, refl, sym, ap, subst, ◌∙◌, add-one, arith}
-use Rattle.std.proofs.lemmas.Bool.{or_parts, eqb-true}
+use Rattle.std.proofs.Common.{◌≡◌, ◌≢◌, ◌<◌, ◌+◌, ℕ, zero, suc, List, [], ◌∷◌, ◌++◌, length, take, slice_get, set, get_or, Option, Some, None, refl, sym, ap, ◌∙◌, add-one, arith}
 use Rattle.std.proofs.lemmas.List.{get_or-set_other, get_or-set_same}
 use Rattle.std.proofs.lemmas.Option.{same_Some, unwrap_or-slice_get}
-use Rattle.std.specs.Prelude.{Bool, true, false, ◌==◌, ◌||◌, option_and_then}
+use Rattle.std.specs.Prelude.{false, ◌==◌, ◌||◌}
 use Rattle.aml_paths.specs.Paths.{Path}
 use Rattle.aml_bounds.specs.Chains.{is_among}
-use Rattle.aml_bounds.proofs.Among.{among_append, neither, or_left, or_right, same_number}
+use Rattle.aml_bounds.proofs.Among.{among_append}
 use Rattle.aml_namespace.specs.declared.object.Entry.{Entry}
 use Rattle.aml_namespace.specs.declared.object.Method.{Method}
-use Rattle.aml_namespace.specs.Entries.{object_at}
 use Rattle.aml_namespace.specs.Load.{Shown}
 use Rattle.aml_namespace.specs.Names.{method_at}
 use Rattle.aml_verify.specs.Said.{verdict_at}

@@ -1,28 +1,25 @@
 -- A body is judged by what the definition sees.
-use Rattle.std.proofs.Common.{◌≡◌, ℕ, List, [], ◌∷◌, map, Option, Some, None, Result, Ok, Err, refl, sym, ap, subst, ◌∙◌}
-use Rattle.std.specs.Prelude.{Bool, true, false, not, if◌then◌else◌}
-use Rattle.aml_bounds.specs.Calls.{calls_of}
-use Rattle.aml_bounds.specs.Chains.{is_among, is_short, TellsReach}
+use Rattle.std.proofs.Common.{◌≡◌, ℕ, List, [], Option, Some, refl, sym, ap, subst, ◌∙◌}
+use Rattle.std.specs.Prelude.{Bool, true, false, if◌then◌else◌}
+use Rattle.aml_bounds.specs.Chains.{is_among, TellsReach}
 use Rattle.aml_contents.specs.BodyData.{body_data}
 use Rattle.aml_contents.specs.FirstContents.{first_kinds}
-use Rattle.aml_judged.specs.Bodies.{entry, judged_method}
-use Rattle.aml_judged.specs.Causes as cause
+use Rattle.aml_judged.specs.Bodies.{judged_method}
 use Rattle.aml_judged.specs.Judged as judged
 use Rattle.aml_judged.specs.Judged.{Around, Seen}
 use Rattle.aml_judged.specs.Known.{Env}
-use Rattle.aml_judged.specs.Verdicts as judgement
-use Rattle.aml_judged.specs.Verdicts.{accepted_of, AreAccepted, around_for, called_from, calls_by, Judging, seen_from, verdict_by, verdict_of}
+use Rattle.aml_judged.specs.Verdicts.{accepted_of, AreAccepted, around_for, called_from, calls_by, Judging, seen_from, verdict_by}
 use Rattle.aml_judged.proofs.Seen.{method_same}
 use Rattle.aml_known.specs.declared.known.Known.{Known}
-use Rattle.aml_kinds.specs.Kinds.{Kind, Shape}
+use Rattle.aml_kinds.specs.Kinds.{Shape}
 use Rattle.aml_meaning.specs.declared.part.BufferPart.{BufferPart}
 use Rattle.aml_meaning.specs.Methods.{callee_of, is_lone, listed}
-use Rattle.aml_meaning.specs.Within.{Callee, Methods}
+use Rattle.aml_meaning.specs.Within.{Callee}
 use Rattle.aml_methods.proofs.Judgings.{listed_trees, unread}
 use Rattle.aml_methods.specs.Judgings.{IsJudging, Told}
 use Rattle.aml_namespace.specs.declared.object.Method.{Method}
 use Rattle.aml_namespace.specs.Load.{Shown}
-use Rattle.aml_namespace.specs.Names.{IsBodyOf, body_bytes, link_with_owns, method_at}
+use Rattle.aml_namespace.specs.Names.{body_bytes, link_with_owns, method_at}
 use Rattle.aml_operators.specs.Tree.{Tree, trees}
 use Rattle.aml_own_names.specs.OwnNames.{own_names}
 use Rattle.aml_own_names.specs.declared.own_names.OwnName.{OwnName}

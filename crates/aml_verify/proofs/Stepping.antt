@@ -1,16 +1,15 @@
 -- A method more is judged.
-use Rattle.std.proofs.Common.{◌≡◌, ◌≢◌, ◌<◌, ◌≤◌, ◌+◌, ℕ, zero, suc, List, [], ◌∷◌, map, length, take, set, slice_get, get_or, Option, Some, None, Result, Ok, Err, refl, sym, ap, subst, ◌∙◌, arith}
+use Rattle.std.proofs.Common.{◌≡◌, ◌≢◌, ◌<◌, ◌≤◌, ◌+◌, ℕ, zero, suc, List, [], ◌∷◌, length, take, set, slice_get, get_or, Option, Some, None, refl, sym, ap, subst, ◌∙◌, arith}
 use Rattle.std.proofs.lemmas.Bool.{or_parts, eqb-true}
 use Rattle.std.proofs.lemmas.List.{length-set, take_all}
 use Rattle.std.proofs.lemmas.Option.{same_Some}
 use Rattle.std.specs.Prelude.{Bool, true, false, not, IsSome, ◌==◌, ◌||◌, if◌then◌else◌}
-use Rattle.aml_bounds.specs.Chains.{is_among, is_short}
+use Rattle.aml_bounds.specs.Chains.{is_among}
 use Rattle.aml_bounds.specs.Pairs.{numbers}
 use Rattle.aml_bounds.proofs.Among.{same_number}
 use Rattle.aml_paths.specs.declared.scope.ObjectId.{ObjectId}
 use Rattle.aml_components.specs.Components.{are_together}
 use Rattle.aml_components.specs.declared.components.Components.{Components}
-use Rattle.aml_components.specs.Heights.{is_short_in}
 use Rattle.aml_components.specs.declared.heights.Heights.{Heights}
 use Rattle.aml_kinds.specs.Kinds.{Shape}
 use Rattle.aml_known.specs.declared.known.Known.{Known}
@@ -18,7 +17,7 @@ use Rattle.aml_judged.specs.Judged as judged
 use Rattle.aml_judged.specs.Verdicts.{accepted_of, AreAccepted, called_from, Judging, seen_from, verdict_by}
 use Rattle.aml_judged.proofs.Order.{long_refused}
 use Rattle.aml_methods.proofs.Judgings.{no_callee}
-use Rattle.aml_methods.specs.Judgings.{IsJudging, TellsCalls, Told}
+use Rattle.aml_methods.specs.Judgings.{IsJudging, Told}
 use Rattle.aml_namespace.specs.declared.object.Method.{Method}
 use Rattle.aml_namespace.specs.Load.{Shown}
 use Rattle.aml_namespace.specs.Names.{method_at}

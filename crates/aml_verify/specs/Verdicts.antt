@@ -1,5 +1,5 @@
 -- What is said of the methods of a namespace.
-use Rattle.std.specs.Prelude.{◌≡◌, ◌≤◌, ◌+◌, ℕ, List, length, take, slice_get, slice_set, IsSome, Option, Some, None, Result, Ok, Err, true, false}
+use Rattle.std.specs.Prelude.{◌≡◌, ◌≤◌, ◌+◌, ◌-◌, ℕ, List, length, take, slice_get, slice_set, IsSome, Option, Some, None, Ok, Err, true, false}
 use Rattle.aml_bounds.specs.Chains.{is_among}
 use Rattle.aml_bounds.specs.Pairs.{numbers}
 use Rattle.aml_components.specs.declared.components.Components.{Components}
@@ -75,10 +75,15 @@ abbrev pub IsVerifier : Verifier → Type 0
 IsVerifier v = IsAtWork (shown v.namespace.now) (kinds_told v.signatures.now) v.shapes v.shared.items
     v.heights v.components (order_of v) v.judged v.verdicts.items
 
--- another verifier of the same methods, whose arguments are of the same kinds
+-- another verifier of the same methods in the same order, whose arguments are of the same kinds
 pub record IsOfSame (old new : Verifier) : Type 0 where
   pub namespace : new.namespace ≡ old.namespace
   pub signatures : new.signatures ≡ old.signatures
+  pub order : new.order ≡ old.order
+
+-- how many methods are left
+abbrev pub left : Verifier → ℕ
+left v = length v.order.items - v.judged
 
 -- the statements of a method's body that were read
 pub record IsRead (ns : Shown) (k : ℕ) (m : Method) (ts : List Tree) : Type 0 where

@@ -1,13 +1,13 @@
 // Judging the methods of a namespace, one body at a time.
 
-ghost use Rattle.std.specs.Prelude.{◌≡◌, ◌++◌, ◌-◌, ◌+◌, ℕ, IfOk, OnErr, None, Some, length, map, slice_get};
+ghost use Rattle.std.specs.Prelude.{◌≡◌, ◌++◌, ℕ, IfOk, OnErr, None, Some, length, map, slice_get};
 ghost use Rattle.aml_bounds.specs.Pairs.{numbers};
 ghost use Rattle.aml_namespace.specs.Names.{method_at};
 ghost use Rattle.aml_operators.specs.Tree.{view};
 ghost use Rattle.aml_namespace.specs.Shows.{shown};
 ghost use Rattle.aml_signatures.specs.Signed.{kinds_told};
 ghost use Rattle.aml_verify.specs.Said.{verdict_at};
-ghost use Rattle.aml_verify.specs.Verdicts.{IsChecked, IsOfSame, IsRead, IsVerifier, JudgesNext, kept, SaidOf, SaysNext};
+ghost use Rattle.aml_verify.specs.Verdicts.{IsChecked, IsOfSame, IsRead, IsVerifier, JudgesNext, kept, left, SaidOf, SaysNext};
 
 use crate::body::Body;
 use crate::checked::Checked;
@@ -118,7 +118,7 @@ impl<'a, 's> Verifier<'a, 's> {
     /// How many methods are left to be judged.
     #[must_use]
     pub fn left(&self) -> usize
-        ensures { result ≡ length self.now.order.items - self.now.judged }
+        ensures { result ≡ left self.now }
     {
         self.order.len().saturating_sub(self.judged)
     }
@@ -213,7 +213,7 @@ impl<'a, 's> Verifier<'a, 's> {
     #[must_use]
     pub fn finish(self) -> Checked<'a>
         ensures checked { let v = self.entry in
-            IsVerifier v → length v.order.items - v.judged ≡ 0 →
+            IsVerifier v → left v ≡ 0 →
             IsChecked (kinds_told v.signatures.now) result }
         ensures namespace { result.namespace.now ≡ self.entry.namespace.now }
     {

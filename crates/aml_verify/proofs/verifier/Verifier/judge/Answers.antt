@@ -1,6 +1,4 @@
-use Rattle.std.proofs.Common.{map, refl}
 use Rattle.aml_namespace.specs.Shows.{shown}
-use Rattle.aml_operators.specs.Tree.{view}
 use Rattle.aml_shapes.specs.Numbers.{numbered}
 use Rattle.aml_signatures.specs.Signed.{kinds_told}
 use Rattle.aml_verify.proofs.Judged.{is_read, unread_said}

@@ -1,4 +1,4 @@
-use Rattle.std.proofs.Common.{map, refl, sym}
+use Rattle.std.proofs.Common.{refl}
 use Rattle.aml_bounds.specs.Pairs.{numbers}
 use Rattle.aml_namespace.specs.Shows.{shown}
 use Rattle.aml_own_names.specs.OwnNamesSeen.{owns_seen}

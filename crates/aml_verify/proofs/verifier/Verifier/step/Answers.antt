@@ -1,4 +1,4 @@
-use Rattle.std.proofs.Common.{◌≡◌, ◌<◌, ℕ, Some, length, refl, slice_get, arith}
+use Rattle.std.proofs.Common.{◌<◌, length, refl, arith}
 use Rattle.aml_bounds.specs.Pairs.{numbers}
 use Rattle.aml_namespace.specs.Shows.{shown}
 use Rattle.aml_signatures.specs.Signed.{kinds_told}
