@@ -9,7 +9,6 @@
 #![tactic(auto)]
 
 mod around;
-mod body;
 pub mod calls;
 pub mod definitions;
 pub mod leaves;
@@ -18,9 +17,7 @@ pub mod names;
 pub mod progress;
 pub mod seen;
 pub mod targets;
-mod terms;
 pub mod turns;
 
 pub use around::{Around, FieldCosts, Made, Seen};
-pub use body::judge;
 pub use progress::Progress;

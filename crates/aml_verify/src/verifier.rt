@@ -14,7 +14,6 @@ use crate::checked::Checked;
 use crate::verdict::Verdict;
 use aml_bounds::call_order;
 use aml_components::{Components, Heights};
-use aml_judging::judge;
 use aml_known::{Known, Stop};
 use aml_methods::{arguments, gathered};
 use aml_namespace::{Method, Namespace};
@@ -24,7 +23,8 @@ use aml_paths::{NoMemory, ObjectId};
 use aml_shapes::{ShapeTable, shared_kinds};
 use aml_signatures::Signatures;
 use aml_tree::TreeFault;
-use std::alloc::{AllocError, Global};
+use aml_walk::judge;
+use std::alloc::Global;
 
 /// A verifier at work: each step judges one method, behind those that it calls.
 #[derive(Drop)]

@@ -11,7 +11,7 @@ use Rattle.aml_judged.specs.Bodies.{Nothing}
 use Rattle.aml_judging.specs.declared.around.Made.TheVariants as program
 use Rattle.aml_judging.proofs.Stored.{costs_judge}
 use Rattle.aml_judging.proofs.Makings.{stated_nothing, stated_what}
-use Rattle.aml_judging.proofs.body.top_statement.Goals as goal
+use Rattle.aml_walk.proofs.body.top_statement.Goals as goal
 
 pub returns-in_err-statement-in-Nothing : goal.returns-in_err-statement-in-Nothing
 returns-in_err-statement-in-Nothing g c =

@@ -25,7 +25,7 @@ use Rattle.aml_judging.specs.Views.{read_of}
 use Rattle.aml_judging.specs.Follows.{Costs, Gives, Judges, Paid}
 use Rattle.aml_judging.proofs.Going.{Leads, gives_judges, gives_stops, leads_more, leads_on, paid_judges}
 use Rattle.aml_judging.proofs.Stops.{refused_judges}
-use Rattle.aml_judging.proofs.StoresRuled.{leads_as, leads_stop}
+use Rattle.aml_walk.proofs.StoresRuled.{leads_as, leads_stop}
 
 module _ (here : Around) (w : Bool) (from : ℕ) (arguments : Trees) (given : Rule (List Kind)) where
   -- what takes no arguments

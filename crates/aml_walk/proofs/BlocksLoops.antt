@@ -32,9 +32,9 @@ use Rattle.aml_judging.specs.declared.turns.Turn.{Turn}
 use Rattle.aml_judging.specs.Turns.{falling_rule, IsPast, IsTurn, Leaves, often_rule, once_rule, StandsStill, tested, Turned, TurnSays}
 use Rattle.aml_judging.specs.Views.{held_cost, Standing, standing}
 use Rattle.aml_judging.specs.Follows.{Follows, Goes, Judges}
-use Rattle.aml_judging.proofs.Branches.{both_met, not_met}
+use Rattle.aml_walk.proofs.Branches.{both_met, not_met}
 use Rattle.aml_judging.proofs.Going.{gives_judges, stops_judge, then_judges}
-use Rattle.aml_judging.proofs.Loops.{often_goes, once_goes}
+use Rattle.aml_walk.proofs.Loops.{often_goes, once_goes}
 use Rattle.aml_judging.proofs.Stops.{refused_judges}
 
 -- a progress with the same environment, exits and cost stands the same

@@ -28,8 +28,8 @@ use Rattle.aml_known.proofs.Takings.{grown_twice, same_grown, says_earlier}
 use Rattle.aml_judging.specs.declared.progress.Progress.{Progress}
 use Rattle.aml_judging.specs.Views.{held_cost, Standing, standing}
 use Rattle.aml_judging.specs.Follows.{Follows, Goes, Judges}
-use Rattle.aml_judging.proofs.Branches.{apart_from, block_stops, either_differs, either_goes, either_rule, other_stops}
-use Rattle.aml_judging.proofs.BlocksGoing.{rests, stops_held, then_held}
+use Rattle.aml_walk.proofs.Branches.{apart_from, block_stops, either_differs, either_goes, either_rule, other_stops}
+use Rattle.aml_walk.proofs.BlocksGoing.{rests, stops_held, then_held}
 use Rattle.aml_judging.proofs.Going.{exits_same, then_follows, stops_follow}
 
 -- a place of a term

@@ -20,7 +20,7 @@ use Rattle.aml_kind_rules.specs.Tells.{division_of}
 use Rattle.aml_judging.specs.declared.progress.Progress.{Progress}
 use Rattle.aml_judging.specs.Follows.{Judges}
 use Rattle.aml_judging.proofs.Going.{stops_judge, then_judges}
-use Rattle.aml_judging.proofs.OperatorsGoing.{storing, storing_goes, storing_stops}
+use Rattle.aml_walk.proofs.OperatorsGoing.{storing, storing_goes, storing_stops}
 
 module _ (here : Around) where
   abbrev pub asks_binary : Arithmetic → Tree → Tree → Kind → Kind → Result Kind Refusal

@@ -7,7 +7,7 @@ use Rattle.aml_judging.specs.Views.{made_of}
 use Rattle.aml_judging.specs.Follows.{Judges}
 use Rattle.aml_judging.proofs.Going.{gives_judges, leads_begin, leads_more, leads_on, stops_judge}
 use Rattle.aml_judging.proofs.Makings.{left_with}
-use Rattle.aml_judging.proofs.body.statements.Goals as goal
+use Rattle.aml_walk.proofs.body.statements.Goals as goal
 
 pub loop-term-init : goal.loop-term-init
 loop-term-init g c = (refl, refl, leads_begin c.args.progress.now)

@@ -23,7 +23,7 @@ use Rattle.aml_known.specs.Views.{kind_of, yield_of}
 use Rattle.aml_judging.specs.declared.progress.Progress.{Progress}
 use Rattle.aml_judging.specs.Follows.{Gives, Judges, Paid}
 use Rattle.aml_judging.proofs.Going.{Leads, gives_judges, gives_stops, leads_more, leads_on, paid_judges}
-use Rattle.aml_judging.proofs.StoresRuled.{leads_as, leads_stop, ruled_judges, ruled_stops}
+use Rattle.aml_walk.proofs.StoresRuled.{leads_as, leads_stop, ruled_judges, ruled_stops}
 
 -- a place of a term
 pub place_out : (here : Around) (t : Term) → place here (view t) ≡ place_at here (out-Term t).at

@@ -2,7 +2,7 @@ use Rattle.std.proofs.Common.{◌≡◌, drop}
 use Rattle.aml_operators.specs.Tree.{views}
 use Rattle.aml_judged.specs.Bodies.{judged_body}
 use Rattle.aml_judging.proofs.Going.{Leads}
-use Rattle.aml_judging.proofs.body.statements.Given as goal
+use Rattle.aml_walk.proofs.body.statements.Given as goal
 
 abbrev pub invariant-loop-term : goal.invariant-loop-term
 invariant-loop-term g l =

@@ -2,27 +2,27 @@ use Rattle.aml_bounds.specs.Loops as loops
 use Rattle.aml_causes.specs.declared.cause.Cause.TheVariants as cause
 use Rattle.aml_judged.specs.Judge.{held_kind, judged_act, refusal}
 use Rattle.aml_judged.specs.KindRules.{integer_kind, notice_kind}
-use Rattle.aml_judging.proofs.BlocksGoing.{from_apart, from_other, from_within}
-use Rattle.aml_judging.proofs.BlocksLists.{all_done, all_more, all_stops, block_done, block_ends, block_halts, block_next, otherwise_done, otherwise_here, otherwise_next}
-use Rattle.aml_judging.proofs.BlocksLoops.{endless, falling_stops, falling_test_stops, falls_often, no_condition, often_away, often_differs, often_judges, often_test_stops, often_turn_stops, often_wants, once_differs, once_judges, once_test_stops, once_turn_stops, once_wants, turns_down, turns_once, turns_up, while_goes, while_stops}
-use Rattle.aml_judging.proofs.BlocksTests.{if_block_stops, if_differs, if_else_stops, if_goes, if_test_stops, if_wants, no_integer, no_test, placed_at, test_stops, tests}
-use Rattle.aml_judging.proofs.BlocksTurns.{turn_stops, turns}
-use Rattle.aml_judging.proofs.BlocksWeights.{behind, first_and, first_weighs, lighter_parts}
+use Rattle.aml_walk.proofs.BlocksGoing.{from_apart, from_other, from_within}
+use Rattle.aml_walk.proofs.BlocksLists.{all_done, all_more, all_stops, block_done, block_ends, block_halts, block_next, otherwise_done, otherwise_here, otherwise_next}
+use Rattle.aml_walk.proofs.BlocksLoops.{endless, falling_stops, falling_test_stops, falls_often, no_condition, often_away, often_differs, often_judges, often_test_stops, often_turn_stops, often_wants, once_differs, once_judges, once_test_stops, once_turn_stops, once_wants, turns_down, turns_once, turns_up, while_goes, while_stops}
+use Rattle.aml_walk.proofs.BlocksTests.{if_block_stops, if_differs, if_else_stops, if_goes, if_test_stops, if_wants, no_integer, no_test, placed_at, test_stops, tests}
+use Rattle.aml_walk.proofs.BlocksTurns.{turn_stops, turns}
+use Rattle.aml_walk.proofs.BlocksWeights.{behind, first_and, first_weighs, lighter_parts}
 use Rattle.aml_judging.proofs.Going.{gives_judges, gives_stops, leads_begin}
 use Rattle.aml_judging.proofs.OnlyParts.{one_part, two_parts}
-use Rattle.aml_judging.proofs.OperatorsAsks.{asks_binary, asks_by_one, asks_compared, asks_concatenated, asks_converted, asks_divided, asks_negated, asks_unary, dividing, dividing_goes, giving, quotient_stops, remainder_stops}
-use Rattle.aml_judging.proofs.OperatorsGoing.{first_stops, gives, not_placed, one_on, one_refused, one_stops, placed_on, second_stops, stop_value, storing, storing_goes, storing_stops, two_on, two_refused, value_on}
-use Rattle.aml_judging.proofs.OperatorsParts.{four_parts, other_than_four, other_than_one, other_than_three, other_than_two, placed, three_parts}
-use Rattle.aml_judging.proofs.OperatorsStated.{always_judges, data_judges, data_stops, no_operand, no_value, operand_goes, operand_stops, stated, stated_elsewhere}
+use Rattle.aml_walk.proofs.OperatorsAsks.{asks_binary, asks_by_one, asks_compared, asks_concatenated, asks_converted, asks_divided, asks_negated, asks_unary, dividing, dividing_goes, giving, quotient_stops, remainder_stops}
+use Rattle.aml_walk.proofs.OperatorsGoing.{first_stops, gives, not_placed, one_on, one_refused, one_stops, placed_on, second_stops, stop_value, storing, storing_goes, storing_stops, two_on, two_refused, value_on}
+use Rattle.aml_walk.proofs.OperatorsParts.{four_parts, other_than_four, other_than_one, other_than_three, other_than_two, placed, three_parts}
+use Rattle.aml_walk.proofs.OperatorsStated.{always_judges, data_judges, data_stops, no_operand, no_value, operand_goes, operand_stops, stated, stated_elsewhere}
 use Rattle.aml_judging.proofs.Stops.{free_judges, refused_judges}
-use Rattle.aml_judging.proofs.StoresActs.{given_back, given_stops, no_notice, not_integer, notice_none, notice_stops, noticed_leads, paid_off, pause_leads, pause_stops, still_held}
-use Rattle.aml_judging.proofs.StoresCalls.{asked_judges, asked_none, asked_stops, call_goes, call_reaches, call_stops, invoked_object, named_judges, named_none}
-use Rattle.aml_judging.proofs.StoresLists.{value_more, value_stops, value_unkept, values_begin, values_end}
-use Rattle.aml_judging.proofs.StoresParts.{not_dereferenced, not_invoking, not_led, not_notifying, not_paused, not_returned, not_written, some_parts}
-use Rattle.aml_judging.proofs.StoresReads.{byte_written_same, dereferenced_is, led_elsewhere, led_first_stops, led_judges, led_second_stops, led_stops, led_targeted, not_in_place, obeys_led, store_is, stored_elsewhere, written_judges, written_none, written_stops}
-use Rattle.aml_judging.proofs.StoresWeights.{lighter_behind, parts_and_two}
-use Rattle.aml_judging.proofs.terms.+terms.Goals as goal
-use Rattle.aml_judging.proofs.terms.+terms.Goals.{dereferenced-in_default-via-else-parts-lt1+else-parts-lt2, dereferenced-in_default-via-then-parts-lt1, falling-in-None-1, falling-in-Some+in-Buf-1, led-in_default-via-else-parts-lt3+else-parts-lt4, led-in_default-via-then-parts-lt3, notifies-in_default-via-else-parts-lt2+else-parts-lt3, notifies-in_default-via-then-parts-lt2, pauses-in_default-via-else-parts-lt1+else-parts-lt2, pauses-in_default-via-then-parts-lt1, returned-in_default-via-else-parts-lt1+else-parts-lt2, returned-in_default-via-then-parts-lt1, store_byte-in_default-via-else-parts-lt3+else-parts-lt4, store_byte-in_default-via-then-parts-lt3}
+use Rattle.aml_walk.proofs.StoresActs.{given_back, given_stops, no_notice, not_integer, notice_none, notice_stops, noticed_leads, paid_off, pause_leads, pause_stops, still_held}
+use Rattle.aml_walk.proofs.StoresCalls.{asked_judges, asked_none, asked_stops, call_goes, call_reaches, call_stops, invoked_object, named_judges, named_none}
+use Rattle.aml_walk.proofs.StoresLists.{value_more, value_stops, value_unkept, values_begin, values_end}
+use Rattle.aml_walk.proofs.StoresParts.{not_dereferenced, not_invoking, not_led, not_notifying, not_paused, not_returned, not_written, some_parts}
+use Rattle.aml_walk.proofs.StoresReads.{byte_written_same, dereferenced_is, led_elsewhere, led_first_stops, led_judges, led_second_stops, led_stops, led_targeted, not_in_place, obeys_led, store_is, stored_elsewhere, written_judges, written_none, written_stops}
+use Rattle.aml_walk.proofs.StoresWeights.{lighter_behind, parts_and_two}
+use Rattle.aml_walk.proofs.terms.+terms.Goals as goal
+use Rattle.aml_walk.proofs.terms.+terms.Goals.{dereferenced-in_default-via-else-parts-lt1+else-parts-lt2, dereferenced-in_default-via-then-parts-lt1, falling-in-None-1, falling-in-Some+in-Buf-1, led-in_default-via-else-parts-lt3+else-parts-lt4, led-in_default-via-then-parts-lt3, notifies-in_default-via-else-parts-lt2+else-parts-lt3, notifies-in_default-via-then-parts-lt2, pauses-in_default-via-else-parts-lt1+else-parts-lt2, pauses-in_default-via-then-parts-lt1, returned-in_default-via-else-parts-lt1+else-parts-lt2, returned-in_default-via-then-parts-lt1, store_byte-in_default-via-else-parts-lt3+else-parts-lt4, store_byte-in_default-via-then-parts-lt3}
 use Rattle.aml_judging.specs.Turns.{falling_rule, often_rule, once_rule}
 use Rattle.aml_judging.specs.Views.{seen_of}
 use Rattle.aml_known.specs.Views.{env_of, kind_of, kinds_of, yield_of}

@@ -10,20 +10,20 @@ ghost use Rattle.aml_known.specs.Views.{env_of, kind_of, kinds_of, yield_of};
 ghost use Rattle.aml_judging.specs.Follows.{Acts, Judges};
 ghost use Rattle.aml_judging.specs.Turns.{Turned, falling_rule, often_rule, once_rule};
 
-use crate::around::Around;
-use crate::calls::{called, interface, not_reaching};
-use crate::leaves::{
+use aml_bounds::{Turns, number_of, turns_of};
+use aml_causes::Cause;
+use aml_judging::Around;
+use aml_judging::calls::{called, interface, not_reaching};
+use aml_judging::leaves::{
     acquires, asked, breaks, continues, data, is_else, is_operand, literal, name_read, push, read,
     releases, returns, sized, slot, stop, wanted,
 };
-use crate::mutexes::none_held;
-use crate::names::{held_kind, name, place};
-use crate::progress::{Progress, product, sum};
-use crate::seen::{notified, untargeted};
-use crate::targets::{indexed, placed, put};
-use crate::turns::{Turn, begun, comes_back, exit_holds, holds_back, narrowed, past};
-use aml_bounds::{Turns, number_of, turns_of};
-use aml_causes::Cause;
+use aml_judging::mutexes::none_held;
+use aml_judging::names::{held_kind, name, place};
+use aml_judging::progress::{Progress, product, sum};
+use aml_judging::seen::{notified, untargeted};
+use aml_judging::targets::{indexed, placed, put};
+use aml_judging::turns::{Turn, begun, comes_back, exit_holds, holds_back, narrowed, past};
 use aml_kind_rules::{
     byte_written_kind, combined_kind, compared_kind, concatenated_kind, converted_kind,
     divided_kind, integer_kind, led_kind, negated_kind, notice_kind, transformed_kind,

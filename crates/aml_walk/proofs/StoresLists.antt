@@ -18,7 +18,7 @@ use Rattle.aml_judging.specs.Follows.{Judges}
 use Rattle.aml_judging.proofs.Going.{Leads, exits_same, gives_judges, leads_more, leads_on}
 use Rattle.aml_judging.proofs.Stops.{wanting_judges}
 use Rattle.aml_judging.proofs.Makings.{left_with}
-use Rattle.aml_judging.proofs.StoresRuled.{leads_as, leads_stop}
+use Rattle.aml_walk.proofs.StoresRuled.{leads_as, leads_stop}
 
 after_then : {J K : Type 0} (x : Exits) (n : ℕ) (j : Judged J) (g : J → Rule K) → then_judge (after x n j) g ≡ after x n (then_judge j g)
 after_then x n (judged.Goes k env y m) g = sym (after_after x y n m (g k env))

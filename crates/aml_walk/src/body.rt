@@ -11,13 +11,13 @@ ghost use Rattle.aml_known.specs.Views.{AreApart, kind_of, kinds_of, yield_of};
 ghost use Rattle.aml_judging.specs.Follows.{IsVerdict, Judges};
 ghost use Rattle.aml_judging.specs.Views.{made_of};
 
-use crate::around::{Around, Made};
-use crate::definitions::made;
-use crate::mutexes::none_held;
-use crate::names::refusal;
-use crate::progress::{MOST_STEPS, Progress};
 use crate::terms::statement;
 use aml_causes::Cause;
+use aml_judging::definitions::made;
+use aml_judging::mutexes::none_held;
+use aml_judging::names::refusal;
+use aml_judging::progress::{MOST_STEPS, Progress};
+use aml_judging::{Around, Made};
 use aml_known::{Accepted, Env, Exits, Known, Locks, Stop, Yield};
 use aml_meaning::{Definition, definition_of};
 use aml_operators::Term;

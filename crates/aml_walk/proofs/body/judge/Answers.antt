@@ -6,9 +6,9 @@ use Rattle.aml_operators.specs.Tree.{views}
 use Rattle.aml_judged.specs.Bodies.{judged_method}
 use Rattle.aml_judged.specs.Causes as cause
 use Rattle.aml_judged.specs.Verdicts.{most_steps}
-use Rattle.aml_judging.proofs.Bodies.{begins, body_judges, late_verdict, left_first, left_second, method_judges, stops_verdict, well_verdict}
-use Rattle.aml_judging.proofs.body.judge.Goals.{else-is_some, then-is_some, then-not-short-via-else-not-short+else-leaves+then-progress-ge-MOST_STEPS, then-not-short-via-else-not-short+then-leaves, then-not-short-via-then-not-short}
-use Rattle.aml_judging.proofs.body.judge.Goals as goal
+use Rattle.aml_walk.proofs.Bodies.{begins, body_judges, late_verdict, left_first, left_second, method_judges, stops_verdict, well_verdict}
+use Rattle.aml_walk.proofs.body.judge.Goals.{else-is_some, then-is_some, then-not-short-via-else-not-short+else-leaves+then-progress-ge-MOST_STEPS, then-not-short-via-else-not-short+then-leaves, then-not-short-via-then-not-short}
+use Rattle.aml_walk.proofs.body.judge.Goals as goal
 
 pub returns-in_err-statements : goal.returns-in_err-statements
 returns-in_err-statements g c apart =

@@ -25,8 +25,8 @@ use Rattle.aml_judging.specs.declared.progress.Progress.{Progress}
 use Rattle.aml_judging.specs.Follows.{Gives, Judges, Paid}
 use Rattle.aml_judging.proofs.Going.{Leads, gives_judges, gives_stops, leads_more, leads_on}
 use Rattle.aml_judging.proofs.Stored.{costs_judge}
-use Rattle.aml_judging.proofs.StoresRuled.{leads_as, leads_stop, obeyed_judges, ruled_judges, ruled_stops}
-use Rattle.aml_judging.proofs.StoresActs.{place_out}
+use Rattle.aml_walk.proofs.StoresRuled.{leads_as, leads_stop, obeyed_judges, ruled_judges, ruled_stops}
+use Rattle.aml_walk.proofs.StoresActs.{place_out}
 
 module _ (here : Around) where
   -- a DerefOf of one

@@ -12,7 +12,7 @@ use Rattle.aml_judged.specs.Judge.{begun, comes_back, exit_holds, holds_back, ju
 use Rattle.aml_judging.specs.Views.{held_cost, Standing}
 use Rattle.aml_judging.specs.Follows.{Goes}
 use Rattle.aml_judging.specs.Turns.{Leaves, often_rule, once_rule, tested}
-use Rattle.aml_judging.proofs.Branches.{both_met}
+use Rattle.aml_walk.proofs.Branches.{both_met}
 use Rattle.aml_judging.proofs.Going.{passed_goes}
 
 times_many : (t s : ℕ) → most_steps ≤ s → held_cost (t * most_steps) ≡ held_cost (t * s)

@@ -5,7 +5,7 @@ use Rattle.aml_judged.specs.Judged.{goes, ◌>>=◌}
 use Rattle.aml_judged.specs.Judge.{judged_all, judged_block, judged_otherwise, judged_values}
 use Rattle.aml_known.specs.Views.{kinds_of}
 use Rattle.aml_judging.proofs.Going.{Leads}
-use Rattle.aml_judging.proofs.terms.+terms.Given as goal
+use Rattle.aml_walk.proofs.terms.+terms.Given as goal
 
 -- a part weighs less than what it is a part of; the functions that one term passes through come one behind the other
 abbrev pub decreases-statement : goal.decreases-statement

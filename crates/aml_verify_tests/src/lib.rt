@@ -1,0 +1,5 @@
+//! Tests of the verifier, over the public calls of its crate alone.
+#![tactic(auto)]
+
+#[cfg(test)]
+mod verdicts;

@@ -1,0 +1,10 @@
+//! The walk over a body's terms, which judges it in place (the rules are the project's own).
+//!
+//! Rooms: `terms` has a function for each class of operators, blocks and loops, and `body` a method from
+//! its first statement to its end.
+#![tactic(auto)]
+
+mod body;
+mod terms;
+
+pub use body::judge;
