@@ -96,9 +96,13 @@ next_by ns id _ = None
 abbrev pub next_of : Checked → ObjectId → Option ObjectId
 next_of checked id = next_by (shown checked.namespace.now) id (said_of checked id.0)
 
--- the lines of a method and of those that are refused before it, so many methods at most
+-- the line that says that the rest of a chain stands under a method
+abbrev pub rest_text : Shown → ObjectId → List ℕ
+rest_text ns id = codes "the rest of the chain stands under " ++ path_text (path_of ns.entries id.0) ++ codes "\n"
+
+-- the lines of a method and of those that are refused before it, so many methods at most, and behind the last where the rest stands
 abbrev pub chain_text : ℕ → List (List ℕ) → Checked → ObjectId → List ℕ
-chain_text zero names checked id = codes "and so on\n"
+chain_text zero names checked id = rest_text (shown checked.namespace.now) id
 chain_text (suc most) names checked id =
     reason_text names checked id
     ++ option_map_or (λ callee. codes "  " ++ chain_text most names checked callee) (next_of checked id) []

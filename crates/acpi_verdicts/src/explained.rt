@@ -1,7 +1,7 @@
 // What people are told of why a method is refused.
 
 ghost use Rattle.std.specs.Prelude.{◌≡◌, ◌++◌, IfOk, OnOk, map, string_bytes};
-ghost use Rattle.acpi_verdicts.specs.Explained.{asks_callee, called_at, callee_told, chain_text, label_of, next_of, reason_text, refused_part, refused_text, unreadable_label, unreadable_text};
+ghost use Rattle.acpi_verdicts.specs.Explained.{asks_callee, called_at, callee_told, chain_text, label_of, next_of, reason_text, refused_part, refused_text, rest_text, unreadable_label, unreadable_text};
 ghost use Rattle.aml_namespace.specs.Shows.{shown};
 
 use crate::words::cause_words;
@@ -15,14 +15,15 @@ use aml_tree::Refusal as Unread;
 use aml_verify::{Checked, Verdict};
 use std::alloc::{AllocError, Global};
 
-/// The most methods that are told of one behind the other: as many as may be active at once.
-const MOST_TOLD: u8 = 64;
+/// The most methods that are told of one behind the other.
+const MOST_TOLD: u8 = 8;
 
 /// Why the method with a number is refused, in lines that each end in a line feed: its path, the cause,
 /// the file, the byte, and what the cause means; of a cause that tells of a call the path of the method
 /// that is called. Where that one is refused itself, the lines of it follow, two spaces further in, down
-/// to the first method that is refused for another cause, or 64 methods. No line where the method is
-/// accepted, or no method has the number.
+/// to the first method that is refused for another cause. 8 methods are told at most; a line behind them
+/// says under which method the rest of the chain stands: under the one that the last line calls. No line
+/// where the method is accepted, or no method has the number.
 ///
 /// The files are called by the names that are handed in, in the order of the tables.
 ///
@@ -36,7 +37,7 @@ pub fn explain(
     id: ObjectId,
 ) -> Result<Vec<u8>, RunFault>
     ensures { IfOk result (λ text. text.items
-        ≡ chain_text 64 (map (λ name. name.now) names.now) checked.now id) }
+        ≡ chain_text 8 (map (λ name. name.now) names.now) checked.now id) }
 {
     let mut text = Vec::new(alloc);
     push_chain(alloc, &mut text, checked, names, id, MOST_TOLD)?;
@@ -56,8 +57,7 @@ fn push_chain(
         ++ chain_text most (map (λ name. name.now) names.now) checked.now id) }
 {
     if most == 0 {
-        text.extend_from_slice(b"and so on\n")?;
-        return Ok(());
+        return push_rest(alloc, text, checked.namespace(), id);
     }
     push_reason(alloc, text, checked, names, id)?;
     let Some(callee) = next_of(checked, id) else {
@@ -65,6 +65,21 @@ fn push_chain(
     };
     text.extend_from_slice(b"  ")?;
     push_chain(alloc, text, checked, names, callee, most - 1)
+}
+
+// Adds the line that says that the rest of a chain stands under a method.
+fn push_rest(
+    alloc: Global,
+    text: &mut Vec<u8>,
+    namespace: &Namespace<'_>,
+    id: ObjectId,
+) -> Result<(), RunFault>
+    ensures { OnOk result (text.new.items ≡ text.old.items ++ rest_text (shown namespace.now) id) }
+{
+    text.extend_from_slice(b"the rest of the chain stands under ")?;
+    push_path(alloc, text, namespace, id)?;
+    text.extend_from_slice(b"\n")?;
+    Ok(())
 }
 
 // Adds the line of one method, if it is refused.
@@ -109,7 +124,6 @@ fn push_reason(
 }
 
 // How the file with a number is called.
-#[tactic(auto, unfolding(crate::specs::Explained::label_of))]
 fn label_of(alloc: Global, names: &[&str], number: usize) -> Result<String, AllocError>
     ensures { IfOk result (λ label. string_bytes label
         ≡ label_of (map (λ name. name.now) names.now) number) }
