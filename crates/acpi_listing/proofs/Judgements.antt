@@ -12,7 +12,7 @@ use Rattle.acpi_listing.specs.Files.{Answers}
 use Rattle.acpi_listing.specs.Inputs.{OpensInputs, ReadsInputs, tables_of}
 use Rattle.acpi_listing.specs.Loading.{IsNamespace, Loads}
 use Rattle.acpi_listing.specs.Signatures.{OpensSignatures}
-use Rattle.acpi_listing.specs.Steps.{Step, Then, Obtains, Still, Tells, Writes}
+use Rattle.acpi_listing.specs.Steps.{Step, Then, Still, Tells, Writes}
 use Rattle.acpi_listing.specs.declared.fault.Fault.{Fault}
 use Rattle.acpi_listing.specs.declared.fault.Stop.{Stop}
 use Rattle.acpi_listing.specs.declared.fault.Stop.TheVariants.{Fault as Faulty}
