@@ -7,12 +7,12 @@ use Rattle.aml_signatures.specs.Signed.{kinds_told}
 use Rattle.aml_signatures.specs.declared.signatures.Signatures.{Signatures}
 use Rattle.aml_verify.specs.declared.checked.Checked.{Checked}
 use Rattle.acpi_verdicts.specs.Verdicts.{verdicts_text}
-use Rattle.acpi_listing.specs.Commands.{AreVerdictsOn, Judges, VerifiesFiles, VerifiesTables, verdicts_status}
+use Rattle.acpi_listing.specs.Commands.{AreVerdictsOn, Judges, VerifiesFiles, VerifiesLoaded, VerifiesTables, verdicts_status}
 use Rattle.acpi_listing.specs.Files.{Answers}
 use Rattle.acpi_listing.specs.Inputs.{OpensInputs, ReadsInputs, tables_of}
 use Rattle.acpi_listing.specs.Loading.{IsNamespace, Loads}
 use Rattle.acpi_listing.specs.Signatures.{OpensSignatures}
-use Rattle.acpi_listing.specs.Steps.{Step, Then, Obtains, Still, Tells, Writes}
+use Rattle.acpi_listing.specs.Steps.{Step, Then, Still, Tells, Writes}
 use Rattle.acpi_listing.specs.declared.fault.Fault.{Fault}
 use Rattle.acpi_listing.specs.declared.fault.Stop.{Stop}
 use Rattle.acpi_listing.specs.declared.fault.Stop.TheVariants.{Fault as Faulty}
@@ -20,32 +20,31 @@ use Rattle.acpi_listing.specs.declared.inputs.InputNames.{InputNames}
 use Rattle.acpi_listing.specs.declared.inputs.Inputs.{Inputs}
 use Rattle.acpi_listing.proofs.Chains.{given, given_fault, quiet, quiet_fault, still}
 
--- what stands behind the verdicts, and behind the load
+-- what stands behind the verdicts
 abbrev behind_verdicts : Checked → Step (Unit {0}) ℕ
 behind_verdicts checked = Tells (verdicts_text checked) (verdicts_status checked)
 
-abbrev behind_judged_load : Told → Shown → Step (Unit {0}) ℕ
-behind_judged_load told ns = Then (Obtains (Judges told ns)) behind_verdicts
+-- methods that memory is wanted for
+pub no_verdicts : (told : Told) (ns : Shown) (held : Option (List ℕ)) (f : Fault) (r : Result ℕ Stop)
+    → IsErrAnd r (λ s. s ≡ Faulty f) → Judges told ns (Err f) → Writes (VerifiesLoaded told ns) tt tt held held r
+no_verdicts told ns held f r is wants = given_fault (Judges told ns) behind_verdicts tt held f r is wants
+
+-- verdicts that are listed
+pub verdicts_listed : (told : Told) (ns : Shown) (checked : Checked) (held holds : Option (List ℕ)) (r : Result ℕ Stop)
+    → AreVerdictsOn told ns checked → Writes (behind_verdicts checked) tt tt held holds r
+    → Writes (VerifiesLoaded told ns) tt tt held holds r
+verdicts_listed told ns checked held holds r are does = given (Judges told ns) behind_verdicts tt tt held holds checked r are does
 
 -- tables that cannot be loaded
 pub no_judged_load : (told : Told) (tables : List (List ℕ)) (held : Option (List ℕ)) (f : Fault) (r : Result ℕ Stop)
     → IsErrAnd r (λ s. s ≡ Faulty f) → Loads [] tables (Err f) → Writes (VerifiesTables told tables) tt tt held held r
-no_judged_load told tables held f r is fails = given_fault (Loads [] tables) (behind_judged_load told) tt held f r is fails
+no_judged_load told tables held f r is fails = given_fault (Loads [] tables) (λ ns. VerifiesLoaded told ns) tt held f r is fails
 
--- methods that memory is wanted for
-pub no_verdicts : (told : Told) (tables : List (List ℕ)) (ns : Shown) (held : Option (List ℕ)) (f : Fault) (r : Result ℕ Stop)
-    → IsErrAnd r (λ s. s ≡ Faulty f) → IsNamespace [] tables ns → Judges told ns (Err f) → Writes (VerifiesTables told tables) tt tt held held r
-no_verdicts told tables ns held f r is loaded wants =
-    given (Loads [] tables) (behind_judged_load told) tt tt held held ns r loaded
-    (given_fault (Judges told ns) behind_verdicts tt held f r is wants)
-
--- verdicts that are listed
-pub verdicts_listed : (told : Told) (tables : List (List ℕ)) (ns : Shown) (checked : Checked) (held holds : Option (List ℕ)) (r : Result ℕ Stop)
-    → IsNamespace [] tables ns → AreVerdictsOn told ns checked → Writes (behind_verdicts checked) tt tt held holds r
+-- tables that were loaded
+pub load_judged : (told : Told) (tables : List (List ℕ)) (ns : Shown) (held holds : Option (List ℕ)) (r : Result ℕ Stop)
+    → IsNamespace [] tables ns → Writes (VerifiesLoaded told ns) tt tt held holds r
     → Writes (VerifiesTables told tables) tt tt held holds r
-verdicts_listed told tables ns checked held holds r loaded are does =
-    given (Loads [] tables) (behind_judged_load told) tt tt held holds ns r loaded
-    (given (Judges told ns) behind_verdicts tt tt held holds checked r are does)
+load_judged told tables ns held holds r loaded does = given (Loads [] tables) (λ n. VerifiesLoaded told n) tt tt held holds ns r loaded does
 
 -- what stands behind the inputs, and behind the kinds
 abbrev behind_judged_inputs : {F : Type 0} → Signatures → Inputs → Step F ℕ

@@ -148,12 +148,15 @@ Judges told ns (Err f) = f ≡ nowhere cause.NoMemory
 abbrev pub verdicts_status : Checked → ℕ
 verdicts_status checked = if any_refused checked then 3 else 0
 
--- `verify` of tables, where these kinds are told: the load, the verdicts on all methods, their lines
-abbrev pub VerifiesTables : Told → List (List ℕ) → Step (Unit {0}) ℕ
-VerifiesTables told tables =
-    Then (Obtains (Loads [] tables)) (λ ns.
+-- `verify` of a namespace, where these kinds are told: the verdicts on all methods, their lines
+abbrev pub VerifiesLoaded : Told → Shown → Step (Unit {0}) ℕ
+VerifiesLoaded told ns =
     Then (Obtains (Judges told ns)) (λ checked.
-    Tells (verdicts_text checked) (verdicts_status checked)))
+    Tells (verdicts_text checked) (verdicts_status checked))
+
+-- `verify` of tables: the load, and what was loaded
+abbrev pub VerifiesTables : Told → List (List ℕ) → Step (Unit {0}) ℕ
+VerifiesTables told tables = Then (Obtains (Loads [] tables)) (λ ns. VerifiesLoaded told ns)
 
 -- `verify`: the kinds that are told, the files, their tables
 abbrev pub VerifiesFiles : {F : Type 0} → Answers F → InputNames → Option (List ℕ) → Step F ℕ

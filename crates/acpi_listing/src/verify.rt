@@ -1,7 +1,7 @@
 // The command `verify`.
 
 ghost use Rattle.std.specs.Prelude.{◌≡◌, ◌≤◌, IfErr, IfOk, option_map};
-ghost use Rattle.acpi_listing.specs.Commands.{AreVerdictsOn, VerifiesFiles, VerifiesTables, verdicts_status};
+ghost use Rattle.acpi_listing.specs.Commands.{AreVerdictsOn, VerifiesFiles, VerifiesLoaded, VerifiesTables, verdicts_status};
 ghost use Rattle.acpi_listing.specs.Faults.{nowhere};
 ghost use Rattle.acpi_listing.specs.Inputs.{tables_of};
 ghost use Rattle.acpi_listing.specs.Steps.{Tells, Writes};
@@ -58,7 +58,23 @@ fn verify_inputs<N: Notes, W: Write>(
         tt tt (W.contents out.old) (W.contents out.new) result }
 {
     let namespace = load_counted(alloc, inputs, &request.inputs, &[], notes)?;
-    let checked = verdicts_on(alloc, &namespace, signatures)?;
+    verify_loaded(alloc, request, &namespace, signatures, notes, out)
+}
+
+// Prints the verdicts on the methods of a namespace.
+fn verify_loaded<N: Notes, W: Write>(
+    alloc: Global,
+    request: &VerifyRequest<'_>,
+    namespace: &Namespace<'_>,
+    signatures: &Signatures,
+    notes: &N,
+    out: &mut W,
+) -> Result<u8, Stop>
+    ensures status { IfOk result (λ status. status ≤ 3) }
+    ensures printed { Writes (VerifiesLoaded (kinds_told signatures.now) (shown namespace.now))
+        tt tt (W.contents out.old) (W.contents out.new) result }
+{
+    let checked = verdicts_on(alloc, namespace, signatures)?;
     tell_reasons(alloc, request, &checked, notes);
     tell_verdicts(alloc, out, &checked)
 }
