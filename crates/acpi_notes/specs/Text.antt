@@ -1,5 +1,5 @@
 -- Text as it is told.
-use Rattle.std.specs.Prelude.{ℕ, ◌&&◌, List, [], ◌∷◌, ◌++◌, Bool, false, map, nat_le, if◌then◌else◌}
+use Rattle.std.specs.Prelude.{ℕ, ◌&&◌, List, [], ◌∷◌, ◌++◌, false, map, nat_le, if◌then◌else◌}
 use Rattle.std.specs.Fmt.{digits}
 
 -- these pieces one after the other
