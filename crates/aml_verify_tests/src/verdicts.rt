@@ -41,7 +41,29 @@ fn are_said(rt: &impl Abort, checked: &Checked<'_>, wanted: &[Said]) {
     }
 }
 
-/// Judges the methods of a table; a step that wants memory is made again, and judges the same method.
+/// Judges the methods of a namespace; a step that wants memory is made again, and judges the same method.
+fn are_judged(
+    rt: &impl Abort,
+    alloc: Global,
+    namespace: &Namespace<'_>,
+    wanted: &[Said],
+) -> Result<(), NoMemory> {
+    let signatures = Signatures::new(alloc);
+    let mut verifier = Verifier::new(alloc, namespace, &signatures)?;
+    for _ in 0..verifier.left() {
+        let left = verifier.left();
+        if verifier.step().is_err() {
+            assert_eq!(rt; verifier.left(), left);
+            assert!(rt; verifier.step()?.is_some());
+        }
+        assert!(rt; verifier.left() < left);
+    }
+    assert_eq!(rt; verifier.step()?, None);
+    are_said(rt, &verifier.finish(), wanted);
+    Ok(())
+}
+
+/// Judges the methods of a table.
 fn is_judged(rt: &impl Abort, alloc: Global, row: Row<'_>) -> Result<(), NoMemory> {
     let (revision, behind, wanted) = row;
     let table = table_of(alloc, *b"DSDT", revision, behind).map_err(|_| NoMemory)?;
@@ -49,19 +71,7 @@ fn is_judged(rt: &impl Abort, alloc: Global, row: Row<'_>) -> Result<(), NoMemor
         return Err(NoMemory);
     };
     namespace.count_externals(alloc)?;
-    let signatures = Signatures::new(alloc);
-    let mut verifier = Verifier::new(alloc, &namespace, &signatures)?;
-    for _ in 0..verifier.left() {
-        let left = verifier.left();
-        if verifier.step().is_err() {
-            assert_eq!(rt; verifier.left(), left);
-            assert!(rt; verifier.step()?.is_some());
-        }
-        assert_eq!(rt; verifier.left() + 1, left);
-    }
-    assert_eq!(rt; verifier.step()?, None);
-    are_said(rt, &verifier.finish(), wanted);
-    Ok(())
+    are_judged(rt, alloc, &namespace, wanted)
 }
 
 #[test]
