@@ -54,7 +54,7 @@ def a_loop():
 
 
 def definitions(kind, count):
-    names = list(tables.names_in_order(count)) if kind in ("methods", "chain", "star", "packages") else []
+    names = tables.other_names(count) if kind in ("methods", "chain", "star", "packages") else []
     if kind == "methods":
         return tables.methods(names)
     if kind == "chain":
