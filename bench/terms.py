@@ -72,6 +72,7 @@ class Maker:
         self.owns, self.own_fields = {}, {}
         self.held, self.locked, self.loops = [], set(), []
         self.may_return, self.may_break, self.may_continue = gives is not None, False, False
+        self.dead = False
 
     def took(self, name):
         self.method.operators[name] += 1
@@ -555,7 +556,8 @@ class Maker:
             self.took("Else")
             block, second = self.statements(self.chance.randint(0, BREADTH), depth)
             found += package([0xA1], block)
-        if first and second:
+        # behind a Break no end of either block counts, and then both do
+        if self.dead or first and second:
             self.slots = both(then, self.slots)
         elif first:
             self.slots = then
@@ -577,12 +579,14 @@ class Maker:
         """The statements of a loop's body, of which a step is at the top, and what is known behind it."""
         self.loops.append(dict(begins))
         self.may_break, self.may_continue = True, False
-        before, _ = self.statements(count, depth)
-        after = b""
+        before, reached = self.statements(count, depth)
+        after, outside = b"", self.dead
+        self.dead = outside or not reached
         if steps:
             before += steps()
             self.may_continue = True
             after, _ = self.statements(self.chance.randint(0, 2), depth)
+        self.dead = outside
         self.loops.pop()
         self.slots = dict(begins)
         return before + after
