@@ -1,0 +1,2 @@
+pub mod NamesThere
+pub mod OneCount
