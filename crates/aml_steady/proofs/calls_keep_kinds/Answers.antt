@@ -1,0 +1,5 @@
+use Rattle.aml_steady.proofs.Methods.{calls_keep}
+use Rattle.aml_steady.proofs.calls_keep_kinds.Goals as goal
+
+pub returns : goal.returns
+returns c = calls_keep
