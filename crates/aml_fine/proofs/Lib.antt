@@ -1,0 +1,12 @@
+pub mod Over
+pub mod Fine
+pub mod Same
+pub mod Turns
+pub mod Loops
+pub mod Steps
+pub mod Slots
+pub mod Calls
+pub mod Accepted
+pub mod Lent
+pub mod Narrow
+pub mod Examples
