@@ -1,0 +1,4 @@
+pub mod Elements
+pub mod Literals
+pub mod Parts
+pub mod Terms
