@@ -1,0 +1,4 @@
+pub mod Narrow
+pub mod Alike
+pub mod Alone
+pub mod Order
