@@ -6,13 +6,15 @@ ghost use Rattle.aml_operators.specs.declared.row.Code.TheVariants as code;
 ghost use Rattle.aml_operators.specs.Shape.{AreShaped};
 ghost use Rattle.aml_operators.specs.Tree.{views};
 ghost use Rattle.aml_machine.specs.Views.{names_of};
-ghost use Rattle.aml_plain.specs.Tells.{EvaluatesBody, outcome_of, setting_of};
+ghost use Rattle.aml_acts.specs.Outcomes.{EvaluatesBody, outcome_of};
+ghost use Rattle.aml_plain.specs.Tells.{setting_of};
 
 use crate::eval::eval_body;
-use crate::halt::{Halt, Setting};
+use crate::setting::Setting;
+use aml_acts::halt::outcome_of;
 use aml_contents::Names;
 use aml_machine::{Frame, Machine};
-use aml_meaning::{AmlCause, AmlError, Outcome};
+use aml_meaning::Outcome;
 use aml_operators::Term;
 use aml_paths::NoMemory;
 use aml_regions::World;
@@ -45,23 +47,4 @@ pub fn evaluate_body<W: World>(
     let ended = eval_body(alloc, here, body, &mut machine, world);
     *names = machine.names;
     outcome_of(here.scene.table, ended)
-}
-
-/// How a method of a table ends whose statements ended so. A6 at a Break or Continue outside any
-/// While.
-fn outcome_of(table: usize, ended: Result<(), Halt>) -> Result<Outcome, NoMemory>
-    ensures { result ≡ outcome_of table ended }
-{
-    match ended {
-        Ok(()) => Ok(Outcome::Done(None)),
-        Err(Halt::Returned(value)) => Ok(Outcome::Done(Some(value))),
-        Err(Halt::Error(error)) => Ok(Outcome::AmlError(error)),
-        Err(Halt::Broke(at) | Halt::Continued(at)) => Ok(Outcome::AmlError(AmlError {
-            table,
-            at,
-            cause: AmlCause::Outside,
-        })),
-        Err(Halt::OutOfSteps) => Ok(Outcome::OutOfSteps),
-        Err(Halt::NoMemory) => Err(NoMemory),
-    }
 }

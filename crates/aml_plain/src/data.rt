@@ -6,9 +6,11 @@ ghost use Rattle.aml_meaning.specs.declared.action.Action.TheVariants as does;
 ghost use Rattle.aml_meaning.specs.Meaning.{act};
 ghost use Rattle.aml_meaning.specs.Runs.{Runs};
 ghost use Rattle.aml_machine.specs.Views.{value_of};
-ghost use Rattle.aml_plain.specs.Tells.{setting_of, told};
+ghost use Rattle.aml_plain.specs.Tells.{setting_of};
+ghost use Rattle.aml_acts.specs.Tells.{told};
 
-use crate::halt::{Halt, Setting, fails};
+use crate::setting::Setting;
+use aml_acts::halt::{Halt, fails};
 use aml_contents::{body_data, computed_size};
 use aml_meaning::AmlCause;
 use aml_operators::{Op, Term};
@@ -28,7 +30,7 @@ pub fn data_literal(
         (act (setting_of here.entry around) (does.Data op) at (views parts.now)) s s }
 {
     match computed_size(op, at, parts) {
-        Some(from) => Err(fails(AmlCause::Outside, here, from)),
+        Some(from) => Err(fails(AmlCause::Outside, here.scene, from)),
         None => {
             let value = body_data(
                 alloc,

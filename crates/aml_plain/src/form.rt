@@ -1,13 +1,12 @@
 // What stands first among parts, and which statements an If has.
 
-ghost use Rattle.std.specs.Prelude.{◌≡◌, ◌<◌, length, IsSome, Some};
+ghost use Rattle.std.specs.Prelude.{◌≡◌, ◌<◌, length, unwrap_or, IsSome, Some};
 ghost use Rattle.aml_operators.specs.declared.row.Code.TheVariants as code;
 ghost use Rattle.aml_operators.specs.Literal.{literal_in};
 ghost use Rattle.aml_operators.specs.Shape.{AreShaped};
-ghost use Rattle.aml_operators.specs.Tree.{first_at};
+ghost use Rattle.aml_operators.specs.Tree.{first_at, views};
 ghost use Rattle.aml_meaning.specs.Meaning.{is_else};
 ghost use Rattle.aml_plain.specs.Shapes.{IsBranch, IsSplit};
-ghost use Rattle.aml_operators.specs.Tree.{views};
 
 use aml_operators::{Op, Term, literal_in};
 
@@ -71,5 +70,16 @@ pub fn number_of_literal(op: Op, parts: &[Term]) -> u64
     match literal_in(op, parts) {
         Some(n) => n,
         None => unreachable!(),
+    }
+}
+
+/// The place of the first of some arguments, or this one where there is none.
+#[tactic(auto, using(aml_operators::proofs::Views::view_out))]
+pub fn first_or(arguments: &[Term], at: usize) -> usize
+    ensures { result ≡ unwrap_or (first_at (views arguments.now)) at }
+{
+    match arguments {
+        [first, ..] => first.at,
+        [] => at,
     }
 }

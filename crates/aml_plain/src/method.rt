@@ -11,7 +11,8 @@ ghost use Rattle.aml_plain.specs.Methods.{Evaluates, Parses};
 ghost use Rattle.aml_machine.specs.Views.{names_of};
 
 use crate::body::evaluate_body;
-use crate::halt::{Scene, Setting};
+use crate::setting::Setting;
+use aml_acts::scene::Scene;
 use aml_bodies::{Bodies, prepare_body};
 use aml_contents::Names;
 use aml_meaning::Outcome;
@@ -59,10 +60,10 @@ pub fn evaluate_tree<W: World>(
         bytes: namespace.body_bytes(method),
         owns: &first.owns,
         links: &first.links,
-        bodies: &bodies,
     };
     let here = Setting {
         scene: &scene,
+        bodies: &bodies,
         depth: MOST_WITHIN,
     };
     evaluate_body(alloc, here, &first.body, arguments, names, world, fuel)

@@ -1,8 +1,9 @@
+use Rattle.aml_plain.specs.Tells.{calls_of}
 use Rattle.std.proofs.Common.{refl}
 use Rattle.std.proofs.lemmas.Result.{err_from_is_err_and}
 use Rattle.aml_operators.specs.declared.row.Code.TheVariants as code
 use Rattle.aml_meaning.proofs.Runs.{runs_stop, runs_stop_with, runs_then}
-use Rattle.aml_plain.specs.Shapes.{sized_field}
+use Rattle.aml_acts.specs.Letters.{sized_field}
 use Rattle.aml_operators.proofs.PartsOf.{part_count}
 use Rattle.aml_plain.proofs.Forms.{at_out}
 use Rattle.aml_plain.proofs.define.sized_field.Goals as goal
@@ -17,9 +18,9 @@ returns-in_err-take_step-clause-means c = λ around log.
 
 pub returns-then-makes_own-clause-means : goal.returns-then-makes_own-clause-means
 returns-then-makes_own-clause-means c = λ around log.
-    rw (c.three.ensures, at_out c.three.result.2.now, ← c.makes_own.ensures around, c.if-makes_own.true)
-    (runs_then _ (c.in_ok-take_step.ensures.means log) (rw (c.source_of-from.ensures, c.literal_of.ensures) at (c.make_field.ensures.means around log)))
+    rw (c.three.ensures, at_out c.three.result.2.now, ← c.makes_own.ensures (calls_of c.args.here around), c.if-makes_own.true)
+    (runs_then _ (c.in_ok-take_step.ensures.means log) (rw (c.source_of-from.ensures, c.literal_of.ensures) at (c.make_field.ensures.means (calls_of c.args.here around) log)))
 
 pub returns-else-makes_own-clause-means : goal.returns-else-makes_own-clause-means
 returns-else-makes_own-clause-means c = λ around log.
-    rw (c.three.ensures, at_out c.three.result.2.now, ← c.makes_own.ensures around, c.if-makes_own.false, c.fails.ensures) (runs_then _ (c.in_ok-take_step.ensures.means log) (runs_stop_with _ _))
+    rw (c.three.ensures, at_out c.three.result.2.now, ← c.makes_own.ensures (calls_of c.args.here around), c.if-makes_own.false, c.fails.ensures) (runs_then _ (c.in_ok-take_step.ensures.means log) (runs_stop_with _ _))

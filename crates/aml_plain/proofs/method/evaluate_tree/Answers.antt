@@ -6,7 +6,7 @@ use Rattle.aml_operators.specs.Tree.{view}
 use Rattle.aml_bodies.proofs.Kept.{prepared_is, prepared_shaped}
 use Rattle.aml_bodies.proofs.Methods.{there}
 use Rattle.aml_plain.proofs.Methods.{stands}
-use Rattle.aml_plain.proofs.Outcomes.{unread}
+use Rattle.aml_acts.proofs.Outcomes.{unread}
 use Rattle.aml_plain.proofs.method.evaluate_tree.Goals as goal
 
 pub returns : goal.returns
@@ -23,7 +23,10 @@ pub invariant_of-scene : goal.invariant_of-scene
 invariant_of-scene g c =
     let first = rw c.in_ok-bodies.ensures.first at c.in_ok-bodies.ensures.sound.first in
     let m = there (shown c.args.namespace.now) c.args.method.0 c.requires.known in
-    record { meant = rw (c.body_bytes.ensures m.0 m.1) (first.links m.0 m.1); sound = c.in_ok-bodies.ensures.sound }
+    record { meant = rw (c.body_bytes.ensures m.0 m.1) (first.links m.0 m.1) }
+
+pub invariant_of-here : goal.invariant_of-here
+invariant_of-here g c = record { sound = c.in_ok-bodies.ensures.sound }
 
 pub evaluate_body-requires : goal.evaluate_body-requires
 evaluate_body-requires g c =

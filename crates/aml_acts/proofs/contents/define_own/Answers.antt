@@ -1,0 +1,4 @@
+use Rattle.aml_acts.proofs.contents.define_own.Goals as goal
+
+pub returns-clause-means : goal.returns-clause-means
+returns-clause-means c = λ log. rw c.made.ensures (c.define_own.ensures.means log)

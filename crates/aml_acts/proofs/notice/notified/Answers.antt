@@ -1,0 +1,23 @@
+use Rattle.std.proofs.lemmas.Result.{err_from_is_err_and}
+use Rattle.aml_meaning.proofs.Runs.{runs_give, runs_stop, runs_stop_with, runs_then}
+use Rattle.aml_acts.proofs.Elsewhere.{notified_elsewhere}
+use Rattle.aml_acts.specs.Tells.{setting_in}
+use Rattle.aml_acts.proofs.notice.notified.Goals as goal
+
+pub returns-in-Name-clause-means : goal.returns-in-Name-clause-means
+returns-in-Name-clause-means c = λ call log. rw c.in-Name.is (c.notified_name.ensures call _)
+
+pub returns-in-Local-clause-means : goal.returns-in-Local-clause-means
+returns-in-Local-clause-means c = λ call log. rw c.in-Local.is (runs_give _ _)
+
+pub returns-in-Argument-clause-means : goal.returns-in-Argument-clause-means
+returns-in-Argument-clause-means c = λ call log. rw c.in-Argument.is (runs_give _ _)
+
+pub returns-in_err-take_step-in_default-clause-means : goal.returns-in_err-take_step-in_default-clause-means
+returns-in_err-take_step-in_default-clause-means c = λ call log.
+    let p = err_from_is_err_and c.from_residual.result c.from_residual.ensures.1 in
+    rw (notified_elsewhere (setting_in c.args.scene.now call) c.args.at c.args.action c.in_default.not-Name c.in_default.not-Local c.in_default.not-Argument, p.1, p.2) (runs_stop _ (c.in_err-take_step-in_default.ensures.means log))
+
+pub returns-in_ok-take_step-in_default-clause-means : goal.returns-in_ok-take_step-in_default-clause-means
+returns-in_ok-take_step-in_default-clause-means c = λ call log.
+    rw (notified_elsewhere (setting_in c.args.scene.now call) c.args.at c.args.action c.in_default.not-Name c.in_default.not-Local c.in_default.not-Argument, c.fails.ensures) (runs_then _ (c.in_ok-take_step-in_default.ensures.means log) (runs_stop_with _ _))

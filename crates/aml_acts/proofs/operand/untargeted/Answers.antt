@@ -1,0 +1,11 @@
+use Rattle.aml_meaning.proofs.Runs.{runs_give, runs_stop_with}
+use Rattle.aml_acts.proofs.Elsewhere.{targeted}
+use Rattle.aml_acts.specs.Tells.{setting_in}
+use Rattle.aml_acts.proofs.operand.untargeted.Goals as goal
+
+pub returns-in-NoTarget : goal.returns-in-NoTarget
+returns-in-NoTarget c = λ call s. rw c.in-NoTarget.is (runs_give _ _)
+
+pub returns-in_default : goal.returns-in_default
+returns-in_default c = λ call s.
+    rw (targeted (setting_in c.args.scene.now call) c.args.at c.args.target c.in_default.not-NoTarget, c.fails.ensures) (runs_stop_with _ _)

@@ -1,0 +1,29 @@
+use Rattle.std.proofs.lemmas.Result.{err_from_is_err_and}
+use Rattle.aml_meaning.proofs.Runs.{runs_then, runs_stop, runs_stop_with}
+use Rattle.aml_acts.proofs.Elsewhere.{target_elsewhere}
+use Rattle.aml_acts.specs.Tells.{setting_in}
+use Rattle.aml_acts.proofs.target.put_name.Goals as goal
+
+pub returns-in-Data-clause-means : goal.returns-in-Data-clause-means
+returns-in-Data-clause-means g c = λ call.
+    rw (← c.in-Data.ensures) (c.set_name.ensures.means _)
+
+pub returns-in-Own-clause-means : goal.returns-in-Own-clause-means
+returns-in-Own-clause-means g c = λ call.
+    rw (← c.in-Own.ensures) (c.own_stored.ensures.means call (g.W.World.log c.args.world.now))
+
+pub returns-in_err-take_step-in_default-clause-means : goal.returns-in_err-take_step-in_default-clause-means
+returns-in_err-take_step-in_default-clause-means g c = λ call.
+    let p = err_from_is_err_and c.from_residual.result c.from_residual.ensures.1 in
+    rw (← c.link_of.ensures, target_elsewhere (setting_in c.args.scene.now call) _ _ _ c.in_default.not-Data c.in_default.not-Own c.in_default.not-Field c.in_default.not-BufferField, p.1, p.2) (runs_stop _ (c.in_err-take_step-in_default.ensures.means _))
+
+pub returns-in_ok-take_step-in_default-clause-means : goal.returns-in_ok-take_step-in_default-clause-means
+returns-in_ok-take_step-in_default-clause-means g c = λ call.
+    rw (← c.link_of.ensures, target_elsewhere (setting_in c.args.scene.now call) _ _ _ c.in_default.not-Data c.in_default.not-Own c.in_default.not-Field c.in_default.not-BufferField, ← c.unwritable.ensures, c.fails.ensures) (runs_then _ (c.in_ok-take_step-in_default.ensures.means _) (runs_stop_with _ _))
+
+pub returns-in-Field-clause-means : goal.returns-in-Field-clause-means
+returns-in-Field-clause-means g c = λ call. rw (← c.in-Field.ensures) (c.field_stored.ensures.means call)
+
+pub returns-in-BufferField-clause-means : goal.returns-in-BufferField-clause-means
+returns-in-BufferField-clause-means g c = λ call.
+    rw (← c.in-BufferField.ensures, ← c.named_part.ensures.is) (c.part_stored.ensures.means call (g.W.World.log c.args.world.now))

@@ -1,4 +1,0 @@
-use Rattle.aml_plain.proofs.contents.define_field.Goals as goal
-
-pub returns-clause-means : goal.returns-clause-means
-returns-clause-means c = λ log. rw c.made.ensures (c.define_field.ensures.means log)
