@@ -19,7 +19,7 @@ TMP = "\\_SB_.PCI0.SENS._TMP"
 RUNS = [
     ["names", f"{EXAMPLE}/board.dat"],
     ["verify", f"{EXAMPLE}/board.dat"],
-    ["eval", "--method", TMP, "--plain", "100", "--regs", f"{EXAMPLE}/board.regs", f"{EXAMPLE}/board.dat"],
+    ["eval", "--method", TMP, "--regs", f"{EXAMPLE}/board.regs", f"{EXAMPLE}/board.dat"],
 ]
 
 

@@ -1,6 +1,6 @@
 -- Laws of listing names and of evaluating methods.
-use Rattle.std.proofs.Common.{◌≡◌, ◌∙◌, ℕ, List, [], Bor, Option, Result, Ok, Err, ap}
-use Rattle.std.specs.Prelude.{IsErrAnd}
+use Rattle.std.proofs.Common.{◌≡◌, ◌∙◌, ℕ, List, [], Bor, Option, Some, None, Result, Ok, Err, ap, refl, subst, sym}
+use Rattle.std.specs.Prelude.{IsErrAnd, true}
 use Rattle.aml_namespace.specs.declared.object.Method.{Method}
 use Rattle.aml_namespace.specs.Load.{Shown}
 use Rattle.aml_namespace.specs.Names.{IsBodyOf}
@@ -17,11 +17,18 @@ use Rattle.acpi_listing.specs.Inputs.{OpensInputs, ReadsInputs, tables_of}
 use Rattle.acpi_listing.specs.Loading.{IsNamespace, Loads, interfaces_of}
 use Rattle.acpi_listing.specs.Registers.{OpensRegisters, ReadsRegisters}
 use Rattle.acpi_listing.specs.Signatures.{OpensSignatures, ReadsSignatures}
+use Rattle.acpi_verdicts.specs.Verdicts.{said_of, said_text}
+use Rattle.aml_known.specs.declared.accepted.Accepted.{Accepted}
+use Rattle.aml_methods.specs.Judgings.{Told}
+use Rattle.aml_signatures.specs.Signed.{kinds_told}
 use Rattle.aml_signatures.specs.declared.signatures.Signatures.{Signatures}
+use Rattle.aml_verify.specs.declared.checked.Checked.{Checked}
+use Rattle.aml_verify.specs.declared.verdict.Verdict.{Verdict}
+use Rattle.aml_verify.specs.declared.verdict.Verdict.TheVariants as verdict
 use Rattle.aml_regions.specs.Registers.{contents}
 use Rattle.aml_registers.specs.declared.registers.Registers.{Registers}
 use Rattle.acpi_listing.specs.Steps.{Step, Then, Obtains, Still, Tells, Writes}
-use Rattle.acpi_listing.specs.Commands.{EvaluatesBody, EvaluatesFiles, EvaluatesTables, Finds, Fit, IsMeant, IsMethodAt, ListsNames, ReadsArguments, ReadsBody, Takes, evaluation_text, outcome_status}
+use Rattle.acpi_listing.specs.Commands.{Accepts, AreVerdictsOn, EvaluatesBody, EvaluatesFiles, EvaluatesFound, EvaluatesJudged, EvaluatesMethod, EvaluatesTables, Finds, Fit, IsMeant, IsMethodAt, Judges, ListsNames, ReadsArguments, ReadsBody, Takes, are_of, evaluation_text, outcome_status}
 use Rattle.acpi_listing.specs.declared.fault.Fault.{Fault}
 use Rattle.acpi_listing.specs.declared.fault.Stop.{Stop}
 use Rattle.acpi_listing.specs.declared.fault.Stop.TheVariants.{Fault as Faulty}
@@ -34,85 +41,143 @@ pub known_texts : (interfaces : List (List ℕ)) (tables : List (List ℕ)) (ns 
     → passed ≡ known → bytes_in known ≡ interfaces → IsNamespace (bytes_in passed) tables ns → IsNamespace interfaces tables ns
 known_texts interfaces tables ns passed known same are loaded = (loaded.0, loaded.1 ∙ ap bytes_in same ∙ are)
 
--- what stands behind the load
-abbrev behind_load : (ℕ → ℕ → ℕ) → List ℕ → List Value → ℕ → Shown → Step (Unit {0}) ℕ
-behind_load bytes word arguments steps ns =
-    Then (Obtains (Finds ns word)) (λ found. Then (Obtains (ReadsBody ns found.0 found.1)) (EvaluatesBody bytes ns found arguments steps))
-
--- behind the load
-pub after_load : (bytes : ℕ → ℕ → ℕ) (word : List ℕ) (arguments : List Value) (steps : ℕ) (interfaces : List (List ℕ)) (tables : List (List ℕ)) (ns : Shown) (held holds : Option (List ℕ)) (r : Result ℕ Stop)
-    → IsNamespace interfaces tables ns → Writes (behind_load bytes word arguments steps ns) tt tt held holds r
-    → Writes (EvaluatesTables bytes word arguments steps interfaces tables) tt tt held holds r
-after_load bytes word arguments steps interfaces tables ns held holds r loaded = given (Loads interfaces tables) (behind_load bytes word arguments steps) tt tt held holds ns r loaded
-
--- behind the method
-pub after_find : (bytes : ℕ → ℕ → ℕ) (word : List ℕ) (arguments : List Value) (steps : ℕ) (interfaces : List (List ℕ)) (tables : List (List ℕ)) (ns : Shown) (id : ℕ) (m : Method) (held holds : Option (List ℕ)) (r : Result ℕ Stop)
+-- behind the load and the method
+pub after_find : (bytes : ℕ → ℕ → ℕ) (told : Told) (word : List ℕ) (arguments : List Value) (steps : Option ℕ) (interfaces : List (List ℕ)) (tables : List (List ℕ)) (ns : Shown) (id : ℕ) (m : Method) (held holds : Option (List ℕ)) (r : Result ℕ Stop)
     → IsNamespace interfaces tables ns → IsMethodAt ns word id m
-    → Writes (Then (Obtains (ReadsBody ns id m)) (EvaluatesBody bytes ns (id, m) arguments steps)) tt tt held holds r
-    → Writes (EvaluatesTables bytes word arguments steps interfaces tables) tt tt held holds r
-after_find bytes word arguments steps interfaces tables ns id m held holds r loaded names does =
-    after_load bytes word arguments steps interfaces tables ns held holds r loaded
-    (given (Finds ns word) (λ found. Then (Obtains (ReadsBody ns found.0 found.1)) (EvaluatesBody bytes ns found arguments steps)) tt tt held holds (id, m) r names does)
+    → Writes (EvaluatesFound bytes told ns arguments steps (id, m)) tt tt held holds r
+    → Writes (EvaluatesTables bytes told word arguments steps interfaces tables) tt tt held holds r
+after_find bytes told word arguments steps interfaces tables ns id m held holds r loaded names does =
+    given (Loads interfaces tables) (λ n. Then (Obtains (Finds n word)) (EvaluatesFound bytes told n arguments steps)) tt tt held holds ns r loaded
+    (given (Finds ns word) (EvaluatesFound bytes told ns arguments steps) tt tt held holds (id, m) r names does)
 
--- behind the body's reading
-pub after_body : (bytes : ℕ → ℕ → ℕ) (word : List ℕ) (arguments : List Value) (steps : ℕ) (interfaces : List (List ℕ)) (tables : List (List ℕ)) (ns : Shown) (id : ℕ) (m : Method) (body : Result (List Tree) Refusal) (held holds : Option (List ℕ)) (r : Result ℕ Stop)
-    → IsNamespace interfaces tables ns → IsMethodAt ns word id m → ReadsBody ns id m (Ok body)
-    → Writes (EvaluatesBody bytes ns (id, m) arguments steps body) tt tt held holds r
-    → Writes (EvaluatesTables bytes word arguments steps interfaces tables) tt tt held holds r
-after_body bytes word arguments steps interfaces tables ns id m body held holds r loaded names reads does =
-    after_find bytes word arguments steps interfaces tables ns id m held holds r loaded names
-    (given (ReadsBody ns id m) (EvaluatesBody bytes ns (id, m) arguments steps) tt tt held holds body r reads does)
+-- tables that cannot be loaded, and a path that no method has
+pub no_tables : (bytes : ℕ → ℕ → ℕ) (told : Told) (word : List ℕ) (arguments : List Value) (steps : Option ℕ) (interfaces : List (List ℕ)) (tables : List (List ℕ)) (held : Option (List ℕ)) (f : Fault) (r : Result ℕ Stop)
+    → IsErrAnd r (λ s. s ≡ Faulty f) → Loads interfaces tables (Err f)
+    → Writes (EvaluatesTables bytes told word arguments steps interfaces tables) tt tt held held r
+no_tables bytes told word arguments steps interfaces tables held f r is fails =
+    given_fault (Loads interfaces tables) (λ n. Then (Obtains (Finds n word)) (EvaluatesFound bytes told n arguments steps)) tt held f r is fails
 
--- behind the evaluation
-pub after_outcome : (bytes : ℕ → ℕ → ℕ) (word : List ℕ) (arguments : List Value) (steps : ℕ) (interfaces : List (List ℕ)) (tables : List (List ℕ)) (ns : Shown) (id : ℕ) (m : Method) (ts : List Tree) (outcome : Outcome × List Event) (held holds : Option (List ℕ)) (r : Result ℕ Stop)
-    → IsNamespace interfaces tables ns → IsMethodAt ns word id m → IsBodyOf ns id m ts → Takes ns m arguments → IsMeant ns bytes id m (trees ts) arguments steps (Ok outcome)
-    → Writes (Tells (evaluation_text ns.entries outcome) (outcome_status outcome.0)) (tt {0}) (tt {0}) held holds r
-    → Writes (EvaluatesTables bytes word arguments steps interfaces tables) tt tt held holds r
-after_outcome bytes word arguments steps interfaces tables ns id m ts outcome held holds r loaded names body takes meant does =
-    after_body bytes word arguments steps interfaces tables ns id m (Ok ts) held holds r loaded names body
-    (given (Fit ns m arguments) (λ _. Then (Obtains (IsMeant ns bytes id m (trees ts) arguments steps)) (λ o. Tells (evaluation_text ns.entries o) (outcome_status o.0))) tt tt held holds tt r takes
-    (given (IsMeant ns bytes id m (trees ts) arguments steps) (λ o. Tells (evaluation_text ns.entries o) (outcome_status o.0)) tt tt held holds outcome r meant does))
+pub no_method : (bytes : ℕ → ℕ → ℕ) (told : Told) (word : List ℕ) (arguments : List Value) (steps : Option ℕ) (interfaces : List (List ℕ)) (tables : List (List ℕ)) (ns : Shown) (held : Option (List ℕ)) (f : Fault) (r : Result ℕ Stop)
+    → IsErrAnd r (λ s. s ≡ Faulty f) → IsNamespace interfaces tables ns → Finds ns word (Err f)
+    → Writes (EvaluatesTables bytes told word arguments steps interfaces tables) tt tt held held r
+no_method bytes told word arguments steps interfaces tables ns held f r is loaded none =
+    given (Loads interfaces tables) (λ n. Then (Obtains (Finds n word)) (EvaluatesFound bytes told n arguments steps)) tt tt held held ns r loaded
+    (given_fault (Finds ns word) (EvaluatesFound bytes told ns arguments steps) tt held f r is none)
 
--- an evaluation that wants memory
-pub no_outcome : (bytes : ℕ → ℕ → ℕ) (word : List ℕ) (arguments : List Value) (steps : ℕ) (interfaces : List (List ℕ)) (tables : List (List ℕ)) (ns : Shown) (id : ℕ) (m : Method) (ts : List Tree) (f : Fault) (held : Option (List ℕ)) (r : Result ℕ Stop)
-    → IsErrAnd r (λ s. s ≡ Faulty f) → IsNamespace interfaces tables ns → IsMethodAt ns word id m → IsBodyOf ns id m ts → Takes ns m arguments → IsMeant ns bytes id m (trees ts) arguments steps (Err f)
-    → Writes (EvaluatesTables bytes word arguments steps interfaces tables) tt tt held held r
-no_outcome bytes word arguments steps interfaces tables ns id m ts f held r is loaded names body takes meant =
-    after_body bytes word arguments steps interfaces tables ns id m (Ok ts) held held r loaded names body
-    (given (Fit ns m arguments) (λ _. Then (Obtains (IsMeant ns bytes id m (trees ts) arguments steps)) (λ o. Tells (evaluation_text ns.entries o) (outcome_status o.0))) tt tt held held tt r takes
-    (given_fault (IsMeant ns bytes id m (trees ts) arguments steps) (λ o. Tells (evaluation_text ns.entries o) (outcome_status o.0)) tt held f r is meant))
+-- a method's body that was read, or cannot be
+module _ (bytes : ℕ → ℕ → ℕ) (ns : Shown) (id : ℕ) (m : Method) (arguments : List Value) (steps : ℕ) where
+  pub no_body : (held : Option (List ℕ)) (f : Fault) (r : Result ℕ Stop) → IsErrAnd r (λ s. s ≡ Faulty f) → ReadsBody ns id m (Err f)
+      → Writes (EvaluatesMethod bytes ns arguments steps (id, m)) tt tt held held r
+  no_body held f r is fails = given_fault (ReadsBody ns id m) (EvaluatesBody bytes ns (id, m) arguments steps) tt held f r is fails
+
+  pub after_body : (body : Result (List Tree) Refusal) (held holds : Option (List ℕ)) (r : Result ℕ Stop) → ReadsBody ns id m (Ok body)
+      → Writes (EvaluatesBody bytes ns (id, m) arguments steps body) tt tt held holds r
+      → Writes (EvaluatesMethod bytes ns arguments steps (id, m)) tt tt held holds r
+  after_body body held holds r reads does = given (ReadsBody ns id m) (EvaluatesBody bytes ns (id, m) arguments steps) tt tt held holds body r reads does
+
+  module _ (ts : List Tree) (body : IsBodyOf ns id m ts) where
+    abbrev behind_outcome : Outcome × List Event → Step (Unit {0}) ℕ
+    behind_outcome o = Tells (evaluation_text ns.entries o) (outcome_status o.0)
+
+    abbrev behind_fit : Unit {0} → Step (Unit {0}) ℕ
+    behind_fit _ = Then (Obtains (IsMeant ns bytes id m (trees ts) arguments steps)) behind_outcome
+
+    -- arguments that do not fit
+    pub no_fit : (held : Option (List ℕ)) (f : Fault) (r : Result ℕ Stop) → IsErrAnd r (λ s. s ≡ Faulty f) → Fit ns m arguments (Err f)
+        → Writes (EvaluatesMethod bytes ns arguments steps (id, m)) tt tt held held r
+    no_fit held f r is fails = after_body (Ok ts) held held r body (given_fault (Fit ns m arguments) behind_fit (tt {0}) held f r is fails)
+
+    -- an evaluation that wants memory, and one that ended
+    pub no_outcome : (held : Option (List ℕ)) (f : Fault) (r : Result ℕ Stop) → IsErrAnd r (λ s. s ≡ Faulty f) → Takes ns m arguments
+        → IsMeant ns bytes id m (trees ts) arguments steps (Err f) → Writes (EvaluatesMethod bytes ns arguments steps (id, m)) tt tt held held r
+    no_outcome held f r is takes meant = after_body (Ok ts) held held r body
+        (given (Fit ns m arguments) behind_fit tt tt held held tt r takes
+        (given_fault (IsMeant ns bytes id m (trees ts) arguments steps) behind_outcome tt held f r is meant))
+
+    pub after_outcome : (outcome : Outcome × List Event) (held holds : Option (List ℕ)) (r : Result ℕ Stop) → Takes ns m arguments
+        → IsMeant ns bytes id m (trees ts) arguments steps (Ok outcome)
+        → Writes (Tells (evaluation_text ns.entries outcome) (outcome_status outcome.0)) (tt {0}) (tt {0}) held holds r
+        → Writes (EvaluatesMethod bytes ns arguments steps (id, m)) tt tt held holds r
+    after_outcome outcome held holds r takes meant does = after_body (Ok ts) held holds r body
+        (given (Fit ns m arguments) behind_fit tt tt held holds tt r takes
+        (given (IsMeant ns bytes id m (trees ts) arguments steps) behind_outcome tt tt held holds outcome r meant does))
+
+-- a method that is judged first
+module _ (bytes : ℕ → ℕ → ℕ) (told : Told) (ns : Shown) (arguments : List Value) (found : ℕ × Method) where
+  abbrev behind_verdicts : Checked → Step (Unit {0}) ℕ
+  behind_verdicts checked = EvaluatesJudged bytes ns arguments found checked (said_of checked found.0)
+
+  pub no_judgement : (held : Option (List ℕ)) (f : Fault) (r : Result ℕ Stop) → IsErrAnd r (λ s. s ≡ Faulty f) → Judges told ns (Err f)
+      → Writes (EvaluatesFound bytes told ns arguments None found) tt tt held held r
+  no_judgement held f r is wants = given_fault (Judges told ns) behind_verdicts tt held f r is wants
+
+  module _ (checked : Checked) (are : AreVerdictsOn told ns checked) where
+    after_verdicts : (said : Option Verdict) (held holds : Option (List ℕ)) (r : Result ℕ Stop) → said_of checked found.0 ≡ said
+        → Writes (EvaluatesJudged bytes ns arguments found checked said) tt tt held holds r
+        → Writes (EvaluatesFound bytes told ns arguments None found) tt tt held holds r
+    after_verdicts said held holds r is does =
+        given (Judges told ns) behind_verdicts tt tt held holds checked r are
+        (subst (λ v. Writes (EvaluatesJudged bytes ns arguments found checked v) tt tt held holds r) (sym is) does)
+
+    -- one that is accepted, and takes the arguments or not
+    pub not_taken : (accepted : Accepted) (held : Option (List ℕ)) (f : Fault) (r : Result ℕ Stop) → IsErrAnd r (λ s. s ≡ Faulty f)
+        → said_of checked found.0 ≡ Some (verdict.Accepted accepted) → Accepts accepted arguments (Err f)
+        → Writes (EvaluatesFound bytes told ns arguments None found) tt tt held held r
+    not_taken accepted held f r is said refuses = after_verdicts _ held held r said
+        (given_fault (Accepts accepted arguments) (λ _. EvaluatesMethod bytes ns arguments accepted.bound found) tt held f r is refuses)
+
+    pub taken : (accepted : Accepted) (held holds : Option (List ℕ)) (r : Result ℕ Stop)
+        → said_of checked found.0 ≡ Some (verdict.Accepted accepted) → are_of accepted.args.items arguments ≡ true
+        → Writes (EvaluatesMethod bytes ns arguments accepted.bound found) tt tt held holds r
+        → Writes (EvaluatesFound bytes told ns arguments None found) tt tt held holds r
+    taken accepted held holds r said takes does = after_verdicts _ held holds r said
+        (given (Accepts accepted arguments) (λ _. EvaluatesMethod bytes ns arguments accepted.bound found) tt tt held holds tt r takes does)
+
+    -- and any other
+    other : (said : Option Verdict) (held holds : Option (List ℕ)) (r : Result ℕ Stop) → ((a : Accepted) → said ≡ Some (verdict.Accepted a) → ⊥)
+        → Writes (Tells (said_text checked (record { 0 = found.0 })) 3) (tt {0}) (tt {0}) held holds r
+        → Writes (EvaluatesJudged bytes ns arguments found checked said) tt tt held holds r
+    other None held holds r not does = does
+    other (Some (verdict.Accepted a)) held holds r not does = absurd (not a refl)
+    other (Some (verdict.Refused refusal)) held holds r not does = does
+    other (Some (verdict.Unreadable table refusal)) held holds r not does = does
+
+    pub not_accepted : (held holds : Option (List ℕ)) (r : Result ℕ Stop) → ((a : Accepted) → said_of checked found.0 ≡ Some (verdict.Accepted a) → ⊥)
+        → Writes (Tells (said_text checked (record { 0 = found.0 })) 3) (tt {0}) (tt {0}) held holds r
+        → Writes (EvaluatesFound bytes told ns arguments None found) tt tt held holds r
+    not_accepted held holds r not does = after_verdicts _ held holds r refl (other (said_of checked found.0) held holds r not does)
 
 -- what stands behind the inputs, behind the kinds, behind the registers, and behind the arguments
-abbrev behind_inputs : {F : Type 0} → Registers → List ℕ → List Value → ℕ → Option (List ℕ) → Inputs → Step F ℕ
-behind_inputs registers word arguments steps osi inputs = Still (EvaluatesTables (contents registers.file) word arguments steps (interfaces_of osi) (tables_of inputs))
+abbrev behind_inputs : {F : Type 0} → Registers → Told → List ℕ → List Value → Option ℕ → Option (List ℕ) → Inputs → Step F ℕ
+behind_inputs registers told word arguments steps osi inputs = Still (EvaluatesTables (contents registers.file) told word arguments steps (interfaces_of osi) (tables_of inputs))
 
-abbrev behind_signatures : {F : Type 0} → Answers F → InputNames → List ℕ → ℕ → Option (List ℕ) → List Value → Registers → Signatures → Step F ℕ
+abbrev behind_signatures : {F : Type 0} → Answers F → InputNames → List ℕ → Option ℕ → Option (List ℕ) → List Value → Registers → Signatures → Step F ℕ
 behind_signatures answers names word steps osi arguments registers signatures =
-    Then (ReadsInputs answers names) (behind_inputs registers word arguments steps osi)
+    Then (ReadsInputs answers names) (behind_inputs registers (kinds_told signatures) word arguments steps osi)
 
-abbrev behind_registers : {F : Type 0} → Answers F → InputNames → List ℕ → Option (List ℕ) → ℕ → Option (List ℕ) → List Value → Registers → Step F ℕ
+abbrev behind_registers : {F : Type 0} → Answers F → InputNames → List ℕ → Option (List ℕ) → Option ℕ → Option (List ℕ) → List Value → Registers → Step F ℕ
 behind_registers answers names word kinds steps osi arguments registers =
     Then (ReadsSignatures answers kinds) (behind_signatures answers names word steps osi arguments registers)
 
-abbrev behind_arguments : {F : Type 0} → Answers F → InputNames → List ℕ → Option (List ℕ) → Option (List ℕ) → ℕ → Option (List ℕ) → List Value → Step F ℕ
+abbrev behind_arguments : {F : Type 0} → Answers F → InputNames → List ℕ → Option (List ℕ) → Option (List ℕ) → Option ℕ → Option (List ℕ) → List Value → Step F ℕ
 behind_arguments answers names word regs kinds steps osi arguments =
     Then (ReadsRegisters answers regs) (behind_registers answers names word kinds steps osi arguments)
 
 -- arguments that cannot be read
-pub no_arguments : {F : Type 0} (answers : Answers F) (old : F) (names : InputNames) (word : List ℕ) (args regs kinds : Option (List ℕ)) (steps : ℕ) (osi : Option (List ℕ)) (held : Option (List ℕ)) (f : Fault) (r : Result ℕ Stop)
+pub no_arguments : {F : Type 0} (answers : Answers F) (old : F) (names : InputNames) (word : List ℕ) (args regs kinds : Option (List ℕ)) (steps : Option ℕ) (osi : Option (List ℕ)) (held : Option (List ℕ)) (f : Fault) (r : Result ℕ Stop)
     → IsErrAnd r (λ s. s ≡ Faulty f) → ReadsArguments args (Err f) → Writes (EvaluatesFiles answers names word args regs kinds steps osi) old old held held r
 no_arguments answers old names word args regs kinds steps osi held f r is bad =
     given_fault (ReadsArguments args) (behind_arguments answers names word regs kinds steps osi) old held f r is bad
 
 -- registers that cannot be set
-pub no_registers : {F : Type 0} (answers : Answers F) (old new : F) (names : InputNames) (word : List ℕ) (args regs kinds : Option (List ℕ)) (arguments : List Value) (steps : ℕ) (osi : Option (List ℕ)) (held : Option (List ℕ)) (f : Fault) (r : Result ℕ Stop)
+pub no_registers : {F : Type 0} (answers : Answers F) (old new : F) (names : InputNames) (word : List ℕ) (args regs kinds : Option (List ℕ)) (arguments : List Value) (steps : Option ℕ) (osi : Option (List ℕ)) (held : Option (List ℕ)) (f : Fault) (r : Result ℕ Stop)
     → IsErrAnd r (λ s. s ≡ Faulty f) → ListsArguments args arguments → OpensRegisters answers old regs (Err f) new → Writes (EvaluatesFiles answers names word args regs kinds steps osi) old new held held r
 no_registers answers old new names word args regs kinds arguments steps osi held f r is lists opens =
     given (ReadsArguments args) (behind_arguments answers names word regs kinds steps osi) old new held held arguments r lists
     (quiet_fault (λ o x n. OpensRegisters answers o regs x n) (behind_registers answers names word kinds steps osi arguments) old new held f r is opens)
 
 -- kinds that cannot be read
-pub no_signatures : {F : Type 0} (answers : Answers F) (old set new : F) (names : InputNames) (word : List ℕ) (args regs kinds : Option (List ℕ)) (arguments : List Value) (registers : Registers) (steps : ℕ) (osi : Option (List ℕ)) (held : Option (List ℕ)) (f : Fault) (r : Result ℕ Stop)
+pub no_signatures : {F : Type 0} (answers : Answers F) (old set new : F) (names : InputNames) (word : List ℕ) (args regs kinds : Option (List ℕ)) (arguments : List Value) (registers : Registers) (steps : Option ℕ) (osi : Option (List ℕ)) (held : Option (List ℕ)) (f : Fault) (r : Result ℕ Stop)
     → IsErrAnd r (λ s. s ≡ Faulty f) → ListsArguments args arguments → OpensRegisters answers old regs (Ok registers) set → OpensSignatures answers set kinds (Err f) new
     → Writes (EvaluatesFiles answers names word args regs kinds steps osi) old new held held r
 no_signatures answers old set new names word args regs kinds arguments registers steps osi held f r is lists sets opens =
@@ -121,27 +186,27 @@ no_signatures answers old set new names word args regs kinds arguments registers
     (quiet_fault (λ o x n. OpensSignatures answers o kinds x n) (behind_signatures answers names word steps osi arguments registers) set new held f r is opens))
 
 -- inputs that cannot be read
-pub no_inputs : {F : Type 0} (answers : Answers F) (old set told new : F) (names : InputNames) (word : List ℕ) (args regs kinds : Option (List ℕ)) (arguments : List Value) (registers : Registers) (signatures : Signatures) (steps : ℕ) (osi : Option (List ℕ)) (held : Option (List ℕ)) (f : Fault) (r : Result ℕ Stop)
+pub no_inputs : {F : Type 0} (answers : Answers F) (old set told new : F) (names : InputNames) (word : List ℕ) (args regs kinds : Option (List ℕ)) (arguments : List Value) (registers : Registers) (signatures : Signatures) (steps : Option ℕ) (osi : Option (List ℕ)) (held : Option (List ℕ)) (f : Fault) (r : Result ℕ Stop)
     → IsErrAnd r (λ s. s ≡ Faulty f) → ListsArguments args arguments → OpensRegisters answers old regs (Ok registers) set → OpensSignatures answers set kinds (Ok signatures) told
     → OpensInputs answers told names (Err f) new → Writes (EvaluatesFiles answers names word args regs kinds steps osi) old new held held r
 no_inputs answers old set told new names word args regs kinds arguments registers signatures steps osi held f r is lists sets tells opens =
     given (ReadsArguments args) (behind_arguments answers names word regs kinds steps osi) old new held held arguments r lists
     (quiet (λ o x n. OpensRegisters answers o regs x n) (behind_registers answers names word kinds steps osi arguments) old set new held held registers r sets
     (quiet (λ o x n. OpensSignatures answers o kinds x n) (behind_signatures answers names word steps osi arguments registers) set told new held held signatures r tells
-    (quiet_fault (λ o x n. OpensInputs answers o names x n) (behind_inputs registers word arguments steps osi) told new held f r is opens)))
+    (quiet_fault (λ o x n. OpensInputs answers o names x n) (behind_inputs registers (kinds_told signatures) word arguments steps osi) told new held f r is opens)))
 
 -- inputs that were read
-pub inputs_evaluated : {F : Type 0} (answers : Answers F) (old set told new : F) (names : InputNames) (word : List ℕ) (args regs kinds : Option (List ℕ)) (arguments : List Value) (registers : Registers) (signatures : Signatures) (inputs : Inputs) (steps : ℕ) (osi : Option (List ℕ)) (held holds : Option (List ℕ)) (r : Result ℕ Stop)
+pub inputs_evaluated : {F : Type 0} (answers : Answers F) (old set told new : F) (names : InputNames) (word : List ℕ) (args regs kinds : Option (List ℕ)) (arguments : List Value) (registers : Registers) (signatures : Signatures) (inputs : Inputs) (steps : Option ℕ) (osi : Option (List ℕ)) (held holds : Option (List ℕ)) (r : Result ℕ Stop)
     → ListsArguments args arguments → OpensRegisters answers old regs (Ok registers) set → OpensSignatures answers set kinds (Ok signatures) told
     → OpensInputs answers told names (Ok inputs) new
-    → Writes (EvaluatesTables (contents registers.file) word arguments steps (interfaces_of osi) (tables_of inputs)) tt tt held holds r
+    → Writes (EvaluatesTables (contents registers.file) (kinds_told signatures) word arguments steps (interfaces_of osi) (tables_of inputs)) tt tt held holds r
     → Writes (EvaluatesFiles answers names word args regs kinds steps osi) old new held holds r
 inputs_evaluated answers old set told new names word args regs kinds arguments registers signatures inputs steps osi held holds r lists sets tells opens does =
     given (ReadsArguments args) (behind_arguments answers names word regs kinds steps osi) old new held holds arguments r lists
     (quiet (λ o x n. OpensRegisters answers o regs x n) (behind_registers answers names word kinds steps osi arguments) old set new held holds registers r sets
     (quiet (λ o x n. OpensSignatures answers o kinds x n) (behind_signatures answers names word steps osi arguments registers) set told new held holds signatures r tells
-    (quiet (λ o x n. OpensInputs answers o names x n) (behind_inputs registers word arguments steps osi) told new new held holds inputs r opens
-    (still (EvaluatesTables (contents registers.file) word arguments steps (interfaces_of osi) (tables_of inputs)) new held holds r does))))
+    (quiet (λ o x n. OpensInputs answers o names x n) (behind_inputs registers (kinds_told signatures) word arguments steps osi) told new new held holds inputs r opens
+    (still (EvaluatesTables (contents registers.file) (kinds_told signatures) word arguments steps (interfaces_of osi) (tables_of inputs)) new held holds r does))))
 
 -- what stands behind the inputs of `names`, and behind their load
 abbrev behind_tables : {F : Type 0} → Inputs → Step F ℕ

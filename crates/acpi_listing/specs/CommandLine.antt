@@ -47,7 +47,6 @@ regs_rule = option_rule (codes "regs")
 -- a number below 2^64
 abbrev pub plain_rule : Rule
 plain_rule = record (option_rule (codes "plain")) {
-  required = true;
   parser = Some (Unsigned 0 18446744073709551615);
 }
 

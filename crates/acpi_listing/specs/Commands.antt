@@ -1,5 +1,5 @@
 -- What the commands do, from words that were read to what is printed.
-use Rattle.std.specs.Prelude.{◌≡◌, ◌⊎◌, ◌&&◌, ℕ, List, [], ◌∷◌, ◌++◌, Bool, true, IsTrue, nat_le, option_and_then, length, if◌then◌else◌, Option, Some, None, Result, Ok, Err, IfOk, map, option_map, vec_items}
+use Rattle.std.specs.Prelude.{◌≡◌, ◌==◌, ◌⊎◌, ◌&&◌, ℕ, List, [], ◌∷◌, ◌++◌, Bool, true, false, IsTrue, nat_le, option_and_then, length, if◌then◌else◌, Option, Some, None, Result, Ok, Err, IfOk, map, option_map, vec_items}
 use Rattle.std.specs.Io.KnownBytes.{Appends}
 use Rattle.aml_namespace.specs.declared.width.Width.{Width}
 use Rattle.aml_operators.specs.Tree.{Tree, Trees, trees}
@@ -11,7 +11,7 @@ use Rattle.aml_namespace.specs.Load.{Shown}
 use Rattle.aml_namespace.specs.Names.{method_at, IsBodyOf, ReadsBodyOf}
 use Rattle.aml_paths.specs.Printed.{path_text}
 use Rattle.aml_namespace.specs.PrintedObjects.{printed_object}
-use Rattle.aml_values.specs.Values.{Value, Int}
+use Rattle.aml_values.specs.Values.{Value, Int, Buf, Str, Pkg}
 use Rattle.aml_contents.specs.FirstKinds.{greatest_of}
 use Rattle.aml_contents.specs.FirstContents.{first_contents, first_kinds}
 use Rattle.aml_meaning.specs.State as State
@@ -48,12 +48,17 @@ use Rattle.acpi_listing.specs.declared.hex_lines.HexLines.{HexLines}
 use Rattle.acpi_text.specs.declared.writing.RunFault.{RunFault}
 use Rattle.acpi_listing.specs.declared.words.Request.{Request}
 use Rattle.acpi_listing.specs.declared.words.Request.TheVariants.{Tables, Names, Verify, Eval}
-use Rattle.acpi_verdicts.specs.Verdicts.{any_refused, verdicts_text}
+use Rattle.acpi_verdicts.specs.Verdicts.{any_refused, said_of, said_text, verdicts_text}
+use Rattle.aml_known.specs.declared.accepted.Accepted.{Accepted}
+use Rattle.aml_known.specs.declared.known.Known.{Known}
+use Rattle.aml_known.specs.declared.known.Known.TheVariants as known
 use Rattle.aml_methods.specs.Judgings.{Told}
 use Rattle.aml_namespace.specs.Shows.{shown}
 use Rattle.aml_signatures.specs.Signed.{kinds_told}
 use Rattle.aml_verify.specs.Verdicts.{IsChecked}
 use Rattle.aml_verify.specs.declared.checked.Checked.{Checked}
+use Rattle.aml_verify.specs.declared.verdict.Verdict.{Verdict}
+use Rattle.aml_verify.specs.declared.verdict.Verdict.TheVariants as verdict
 
 -- the method whose printed path, or an alias's, a word is
 abbrev pub IsMethodAt : Shown → List ℕ → ℕ → Method → Type 0
@@ -178,22 +183,59 @@ EvaluatesBody bytes ns (id, m) arguments steps (Ok ts) =
     Then (Obtains (IsMeant ns bytes id m (trees ts) arguments steps)) (λ ended.
     Tells (evaluation_text ns.entries ended) (outcome_status ended.0)))
 
--- `eval` of tables, over registers of these bytes, where `_OSI` knows these texts: the load, the method of that path, its body
-abbrev pub EvaluatesTables : (ℕ → ℕ → ℕ) → List ℕ → List Value → ℕ → List (List ℕ) → List (List ℕ) → Step (Unit {0}) ℕ
-EvaluatesTables bytes word arguments steps interfaces tables =
-    Then (Obtains (Loads interfaces tables)) (λ ns.
-    Then (Obtains (Finds ns word)) (λ found.
-    Then (Obtains (ReadsBody ns found.0 found.1)) (EvaluatesBody bytes ns found arguments steps)))
+-- `eval` of a method's body, with so many steps: the body is read, and evaluated
+abbrev pub EvaluatesMethod : (ℕ → ℕ → ℕ) → Shown → List Value → ℕ → ℕ × Method → Step (Unit {0}) ℕ
+EvaluatesMethod bytes ns arguments steps found =
+    Then (Obtains (ReadsBody ns found.0 found.1)) (EvaluatesBody bytes ns found arguments steps)
 
--- `eval`: the arguments, the registers, the kinds, which have no effect, the files, their tables over these registers, where `_OSI` knows
--- the text of `--osi`
-abbrev pub EvaluatesFiles : {F : Type 0} → Answers F → InputNames → List ℕ → Option (List ℕ) → Option (List ℕ) → Option (List ℕ) → ℕ → Option (List ℕ) → Step F ℕ
+-- whether a value is of a kind; which packages are of a shape no signature tells
+abbrev pub is_of : Known → Value → Bool
+is_of known.Mixed v = true
+is_of (known.Int most) (Int n) = nat_le n most
+is_of (known.Buf size) (Buf octets) = length octets == size
+is_of (known.Str size) (Str characters) = length characters == size
+is_of known.AnyPkg (Pkg elements) = true
+is_of kind v = false
+
+-- whether there is a value for each kind, and is of it
+abbrev pub are_of : List Known → List Value → Bool
+are_of [] [] = true
+are_of (k ∷ ks) (v ∷ vs) = is_of k v && are_of ks vs
+are_of ks vs = false
+
+-- an accepted method takes arguments: as many as it has, each of its kind
+abbrev pub Accepts : Accepted → List Value → Result (Unit {0}) Fault → Type 0
+Accepts accepted arguments (Ok _) = are_of accepted.args.items arguments ≡ true
+Accepts accepted arguments (Err f) = (are_of accepted.args.items arguments ≡ false) × (f ≡ nowhere cause.ArgsDontFit)
+
+-- `eval` of a method by what is said of it: an accepted one takes arguments of its kinds, and is evaluated with as many steps as its
+-- verdict says; what is said of any other has its line
+abbrev pub EvaluatesJudged : (ℕ → ℕ → ℕ) → Shown → List Value → ℕ × Method → Checked → Option Verdict → Step (Unit {0}) ℕ
+EvaluatesJudged bytes ns arguments found checked (Some (verdict.Accepted accepted)) =
+    Then (Obtains (Accepts accepted arguments)) (λ _. EvaluatesMethod bytes ns arguments accepted.bound found)
+EvaluatesJudged bytes ns arguments found checked said = Tells (said_text checked (record { 0 = found.0 })) 3
+
+-- `eval` of a method with so many steps, or, without a number, by its verdict, where these kinds are told
+abbrev pub EvaluatesFound : (ℕ → ℕ → ℕ) → Told → Shown → List Value → Option ℕ → ℕ × Method → Step (Unit {0}) ℕ
+EvaluatesFound bytes told ns arguments (Some steps) found = EvaluatesMethod bytes ns arguments steps found
+EvaluatesFound bytes told ns arguments None found =
+    Then (Obtains (Judges told ns)) (λ checked. EvaluatesJudged bytes ns arguments found checked (said_of checked found.0))
+
+-- `eval` of tables, over registers of these bytes, where these kinds are told and `_OSI` knows these texts: the load, the method of that
+-- path, its evaluation
+abbrev pub EvaluatesTables : (ℕ → ℕ → ℕ) → Told → List ℕ → List Value → Option ℕ → List (List ℕ) → List (List ℕ) → Step (Unit {0}) ℕ
+EvaluatesTables bytes told word arguments steps interfaces tables =
+    Then (Obtains (Loads interfaces tables)) (λ ns.
+    Then (Obtains (Finds ns word)) (EvaluatesFound bytes told ns arguments steps))
+
+-- `eval`: the arguments, the registers, the kinds, the files, their tables over these registers, where `_OSI` knows the text of `--osi`
+abbrev pub EvaluatesFiles : {F : Type 0} → Answers F → InputNames → List ℕ → Option (List ℕ) → Option (List ℕ) → Option (List ℕ) → Option ℕ → Option (List ℕ) → Step F ℕ
 EvaluatesFiles answers names word args regs kinds steps osi =
     Then (Obtains (ReadsArguments args)) (λ arguments.
     Then (ReadsRegisters answers regs) (λ registers.
-    Then (ReadsSignatures answers kinds) (λ _.
+    Then (ReadsSignatures answers kinds) (λ signatures.
     Then (ReadsInputs answers names) (λ inputs.
-    Still (EvaluatesTables (contents registers.file) word arguments steps (interfaces_of osi) (tables_of inputs))))))
+    Still (EvaluatesTables (contents registers.file) (kinds_told signatures) word arguments steps (interfaces_of osi) (tables_of inputs))))))
 
 -- what the words ask for, or why there is nothing
 abbrev pub Asks : List (List ℕ) → Result Request Fault → Type 0

@@ -1,5 +1,5 @@
 -- What words ask for.
-use Rattle.std.specs.Prelude.{◌≡◌, ◌<◌, ◌^◌, ℕ, List, [], Bool, false, Option, Some, codes, map, option_map, vec_items}
+use Rattle.std.specs.Prelude.{◌≡◌, ◌<◌, ◌^◌, ℕ, List, [], Bool, false, Option, Some, None, codes, map, option_map, vec_items}
 use Rattle.std.specs.Option.{option_map_or}
 use Rattle.std.specs.Str.{bytes_eq}
 use Rattle.std.specs.Str.Parse.{IsNumeral, digits_value, without_leading_plus}
@@ -33,6 +33,11 @@ HasVerifyParts rows request =
     × (first_of (codes "kinds") rows ≡ option_map (λ name. name.now) request.kinds)
     × (request.explain ≡ has_flag (codes "explain") rows)
 
+-- the number of steps that is given, or that none is
+abbrev pub HasSteps : List Row → Option ℕ → Type 0
+HasSteps rows (Some n) = (text : Text) × (one_of (codes "plain") rows ≡ Some text) × IsCount text n
+HasSteps rows None = (text : Text) (n : ℕ) → one_of (codes "plain") rows ≡ Some text → IsCount text n → ⊥
+
 -- each part of an evaluation is the value of its option
 abbrev pub HasParts : List Row → EvalRequest → Type 0
 HasParts rows request =
@@ -41,7 +46,7 @@ HasParts rows request =
     × (first_of (codes "args") rows ≡ option_map (λ text. text.now) request.args)
     × (first_of (codes "regs") rows ≡ option_map (λ name. name.now) request.regs)
     × (first_of (codes "kinds") rows ≡ option_map (λ name. name.now) request.kinds)
-    × ((text : Text) × (one_of (codes "plain") rows ≡ Some text) × IsCount text request.steps)
+    × HasSteps rows request.steps
     × (first_of (codes "osi") rows ≡ option_map (λ text. text.now) request.osi)
 
 -- a command and what its words gave is a request

@@ -1,13 +1,13 @@
 // The command `eval`.
 
-ghost use Rattle.std.specs.Prelude.{◌≡◌, ◌≤◌, ◌↔◌, [], IsSome, Some, true};
-ghost use Rattle.std.specs.Prelude.{IfOk, IfErr, map, option_map, vec_items};
+ghost use Rattle.std.specs.Prelude.{◌≡◌, ◌≤◌, ◌↔◌, [], IsSome, None, Some, true};
+ghost use Rattle.std.specs.Prelude.{IfOk, IfErr, IfSome, map, option_map, vec_items};
 ghost use Rattle.acpi_listing.specs.Arguments.{ListsArguments, ListsBadArguments};
 ghost use Rattle.aml_values.specs.Views.{view};
 ghost use Rattle.aml_namespace.specs.Names.{method_at};
 ghost use Rattle.aml_namespace.specs.Shows.{bytes_in, shown};
-ghost use Rattle.acpi_listing.specs.Commands.{EvaluatesFiles, EvaluatesTables, IsMethodAt, IsNoMethodAt, printed_path};
-ghost use Rattle.acpi_listing.specs.Commands.{IsMeant, Takes, are_taken, evaluation_text, is_taken, outcome_status, with_events};
+ghost use Rattle.acpi_listing.specs.Commands.{EvaluatesFiles, EvaluatesFound, EvaluatesMethod, EvaluatesTables, IsMethodAt, IsNoMethodAt, printed_path};
+ghost use Rattle.acpi_listing.specs.Commands.{IsMeant, Takes, are_of, are_taken, is_of, evaluation_text, is_taken, outcome_status, with_events};
 ghost use Rattle.aml_operators.specs.Tree as terms;
 ghost use Rattle.aml_operators.specs.Tree.{views};
 ghost use Rattle.aml_bodies.specs.Methods.{AreStatementsOf};
@@ -18,6 +18,10 @@ ghost use Rattle.acpi_listing.specs.Steps.{Tells, Tries, Writes};
 ghost use Rattle.acpi_listing.specs.Inputs.{tables_of};
 ghost use Rattle.acpi_listing.specs.Loading.{interfaces_of};
 ghost use Rattle.acpi_text.specs.Lists.{Lists};
+ghost use Rattle.acpi_verdicts.specs.Verdicts.{said_of, said_text};
+ghost use Rattle.aml_known.specs.declared.accepted.Accepted.{Accepted};
+ghost use Rattle.aml_verify.specs.declared.verdict.Verdict.TheVariants as verdict;
+ghost use Rattle.aml_signatures.specs.Signed.{kinds_told};
 ghost use Rattle.acpi_text.specs.Outcome.{refusal_line};
 ghost use Rattle.acpi_listing.specs.Faults.{nowhere};
 ghost use Rattle.acpi_listing.specs.declared.fault.FaultCause.TheVariants as cause;
@@ -31,9 +35,12 @@ use crate::regs::read_registers;
 use crate::signed::read_signatures;
 use crate::source::Source;
 use crate::tell::{tell_argument, tell_misfit, tell_object};
+use crate::verify::verdicts_on;
 use crate::words::EvalRequest;
 use acpi_text::{RunFault, list_evaluation, list_events, list_refusal};
+use acpi_verdicts::list_said;
 use aml_contents::Names;
+use aml_known::{Accepted, Known};
 use aml_meaning::Outcome;
 use aml_namespace::{Method, Namespace, Width};
 use aml_operators::Term;
@@ -41,12 +48,15 @@ use aml_paths::ObjectId;
 use aml_plain::evaluate_tree;
 use aml_regions::Event;
 use aml_registers::Registers;
+use aml_signatures::Signatures;
 use aml_tree::{Refusal, TreeFault};
 use aml_values::Value;
+use aml_verify::{Checked, Verdict};
 use std::alloc::Global;
 use std::io::Write;
 
-/// Evaluates a method with a number of steps, and prints its events and how that ended.
+/// Evaluates a method, and prints its events and how that ended: with a number of steps that is given, or
+/// with as many as the verdict on it says; a method that is refused has the line of its verdict.
 pub fn evaluate<F: Source, N: Notes, W: Write>(
     alloc: Global,
     request: &EvalRequest<'_>,
@@ -64,9 +74,20 @@ pub fn evaluate<F: Source, N: Notes, W: Write>(
 {
     let arguments = arguments_of(alloc, request, notes)?;
     let registers = read_registers(alloc, request.regs, files, notes)?;
-    let _signatures = read_signatures(alloc, request.kinds, files, notes)?;
+    let signatures = read_signatures(alloc, request.kinds, files, notes)?;
     let inputs = Inputs::read(alloc, &request.inputs, files)?;
-    evaluate_inputs(alloc, request, arguments, registers, &inputs, notes, out)
+    let given = Given {
+        arguments,
+        registers,
+    };
+    evaluate_inputs(alloc, request, given, &signatures, &inputs, notes, out)
+}
+
+// What a method is evaluated with: its arguments, and the registers that answer it.
+#[derive(Drop)]
+struct Given {
+    arguments: Vec<Value>,
+    registers: Registers,
 }
 
 fn arguments_of<N: Notes>(
@@ -107,37 +128,139 @@ fn interfaces_of<'a>(alloc: Global, osi: Option<&'a str>) -> Result<Vec<&'a [u8]
 fn evaluate_inputs<N: Notes, W: Write>(
     alloc: Global,
     request: &EvalRequest<'_>,
-    arguments: Vec<Value>,
-    registers: Registers,
+    given: Given,
+    signatures: &Signatures,
     inputs: &Inputs,
     notes: &N,
     out: &mut W,
 ) -> Result<u8, Stop>
-    requires set { TextSets registers.text.items (contents registers.file) }
-    requires fresh { registers.file.events.items ≡ [] }
+    requires set { TextSets given.registers.text.items (contents given.registers.file) }
+    requires fresh { given.registers.file.events.items ≡ [] }
     ensures status { IfOk result (λ status. status ≤ 3) }
-    ensures printed { Writes (EvaluatesTables (contents registers.file) request.now.method.now
-        (map view (vec_items arguments)) request.now.steps
+    ensures printed { Writes (EvaluatesTables (contents given.registers.file) (kinds_told signatures.now)
+        request.now.method.now (map view (vec_items given.arguments)) request.now.steps
         (interfaces_of (option_map (λ text. text.now) request.now.osi)) (tables_of inputs.now)) tt tt (W.contents out.old) (W.contents out.new) result }
 {
     let known = interfaces_of(alloc, request.osi)?;
     let namespace = load_counted(alloc, inputs, &request.inputs, known.as_slice(), notes)?;
     let (id, method) = find_method(alloc, &namespace, request.method, notes)?;
+    match request.steps {
+        Some(steps) => {
+            evaluate_method(
+                alloc,
+                request.method,
+                &namespace,
+                id,
+                method,
+                given,
+                steps,
+                notes,
+                out,
+            )
+        }
+        None => evaluate_judged(
+            alloc,
+            request.method,
+            &namespace,
+            signatures,
+            id,
+            method,
+            given,
+            notes,
+            out,
+        ),
+    }
+}
+
+// Evaluates a method that is judged first, with as many steps as its verdict says. A method that is not
+// accepted has its line.
+fn evaluate_judged<N: Notes, W: Write>(
+    alloc: Global,
+    word: &str,
+    namespace: &Namespace<'_>,
+    signatures: &Signatures,
+    id: ObjectId,
+    method: Method,
+    given: Given,
+    notes: &N,
+    out: &mut W,
+) -> Result<u8, Stop>
+    requires there { method_at (shown namespace.now) id.0 ≡ Some method }
+    requires set { TextSets given.registers.text.items (contents given.registers.file) }
+    requires fresh { given.registers.file.events.items ≡ [] }
+    ensures status { IfOk result (λ status. status ≤ 3) }
+    ensures printed { Writes (EvaluatesFound (contents given.registers.file) (kinds_told signatures.now)
+        (shown namespace.now) (map view (vec_items given.arguments)) None (id.0, method))
+        tt tt (W.contents out.old) (W.contents out.new) result }
+{
+    let checked = verdicts_on(alloc, namespace, signatures)?;
+    let Some(accepted) = accepted_in(&checked, id) else {
+        return tell_said(alloc, out, &checked, id);
+    };
+    if !are_of(&accepted.args, &given.arguments) {
+        tell_misfit(alloc, notes, namespace, word, method, &given.arguments);
+        return Err(Stop::Fault(Fault::nowhere(FaultCause::ArgsDontFit)));
+    }
+    let steps = accepted.bound;
+    evaluate_method(alloc, word, namespace, id, method, given, steps, notes, out)
+}
+
+// What is known of the method with a number, where it is accepted.
+fn accepted_in<'a>(checked: &'a Checked<'_>, id: ObjectId) -> Option<&'a Accepted>
+    ensures some { IfSome result (λ a. said_of checked.now id.0 ≡ Some (verdict.Accepted a.now)) }
+    ensures none { (a : Accepted) → result ≡ None →
+        said_of checked.now id.0 ≡ Some (verdict.Accepted a) → ⊥ }
+{
+    match checked.verdict(id) {
+        Some(Verdict::Accepted(accepted)) => Some(accepted),
+        Some(Verdict::Refused(_)) => None,
+        Some(Verdict::Unreadable { .. }) => None,
+        None => None,
+    }
+}
+
+// Evaluates a method with so many steps.
+fn evaluate_method<N: Notes, W: Write>(
+    alloc: Global,
+    word: &str,
+    namespace: &Namespace<'_>,
+    id: ObjectId,
+    method: Method,
+    given: Given,
+    steps: u64,
+    notes: &N,
+    out: &mut W,
+) -> Result<u8, Stop>
+    requires there { method_at (shown namespace.now) id.0 ≡ Some method }
+    requires set { TextSets given.registers.text.items (contents given.registers.file) }
+    requires fresh { given.registers.file.events.items ≡ [] }
+    ensures status { IfOk result (λ status. status ≤ 3) }
+    ensures printed { Writes (EvaluatesMethod (contents given.registers.file) (shown namespace.now)
+        (map view (vec_items given.arguments)) steps (id.0, method))
+        tt tt (W.contents out.old) (W.contents out.new) result }
+{
     let body = match namespace.tree(alloc, id) {
         Ok(body) => body,
         Err(TreeFault::NoMemory) => return Err(Stop::Fault(Fault::nowhere(FaultCause::NoMemory))),
         Err(TreeFault::Refused(refusal)) => {
-            return tell_refusal(alloc, out, &namespace, id, method.table, refusal);
+            return tell_refusal(alloc, out, namespace, id, method.table, refusal);
         }
     };
-    if !fits(&namespace, method, &arguments) {
-        tell_misfit(alloc, notes, &namespace, request.method, method, &arguments);
+    if !fits(namespace, method, &given.arguments) {
+        tell_misfit(alloc, notes, namespace, word, method, &given.arguments);
         return Err(Stop::Fault(Fault::nowhere(FaultCause::ArgsDontFit)));
     }
-    let mut world = registers;
-    let steps = request.steps;
-    let outcome = outcome_of(alloc, &namespace, id, body, arguments, &mut world, steps)?;
-    tell_outcome(alloc, out, &namespace, &outcome, world.events())
+    let mut world = given.registers;
+    let outcome = outcome_of(
+        alloc,
+        namespace,
+        id,
+        body,
+        given.arguments,
+        &mut world,
+        steps,
+    )?;
+    tell_outcome(alloc, out, namespace, &outcome, world.events())
 }
 
 // How a method's evaluation ends, from what the names of the tables hold first, over registers.
@@ -196,6 +319,21 @@ fn tell_outcome<W: Write>(
 {
     list_ended(alloc, out, namespace, outcome, events)?;
     Ok(status_of(outcome))
+}
+
+// Prints what is said of a method that is not accepted, and answers the status of that.
+fn tell_said<W: Write>(
+    alloc: Global,
+    out: &mut W,
+    checked: &Checked<'_>,
+    id: ObjectId,
+) -> Result<u8, Stop>
+    ensures status { IfOk result (λ status. status ≤ 3) }
+    ensures printed { Writes (Tells (said_text checked.now id) 3) (tt {0}) (tt {0})
+        (W.contents out.old) (W.contents out.new) result }
+{
+    list_said(alloc, out, checked, id)?;
+    Ok(3)
 }
 
 // Prints that a method's body cannot be read, and answers the status of that.
@@ -268,6 +406,33 @@ fn is_taken(greatest: u64, value: &Value) -> bool
     match value {
         Value::Int(number) => *number <= greatest,
         _ => true,
+    }
+}
+
+// Whether there is a value for each of some kinds, and is of it.
+fn are_of(kinds: &[Known], values: &[Value]) -> bool
+    ensures { result ≡ are_of kinds.now (map view values.now) }
+{
+    match kinds {
+        [] => values.is_empty(),
+        [kind, other_kinds @ ..] => match values {
+            [] => false,
+            [value, others @ ..] => is_of(*kind, value) && are_of(other_kinds, others),
+        },
+    }
+}
+
+// Whether a value is of a kind. Which packages are of a shape no signature tells.
+fn is_of(kind: Known, value: &Value) -> bool
+    ensures { result ≡ is_of kind (view value.now) }
+{
+    match (kind, value) {
+        (Known::Mixed, _) => true,
+        (Known::Int(most), Value::Int(number)) => *number <= most,
+        (Known::Buf(size), Value::Buf(octets)) => octets.len() as u64 == size,
+        (Known::Str(size), Value::Str(characters)) => characters.len() as u64 == size,
+        (Known::AnyPkg, Value::Pkg(_)) => true,
+        _ => false,
     }
 }
 

@@ -134,7 +134,8 @@ pub(crate) fn tell_object<N: Notes>(
     tell(notes, object_note(alloc, namespace, word));
 }
 
-/// Of arguments that do not fit a method: their number, or the first integer that is too great.
+/// Of arguments that do not fit a method: their number, the first integer that is too great, or that one
+/// is of another kind.
 pub(crate) fn tell_misfit<N: Notes>(
     alloc: Global,
     notes: &N,
@@ -156,6 +157,7 @@ pub(crate) fn tell_misfit<N: Notes>(
             return;
         }
     }
+    notes.tell("an argument is not of the kind that the method takes: see --kinds");
 }
 
 // Of words that are no command line: the help that they ask for, or what is wrong with them.

@@ -91,8 +91,8 @@ fn tell_reasons<N: Notes>(
     }
 }
 
-// The verdicts on the methods of a namespace.
-fn verdicts_on<'a>(
+/// The verdicts on the methods of a namespace.
+pub fn verdicts_on<'a>(
     alloc: Global,
     namespace: &'a Namespace<'a>,
     signatures: &Signatures,

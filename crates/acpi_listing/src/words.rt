@@ -5,7 +5,7 @@ ghost use Rattle.clap.specs.Words.{HasKind, all_of, app_of, fault_of, found_of, 
 ghost use Rattle.clap.specs.declared.Command.TheViews.{out-Command as fields_of};
 ghost use Rattle.acpi_listing.specs.Steps.{Tries};
 ghost use Rattle.acpi_listing.specs.CommandLine.{acpicheck_app, commands_app, eval_app, files_app, files_rule, flag_rule, method_app, names_app, option_rule, plain_rule, verify_app};
-ghost use Rattle.acpi_listing.specs.Words.{AsksFor, AsksNothing, HasInputs, HasParts, HasVerifyParts, IsRequest, has_flag};
+ghost use Rattle.acpi_listing.specs.Words.{AsksFor, AsksNothing, HasInputs, HasParts, HasSteps, HasVerifyParts, IsRequest, has_flag};
 ghost use Rattle.acpi_listing.specs.Faults.{nowhere};
 ghost use Rattle.acpi_listing.specs.declared.fault.FaultCause.TheVariants as cause;
 
@@ -51,10 +51,10 @@ pub struct EvalRequest<'a> {
     pub args: Option<&'a str>,
     /// The file whose text sets registers.
     pub regs: Option<&'a str>,
-    /// The file whose text tells the kinds of arguments, which has no effect but that it is read.
+    /// The file whose text tells the kinds of arguments.
     pub kinds: Option<&'a str>,
-    /// The number of steps.
-    pub steps: u64,
+    /// The number of steps; without one the method is judged, and takes no more than its verdict says.
+    pub steps: Option<u64>,
     /// The text that `_OSI` knows.
     pub osi: Option<&'a str>,
 }
@@ -183,9 +183,7 @@ fn steps_arg<'a>(alloc: Global) -> Arg<'a>
     ensures rule { rule_of result ≡ plain_rule }
     ensures local { result.global ≡ false }
 {
-    option_arg(alloc, "plain")
-        .required(true)
-        .value_parser(value_parser!(u64))
+    option_arg(alloc, "plain").value_parser(value_parser!(u64))
 }
 
 // An option of that name with one value.
@@ -275,6 +273,16 @@ fn verify_of<'a>(alloc: Global, found: &ArgMatches<'a>) -> Result<VerifyRequest<
     })
 }
 
+// The number of steps, where one stands there.
+fn steps_of(found: &ArgMatches<'_>) -> Option<u64>
+    ensures { HasSteps (rows_of (found_of found.now)) result }
+{
+    match found.get_one::<u64>("plain") {
+        Some(steps) => Some(steps),
+        None => None,
+    }
+}
+
 // Each part of the request is the value of its option.
 fn eval_of<'a>(alloc: Global, found: &ArgMatches<'a>) -> Result<EvalRequest<'a>, Fault>
     ensures { let rows = rows_of (found_of found.now) in
@@ -284,16 +292,13 @@ fn eval_of<'a>(alloc: Global, found: &ArgMatches<'a>) -> Result<EvalRequest<'a>,
     let Some(method) = found.get_str("method") else {
         return Err(Fault::nowhere(FaultCause::CommandLine));
     };
-    let Some(steps) = found.get_one::<u64>("plain") else {
-        return Err(Fault::nowhere(FaultCause::CommandLine));
-    };
     Ok(EvalRequest {
         inputs: inputs_of(alloc, found)?,
         method,
         args: found.get_str("args"),
         regs: found.get_str("regs"),
         kinds: found.get_str("kinds"),
-        steps,
+        steps: steps_of(found),
         osi: found.get_str("osi"),
     })
 }

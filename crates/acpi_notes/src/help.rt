@@ -31,7 +31,7 @@ Usage: acpicheck COMMAND [OPTIONS] FILES
   verify FILES    of each method whether it can go wrong, and its steps or the first cause
                     acpicheck verify dsdt.dat ssdt1.dat
   eval FILES      the events of a method's evaluation, and how it ended
-                    acpicheck eval --method '\\_SB_.PCI0._STA' --plain 10000 dsdt.dat
+                    acpicheck eval --method '\\_SB_.PCI0._STA' dsdt.dat
 
 acpicheck COMMAND --help tells the options of a command. Without words the program takes them
 from the first line of standard input; there a file is @, the hex text of the next line.
@@ -73,17 +73,18 @@ AML error, whatever its arguments of these kinds, the names and the registers ho
 ";
 
 const EVAL: &str = "\
-Usage: acpicheck eval --method PATH --plain N [OPTIONS] FILES
+Usage: acpicheck eval --method PATH [OPTIONS] FILES
 
 Loads a DSDT and the SSDTs behind it, evaluates a method, and prints its accesses and its value.
-  acpicheck eval --method '\\_SB_.PCI0._STA' --plain 10000 dsdt.dat ssdt1.dat
+The method is judged first, as verify does: a refused one is not evaluated, and has its line.
+  acpicheck eval --method '\\_SB_.PCI0._STA' dsdt.dat ssdt1.dat
 
   --method PATH       the method, as names prints it: --method '\\_SB_.PCI0._STA'
-  --plain N           at most so many steps: --plain 10000
+  --plain N           without a verdict, and with at most so many steps: --plain 10000
   --args TEXT         its arguments, by commas: --args 41,0x29,buf:00a5,str:ACPI,pkg
   --regs FILE         lines SPACE ADDRESS BYTES that set registers, as io 60 1527: --regs board.regs
-  --kinds FILE        kinds of arguments, as verify takes them: read, and without effect
-                      beside --plain: --kinds board.kinds
+  --kinds FILE        kinds of arguments, as verify takes them, without effect beside --plain:
+                      --kinds board.kinds
   --osi TEXT          the one text that _OSI knows: --osi 'Windows 2015'
   --dead-externals    reads Externals that stand in an If (Zero), as iasl writes them
 ";

@@ -10,5 +10,5 @@ mod listed;
 mod words;
 
 pub use explained::explain;
-pub use listed::{any_refused, list_verdicts};
+pub use listed::{any_refused, list_said, list_verdicts};
 pub use words::cause_words;

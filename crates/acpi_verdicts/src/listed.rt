@@ -30,8 +30,10 @@ pub fn list_verdicts<W: Write>(
     Ok(())
 }
 
-// Prints the line of what is said of the method with this number; nothing where nothing is said.
-fn list_said<W: Write>(
+/// Prints the line of what is said of the method with this number; nothing where nothing is said.
+///
+/// At Err the writer holds a beginning of that text.
+pub fn list_said<W: Write>(
     alloc: Global,
     out: &mut W,
     checked: &Checked<'_>,

@@ -23,15 +23,15 @@ returns-in_err-registers-clause-printed g c =
     no_registers g.F.Source.answers c.args.files.now _ request.inputs request.method.now args regs kinds (map view c.in_ok-arguments.arguments.items) request.steps osi _ _ c.from_residual-in_err-registers.result
     c.from_residual-in_err-registers.ensures.1 c.in_ok-arguments.ensures c.in_err-registers.ensures.read
 
-pub returns-in_err-_signatures-clause-printed : goal.returns-in_err-_signatures-clause-printed
-returns-in_err-_signatures-clause-printed g c =
+pub returns-in_err-signatures-clause-printed : goal.returns-in_err-signatures-clause-printed
+returns-in_err-signatures-clause-printed g c =
     let request = c.args.request.now in
     let args = option_map (λ text. text.now) request.args in
     let regs = option_map (λ name. name.now) request.regs in
     let kinds = option_map (λ name. name.now) request.kinds in
     let osi = option_map (λ text. text.now) request.osi in
-    no_signatures g.F.Source.answers c.args.files.now _ _ request.inputs request.method.now args regs kinds (map view c.in_ok-arguments.arguments.items) c.in_ok-registers.registers request.steps osi _ _ c.from_residual-in_err-_signatures.result
-    c.from_residual-in_err-_signatures.ensures.1 c.in_ok-arguments.ensures c.in_ok-registers.ensures.read c.in_err-_signatures.ensures
+    no_signatures g.F.Source.answers c.args.files.now _ _ request.inputs request.method.now args regs kinds (map view c.in_ok-arguments.arguments.items) c.in_ok-registers.registers request.steps osi _ _ c.from_residual-in_err-signatures.result
+    c.from_residual-in_err-signatures.ensures.1 c.in_ok-arguments.ensures c.in_ok-registers.ensures.read c.in_err-signatures.ensures
 
 pub returns-in_err-inputs-clause-printed : goal.returns-in_err-inputs-clause-printed
 returns-in_err-inputs-clause-printed g c =
@@ -40,8 +40,8 @@ returns-in_err-inputs-clause-printed g c =
     let regs = option_map (λ name. name.now) request.regs in
     let kinds = option_map (λ name. name.now) request.kinds in
     let osi = option_map (λ text. text.now) request.osi in
-    no_inputs g.F.Source.answers c.args.files.now _ _ _ request.inputs request.method.now args regs kinds (map view c.in_ok-arguments.arguments.items) c.in_ok-registers.registers c.in_ok-_signatures._signatures request.steps osi _ _ c.from_residual-in_err-inputs.result
-    c.from_residual-in_err-inputs.ensures.1 c.in_ok-arguments.ensures c.in_ok-registers.ensures.read c.in_ok-_signatures.ensures c.in_err-inputs.ensures
+    no_inputs g.F.Source.answers c.args.files.now _ _ _ request.inputs request.method.now args regs kinds (map view c.in_ok-arguments.arguments.items) c.in_ok-registers.registers c.in_ok-signatures.signatures request.steps osi _ _ c.from_residual-in_err-inputs.result
+    c.from_residual-in_err-inputs.ensures.1 c.in_ok-arguments.ensures c.in_ok-registers.ensures.read c.in_ok-signatures.ensures c.in_err-inputs.ensures
 
 pub returns-clause-printed : goal.returns-clause-printed
 returns-clause-printed g c =
@@ -50,5 +50,5 @@ returns-clause-printed g c =
     let regs = option_map (λ name. name.now) request.regs in
     let kinds = option_map (λ name. name.now) request.kinds in
     let osi = option_map (λ text. text.now) request.osi in
-    inputs_evaluated g.F.Source.answers c.args.files.now _ _ _ request.inputs request.method.now args regs kinds (map view c.in_ok-arguments.arguments.items) c.in_ok-registers.registers c.in_ok-_signatures._signatures c.in_ok-inputs.inputs request.steps osi _ _ c.evaluate_inputs.result
-    c.in_ok-arguments.ensures c.in_ok-registers.ensures.read c.in_ok-_signatures.ensures c.in_ok-inputs.ensures c.evaluate_inputs.ensures.printed
+    inputs_evaluated g.F.Source.answers c.args.files.now _ _ _ request.inputs request.method.now args regs kinds (map view c.in_ok-arguments.arguments.items) c.in_ok-registers.registers c.in_ok-signatures.signatures c.in_ok-inputs.inputs request.steps osi _ _ c.evaluate_inputs.result
+    c.in_ok-arguments.ensures c.in_ok-registers.ensures.read c.in_ok-signatures.ensures c.in_ok-inputs.ensures c.evaluate_inputs.ensures.printed
