@@ -9,3 +9,4 @@ pub mod Chains
 pub mod Telling
 pub mod Started
 pub mod Judgements
+pub mod GivenListed

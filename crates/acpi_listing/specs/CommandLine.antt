@@ -71,11 +71,21 @@ method_app = with_rule (with_rule (with_rule (with_rule (new_app (codes "eval"))
 abbrev pub eval_app : App
 eval_app = with_rule (with_rule (with_rule (with_rule method_app kinds_rule) osi_rule) dead_externals_rule) files_rule
 
+abbrev pub object_rule : Rule
+object_rule = record (option_rule (codes "object")) { required = true }
+
+-- a command that asks for an object, without the options of its tables
+abbrev pub object_app : List ℕ → App
+object_app name = with_rule (with_rule (with_rule (new_app name) object_rule) regs_rule) kinds_rule
+
+abbrev pub resources_app : App
+resources_app = with_rule (with_rule (object_app (codes "resources")) dead_externals_rule) files_rule
+
 -- the words have no program's name in front, and one of the commands is wanted
 abbrev pub commands_app : App
 commands_app = on_top (λ s. record s { no_binary_name = true; subcommand_required = true }) (new_app (codes "acpicheck"))
 
 abbrev pub acpicheck_app : App
 acpicheck_app =
-    with_subcommand (with_subcommand (with_subcommand (with_subcommand commands_app
-    (files_app (codes "tables")).top) names_app.top) verify_app.top) eval_app.top
+    with_subcommand (with_subcommand (with_subcommand (with_subcommand (with_subcommand commands_app
+    (files_app (codes "tables")).top) names_app.top) verify_app.top) eval_app.top) resources_app.top

@@ -6,7 +6,7 @@ use Rattle.aml_operators.specs.Tree.{Tree, Trees, trees}
 use Rattle.aml_tree.specs.declared.fault.Refusal.{Refusal}
 use Rattle.aml_tree.specs.declared.fault.TreeFault.TheVariants.{Refused}
 use Rattle.aml_namespace.specs.declared.object.Method.{Method}
-use Rattle.aml_namespace.specs.Entries.{Entries}
+use Rattle.aml_namespace.specs.Entries.{Entries, object_at}
 use Rattle.aml_namespace.specs.Load.{Shown}
 use Rattle.aml_namespace.specs.Names.{method_at, IsBodyOf, ReadsBodyOf}
 use Rattle.aml_paths.specs.Printed.{path_text}
@@ -21,13 +21,23 @@ use Rattle.aml_registers.specs.Answers.{AnswerReads}
 use Rattle.aml_plain.specs.Methods.{Evaluates}
 use Rattle.aml_meaning.specs.declared.outcome.Outcome.{Outcome}
 use Rattle.aml_meaning.specs.declared.outcome.Outcome.TheVariants.{Done, AmlError, OutOfSteps}
+use Rattle.aml_values.specs.Views.{view}
+use Rattle.acpi_objects.specs.Gives.{GivesBy, gives_value}
+use Rattle.acpi_objects.specs.declared.given.Given.{Given}
+use Rattle.acpi_objects.specs.declared.given.Given.TheVariants as given
+use Rattle.acpi_resource_text.specs.Lines.{items_text}
+use Rattle.acpi_resources.specs.Items.{items_of}
+use Rattle.acpi_resources.specs.declared.fault.ResourceFault.{ResourceFault}
+use Rattle.acpi_resources.specs.declared.fault.ResourceFault.TheVariants as resources
+use Rattle.acpi_resources.specs.declared.fault.ResourceRefusal.{ResourceRefusal}
+use Rattle.acpi_resources.specs.declared.item.Item.{Item}
 use Rattle.acpi_listing.specs.Arguments.{ListsArguments, ListsBadArguments}
 use Rattle.acpi_text.specs.Events.{events_text}
 use Rattle.acpi_text.specs.Lists.{Lists}
 use Rattle.acpi_text.specs.Names.{names_text}
 use Rattle.aml_path_text.specs.Paths.{path_of}
 use Rattle.acpi_text.specs.Outcome.{outcome_line, refusal_line}
-use Rattle.acpi_listing.specs.Faults.{fault_line, nowhere}
+use Rattle.acpi_listing.specs.Faults.{at_byte, fault_line, nowhere}
 use Rattle.acpi_listing.specs.Files.{Answers, ListsFiles}
 use Rattle.acpi_listing.specs.Inputs.{ReadsInputs, tables_of}
 use Rattle.acpi_listing.specs.Loading.{Loads, interfaces_of}
@@ -47,7 +57,7 @@ use Rattle.acpi_listing.specs.declared.inputs.InputNames.{InputNames}
 use Rattle.acpi_listing.specs.declared.hex_lines.HexLines.{HexLines}
 use Rattle.acpi_text.specs.declared.writing.RunFault.{RunFault}
 use Rattle.acpi_listing.specs.declared.words.Request.{Request}
-use Rattle.acpi_listing.specs.declared.words.Request.TheVariants.{Tables, Names, Verify, Eval}
+use Rattle.acpi_listing.specs.declared.words.Request.TheVariants.{Tables, Names, Verify, Eval, Resources}
 use Rattle.acpi_verdicts.specs.Verdicts.{any_refused, said_of, said_text, verdicts_text}
 use Rattle.aml_known.specs.declared.accepted.Accepted.{Accepted}
 use Rattle.aml_known.specs.declared.known.Known.{Known}
@@ -237,6 +247,80 @@ EvaluatesFiles answers names word args regs kinds steps osi =
     Then (ReadsInputs answers names) (λ inputs.
     Still (EvaluatesTables (contents registers.file) (kinds_told signatures) word arguments steps (interfaces_of osi) (tables_of inputs))))))
 
+-- the object whose printed path, or an alias's, a word is, where it gives a value
+abbrev pub IsObjectAt : Shown → List ℕ → ℕ → Type 0
+IsObjectAt ns word id = (printed_object ns.entries word ≡ Some id) × (gives_value (object_at ns.entries id) ≡ true)
+
+-- the object of that path
+abbrev pub FindsObject : Shown → List ℕ → Result ℕ Fault → Type 0
+FindsObject ns word (Ok id) = IsObjectAt ns word id
+FindsObject ns word (Err f) = ((id : ℕ) → IsObjectAt ns word id → ⊥) × (f ≡ nowhere cause.NoSuchObject)
+
+-- what an object gives from what names hold first, whatever happened before; and the reads among the events since then are answered as
+-- registers of these bytes answer them
+pub record GivesOver (bytes : ℕ → ℕ → ℕ) (checked : Checked) (id : ℕ) (g : Given) : Type 0 where
+  pub names : State.Names
+  pub before : List Event
+  pub log : List Event
+  pub gives : GivesBy checked id (said_of checked id) g (names_first (shown checked.namespace.now)) before names log
+  pub answered : (events : List Event) → log ≡ before ++ events → AnswerReads bytes events
+
+-- the same; or memory is wanted
+abbrev pub IsGivenOver : (ℕ → ℕ → ℕ) → Checked → ℕ → Result Given Fault → Type 0
+IsGivenOver bytes checked id (Ok g) = GivesOver bytes checked id g
+IsGivenOver bytes checked id (Err f) = f ≡ nowhere cause.NoMemory
+
+-- why bytes have no items
+abbrev pub resource_fault : ResourceFault → Fault
+resource_fault resources.NoMemory = nowhere cause.NoMemory
+resource_fault (resources.Refused refusal) = at_byte (cause.Resources refusal.cause) refusal.at
+
+-- bytes spell no items, and this is why
+abbrev pub SpellsNoItems : List ℕ → Fault → Type 0
+SpellsNoItems octets f = (refusal : ResourceRefusal) × (items_of octets ≡ Err refusal) × (f ≡ resource_fault (resources.Refused refusal))
+
+-- the items that bytes spell, or why there are none
+abbrev pub ReadsItems : List ℕ → Result (List Item) Fault → Type 0
+ReadsItems octets = Tries (λ items. items_of octets ≡ Ok items) (SpellsNoItems octets)
+
+-- the bytes of a buffer
+abbrev pub octets_of : Value → Option (List ℕ)
+octets_of (Buf octets) = Some octets
+octets_of v = None
+
+-- the items of bytes have their lines; where there are no bytes, the object gave no buffer
+abbrev pub ListsItems : Option (List ℕ) → Step (Unit {0}) ℕ
+ListsItems (Some octets) = Then (Obtains (ReadsItems octets)) (λ items. Tells (items_text items) 0)
+ListsItems None = Obtains (λ r. r ≡ Err (nowhere cause.NotBuffer))
+
+-- `resources` by what the object gives; a method that is not accepted, or whose evaluation ended otherwise, has its line
+abbrev pub ListsGiven : Checked → ℕ → Given → Step (Unit {0}) ℕ
+ListsGiven checked id (given.Value v) = ListsItems (octets_of (view v))
+ListsGiven checked id given.Nothing = ListsItems None
+ListsGiven checked id given.Refused = Tells (said_text checked (record { 0 = id })) 3
+ListsGiven checked id (given.Ended outcome) = Tells (outcome_line (shown checked.namespace.now).entries outcome) 3
+
+-- `resources` of a namespace, over registers of these bytes, where these kinds are told: the object of that path, the verdicts on all
+-- methods, what the object gives
+abbrev pub ListsLoaded : (ℕ → ℕ → ℕ) → Told → List ℕ → Shown → Step (Unit {0}) ℕ
+ListsLoaded bytes told word ns =
+    Then (Obtains (FindsObject ns word)) (λ id.
+    Then (Obtains (Judges told ns)) (λ checked.
+    Then (Obtains (IsGivenOver bytes checked id)) (λ g.
+    ListsGiven checked id g)))
+
+-- `resources` of tables: the load, and what was loaded
+abbrev pub ListsTables : (ℕ → ℕ → ℕ) → Told → List ℕ → List (List ℕ) → Step (Unit {0}) ℕ
+ListsTables bytes told word tables = Then (Obtains (Loads [] tables)) (λ ns. ListsLoaded bytes told word ns)
+
+-- `resources`: the registers, the kinds that are told, the files, their tables over these registers
+abbrev pub ListsResources : {F : Type 0} → Answers F → InputNames → List ℕ → Option (List ℕ) → Option (List ℕ) → Step F ℕ
+ListsResources answers names word regs kinds =
+    Then (ReadsRegisters answers regs) (λ registers.
+    Then (ReadsSignatures answers kinds) (λ signatures.
+    Then (ReadsInputs answers names) (λ inputs.
+    Still (ListsTables (contents registers.file) (kinds_told signatures) word (tables_of inputs)))))
+
 -- what the words ask for, or why there is nothing
 abbrev pub Asks : List (List ℕ) → Result Request Fault → Type 0
 Asks words = Tries (AsksFor words) (λ f. (f ≡ nowhere cause.CommandLine) × AsksNothing words)
@@ -247,6 +331,7 @@ Obeys answers (Tables names) = ListsFiles answers 0 (map (λ name. name.now) (ve
 Obeys answers (Names names) = ListsNames answers names
 Obeys answers (Verify request) = VerifiesFiles answers request.inputs (option_map (λ name. name.now) request.kinds)
 Obeys answers (Eval request) = EvaluatesFiles answers request.inputs request.method.now (option_map (λ text. text.now) request.args) (option_map (λ name. name.now) request.regs) (option_map (λ name. name.now) request.kinds) request.steps (option_map (λ text. text.now) request.osi)
+Obeys answers (Resources request) = ListsResources answers request.inputs request.object.now (option_map (λ name. name.now) request.regs) (option_map (λ name. name.now) request.kinds)
 
 -- a command: its words, and what they ask for
 abbrev pub ObeysWords : {F : Type 0} → Answers F → List (List ℕ) → Step F ℕ

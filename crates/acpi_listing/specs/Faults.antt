@@ -1,11 +1,12 @@
 -- Faults: what is wrong, where, and the line that tells both.
 use Rattle.std.specs.Prelude.{ℕ, List, [], ◌∷◌, codes, decimal}
+use Rattle.acpi_resources.specs.Causes.{resource_cause_text}
 use Rattle.acpi_tables.specs.Causes.{table_cause_text}
 use Rattle.aml_namespace.specs.Causes.{load_cause_text}
 use Rattle.acpi_text.specs.Text.{joined}
 use Rattle.acpi_listing.specs.declared.fault.Fault.{Fault}
 use Rattle.acpi_listing.specs.declared.fault.FaultCause.{FaultCause}
-use Rattle.acpi_listing.specs.declared.fault.FaultCause.TheVariants.{CommandLine, BadKinds, BadRegs, BadArgs, ArgsDontFit, File, NoMemory, NoSuchObject, Table, Load}
+use Rattle.acpi_listing.specs.declared.fault.FaultCause.TheVariants.{CommandLine, BadKinds, BadRegs, BadArgs, ArgsDontFit, File, NoMemory, NoSuchObject, NotBuffer, Table, Load, Resources}
 use Rattle.acpi_listing.specs.declared.fault.Where.{Where}
 use Rattle.acpi_listing.specs.declared.fault.Where.TheVariants as place
 
@@ -21,12 +22,17 @@ nowhere cause = fault_at cause place.Nowhere
 abbrev pub in_table : FaultCause → ℕ → ℕ → Fault
 in_table cause table at = fault_at cause (place.Table table at)
 
+-- what is wrong at the byte with a number, of bytes that have no other
+abbrev pub at_byte : FaultCause → ℕ → Fault
+at_byte cause at = fault_at cause (place.Byte at)
+
 -- what is wrong in the line with a number
 abbrev pub in_line : FaultCause → ℕ → Fault
 in_line cause line = fault_at cause (place.Line line)
 
 -- what is wrong, as it is printed: a number and a name
 abbrev pub cause_text : FaultCause → List ℕ
+cause_text NotBuffer = codes "E421 NotBuffer"
 cause_text BadKinds = codes "E501 BadKinds"
 cause_text BadRegs = codes "E511 BadRegs"
 cause_text CommandLine = codes "E520 CommandLine"
@@ -37,11 +43,13 @@ cause_text NoMemory = codes "E524 NoMemory"
 cause_text NoSuchObject = codes "E525 NoSuchObject"
 cause_text (Table cause) = table_cause_text cause
 cause_text (Load cause) = load_cause_text cause
+cause_text (Resources cause) = resource_cause_text cause
 
--- where it is, as it is printed behind that: the table and the byte, the line, or the element
+-- where it is, as it is printed behind that: the table and the byte, the byte alone, the line, or the element
 unfoldable pub where_text : Where → List ℕ
 where_text place.Nowhere = []
 where_text (place.Table table at) = joined (codes " " ∷ decimal table ∷ codes " " ∷ decimal at ∷ [])
+where_text (place.Byte at) = joined (codes " " ∷ decimal at ∷ [])
 where_text (place.Line line) = joined (codes " " ∷ decimal line ∷ [])
 where_text (place.Element element) = joined (codes " " ∷ decimal element ∷ [])
 

@@ -8,8 +8,9 @@ use Rattle.acpi_listing.specs.CommandLine.{acpicheck_app}
 use Rattle.acpi_listing.specs.Inputs.{file_names}
 use Rattle.acpi_listing.specs.declared.inputs.InputNames.{InputNames}
 use Rattle.acpi_listing.specs.declared.words.Request.{Request}
-use Rattle.acpi_listing.specs.declared.words.Request.TheVariants.{Tables, Names, Verify, Eval}
+use Rattle.acpi_listing.specs.declared.words.Request.TheVariants.{Tables, Names, Verify, Eval, Resources}
 use Rattle.acpi_listing.specs.declared.words.EvalRequest.{EvalRequest}
+use Rattle.acpi_listing.specs.declared.words.ObjectRequest.{ObjectRequest}
 use Rattle.acpi_listing.specs.declared.words.VerifyRequest.{VerifyRequest}
 
 -- a text is a number below 2^64 in decimal digits, a plus may stand first
@@ -49,6 +50,14 @@ HasParts rows request =
     × HasSteps rows request.steps
     × (first_of (codes "osi") rows ≡ option_map (λ text. text.now) request.osi)
 
+-- each part of a question for an object is the value of its option
+abbrev pub HasObjectParts : List Row → ObjectRequest → Type 0
+HasObjectParts rows request =
+    HasInputs rows request.inputs
+    × (first_of (codes "object") rows ≡ Some request.object.now)
+    × (first_of (codes "regs") rows ≡ option_map (λ name. name.now) request.regs)
+    × (first_of (codes "kinds") rows ≡ option_map (λ name. name.now) request.kinds)
+
 -- a command and what its words gave is a request
 abbrev pub IsRequest : Option (Text × List Row) → Request → Type 0
 IsRequest found (Tables names) =
@@ -57,6 +66,7 @@ IsRequest found (Tables names) =
 IsRequest found (Names names) = (rows : List Row) × (found ≡ Some (codes "names", rows)) × HasInputs rows names
 IsRequest found (Verify request) = (rows : List Row) × (found ≡ Some (codes "verify", rows)) × HasVerifyParts rows request
 IsRequest found (Eval request) = (rows : List Row) × (found ≡ Some (codes "eval", rows)) × HasParts rows request
+IsRequest found (Resources request) = (rows : List Row) × (found ≡ Some (codes "resources", rows)) × HasObjectParts rows request
 
 -- the words are a command line, and this is what they ask for
 abbrev pub AsksFor : List Text → Request → Type 0

@@ -321,8 +321,8 @@ fn tell_outcome<W: Write>(
     Ok(status_of(outcome))
 }
 
-// Prints what is said of a method that is not accepted, and answers the status of that.
-fn tell_said<W: Write>(
+/// Prints what is said of a method that is not accepted, and answers the status of that.
+pub fn tell_said<W: Write>(
     alloc: Global,
     out: &mut W,
     checked: &Checked<'_>,

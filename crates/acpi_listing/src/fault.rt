@@ -2,7 +2,7 @@
 
 ghost use Rattle.std.specs.Prelude.{◌≡◌};
 ghost use Rattle.acpi_listing.specs.Files.{source_fault, load_fault};
-ghost use Rattle.acpi_listing.specs.Commands.{fault_status};
+ghost use Rattle.acpi_listing.specs.Commands.{fault_status, resource_fault};
 ghost use Rattle.acpi_listing.specs.Faults.{cause_text, in_table, nowhere};
 ghost use Rattle.acpi_listing.specs.Registers.{registers_fault};
 ghost use Rattle.acpi_listing.specs.Signatures.{signatures_fault};
@@ -10,6 +10,7 @@ ghost use Rattle.acpi_listing.specs.declared.fault.FaultCause.TheVariants as tol
 ghost use Rattle.acpi_listing.specs.declared.fault.Stop.TheVariants as stop;
 
 use crate::source::SourceFault;
+use acpi_resources::{ResourceCause, ResourceFault};
 use acpi_tables::{TableCause, TableFault};
 use acpi_text::RunFault;
 use aml_namespace::{LoadCause, LoadFault, LoadRefusal};
@@ -42,12 +43,16 @@ pub enum FaultCause {
     File,
     /// No memory.
     NoMemory,
-    /// No method has that path.
+    /// No method has that path, or no object that gives a value.
     NoSuchObject,
+    /// What the object gives is no buffer.
+    NotBuffer,
     /// A table that cannot be listed.
     Table(TableCause),
     /// A table that cannot be loaded.
     Load(LoadCause),
+    /// Bytes that are no list of resource descriptors.
+    Resources(ResourceCause),
 }
 
 /// Where it is.
@@ -57,6 +62,8 @@ pub enum Where {
     Nowhere,
     /// At a byte of the file, or of the table, with that number, both counted from 0.
     Table { table: usize, at: usize },
+    /// At the byte with that number, counted from 0.
+    Byte(usize),
     /// In the line with that number, counted from 1.
     Line(usize),
     /// In the element of a package with that number, counted from 0.
@@ -117,6 +124,7 @@ impl FaultCause {
         ensures { result.now ≡ cause_text self }
     {
         match self {
+            FaultCause::NotBuffer => "E421 NotBuffer",
             FaultCause::BadKinds => "E501 BadKinds",
             FaultCause::BadRegs => "E511 BadRegs",
             FaultCause::CommandLine => "E520 CommandLine",
@@ -127,6 +135,7 @@ impl FaultCause {
             FaultCause::NoSuchObject => "E525 NoSuchObject",
             FaultCause::Table(cause) => cause.text(),
             FaultCause::Load(cause) => cause.text(),
+            FaultCause::Resources(cause) => cause.text(),
         }
     }
 }
@@ -226,6 +235,20 @@ impl From<LoadFault> for Fault {
         match fault {
             LoadFault::NoMemory => Fault::nowhere(FaultCause::NoMemory),
             LoadFault::Refused(refusal) => Fault::of_load(refusal),
+        }
+    }
+}
+
+impl From<ResourceFault> for Fault {
+    ghost from_gives = { λ e f. f ≡ resource_fault e };
+
+    fn from(fault: ResourceFault) -> Fault {
+        match fault {
+            ResourceFault::NoMemory => Fault::nowhere(FaultCause::NoMemory),
+            ResourceFault::Refused(refusal) => Fault {
+                cause: FaultCause::Resources(refusal.cause),
+                at: Where::Byte(refusal.at),
+            },
         }
     }
 }

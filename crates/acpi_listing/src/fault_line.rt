@@ -10,7 +10,7 @@ use std::alloc::{AllocError, Global};
 use std::io::Write;
 
 /// Prints a fault's line: `fault E103 BadSum 1 9`, with number and name of what is wrong, and behind
-/// them where: the table and the byte in it, a line, an element, or nothing.
+/// them where: the table and the byte in it, a byte, a line, an element, or nothing.
 ///
 /// Only a fault that has a place needs memory to be told. At Err the writer holds a beginning of the
 /// line.
@@ -31,6 +31,7 @@ fn place_of(alloc: Global, at: Where) -> Result<String, AllocError>
     match at {
         Where::Nowhere => Ok(String::new(alloc)),
         Where::Table { table, at } => format!(in alloc; " {table} {at}"),
+        Where::Byte(at) => format!(in alloc; " {at}"),
         Where::Line(line) => format!(in alloc; " {line}"),
         Where::Element(element) => format!(in alloc; " {element}"),
     }

@@ -13,6 +13,7 @@ use crate::input::read_input;
 use crate::line_notes::LineNotes;
 use crate::names::list_names_of;
 use crate::notes::{Notes, Silent};
+use crate::resources::list_resources_of;
 use crate::source::Source;
 use crate::tell::tell_end;
 use crate::verify::verify_files;
@@ -127,5 +128,6 @@ fn obey<S: AsStr, F: Source, N: Notes, W: Write>(
         Request::Names(inputs) => list_names_of(alloc, &inputs, files, notes, out),
         Request::Verify(request) => verify_files(alloc, &request, files, notes, out),
         Request::Eval(request) => evaluate(alloc, &request, files, notes, out),
+        Request::Resources(request) => list_resources_of(alloc, &request, files, notes, out),
     }
 }

@@ -4,8 +4,8 @@ ghost use Rattle.std.specs.Prelude.{◌≡◌, ◌⊎◌, IfOk, IfSome, Some, No
 ghost use Rattle.clap.specs.Words.{HasKind, all_of, app_of, fault_of, found_of, rows_of, rule_of, subcommand_rows_of};
 ghost use Rattle.clap.specs.declared.Command.TheViews.{out-Command as fields_of};
 ghost use Rattle.acpi_listing.specs.Steps.{Tries};
-ghost use Rattle.acpi_listing.specs.CommandLine.{acpicheck_app, commands_app, eval_app, files_app, files_rule, flag_rule, method_app, names_app, option_rule, plain_rule, verify_app};
-ghost use Rattle.acpi_listing.specs.Words.{AsksFor, AsksNothing, HasInputs, HasParts, HasSteps, HasVerifyParts, IsRequest, has_flag};
+ghost use Rattle.acpi_listing.specs.CommandLine.{acpicheck_app, commands_app, eval_app, files_app, files_rule, flag_rule, method_app, names_app, object_app, option_rule, plain_rule, resources_app, verify_app};
+ghost use Rattle.acpi_listing.specs.Words.{AsksFor, AsksNothing, HasInputs, HasObjectParts, HasParts, HasSteps, HasVerifyParts, IsRequest, has_flag};
 ghost use Rattle.acpi_listing.specs.Faults.{nowhere};
 ghost use Rattle.acpi_listing.specs.declared.fault.FaultCause.TheVariants as cause;
 
@@ -27,6 +27,8 @@ pub enum Request<'a> {
     Verify(VerifyRequest<'a>),
     /// To evaluate a method.
     Eval(EvalRequest<'a>),
+    /// To list the resource descriptors that an object gives.
+    Resources(ObjectRequest<'a>),
 }
 
 /// Which methods are to be judged, and how.
@@ -57,6 +59,19 @@ pub struct EvalRequest<'a> {
     pub steps: Option<u64>,
     /// The text that `_OSI` knows.
     pub osi: Option<&'a str>,
+}
+
+/// Which object is asked for what it gives, and how.
+#[derive(Debug, Drop)]
+pub struct ObjectRequest<'a> {
+    /// The DSDT and its SSDTs.
+    pub inputs: InputNames<'a>,
+    /// The object's path.
+    pub object: &'a str,
+    /// The file whose text sets registers.
+    pub regs: Option<&'a str>,
+    /// The file whose text tells the kinds of arguments.
+    pub kinds: Option<&'a str>,
 }
 
 /// Reads the words: a command, its options, and last its files.
@@ -104,7 +119,8 @@ fn command<'a>(alloc: Global) -> Result<Command<'a>, AllocError>
         .subcommand(files_command(alloc, "tables")?)?
         .subcommand(names_command(alloc)?)?
         .subcommand(verify_command(alloc)?)?
-        .subcommand(eval_command(alloc)?)
+        .subcommand(eval_command(alloc)?)?
+        .subcommand(resources_command(alloc)?)
 }
 
 // The words have no program's name in front, and a command is wanted.
@@ -167,6 +183,27 @@ fn method_command<'a>(alloc: Global) -> Result<Command<'a>, AllocError>
         .arg(steps_arg(alloc))
 }
 
+// The command that lists the resource descriptors that an object gives.
+fn resources_command<'a>(alloc: Global) -> Result<Command<'a>, AllocError>
+    ensures app { IfOk result (λ c. app_of c ≡ resources_app) }
+    ensures local { IfOk result (λ c. (fields_of c).has_globals ≡ false) }
+{
+    object_command(alloc, "resources")?
+        .arg(flag_arg(alloc, "dead-externals"))?
+        .arg(files_arg(alloc))
+}
+
+// A command of that name that asks for an object, without the options of its tables.
+fn object_command<'a>(alloc: Global, name: &'a str) -> Result<Command<'a>, AllocError>
+    ensures app { IfOk result (λ c. app_of c ≡ object_app name.entry.now) }
+    ensures local { IfOk result (λ c. (fields_of c).has_globals ≡ false) }
+{
+    Command::new(alloc, name)
+        .arg(option_arg(alloc, "object").required(true))?
+        .arg(option_arg(alloc, "regs"))?
+        .arg(option_arg(alloc, "kinds"))
+}
+
 // One file or more.
 fn files_arg<'a>(alloc: Global) -> Arg<'a>
     ensures rule { rule_of result ≡ files_rule }
@@ -218,6 +255,7 @@ fn request_of<'a>(alloc: Global, matches: &ArgMatches<'a>) -> Result<Request<'a>
         "names" => Ok(Request::Names(inputs_of(alloc, found)?)),
         "verify" => Ok(Request::Verify(verify_of(alloc, found)?)),
         "eval" => Ok(Request::Eval(eval_of(alloc, found)?)),
+        "resources" => Ok(Request::Resources(object_of(alloc, found)?)),
         _ => Err(Fault::nowhere(FaultCause::CommandLine)),
     }
 }
@@ -300,5 +338,22 @@ fn eval_of<'a>(alloc: Global, found: &ArgMatches<'a>) -> Result<EvalRequest<'a>,
         kinds: found.get_str("kinds"),
         steps: steps_of(found),
         osi: found.get_str("osi"),
+    })
+}
+
+// Each part of the request is the value of its option.
+fn object_of<'a>(alloc: Global, found: &ArgMatches<'a>) -> Result<ObjectRequest<'a>, Fault>
+    ensures { let rows = rows_of (found_of found.now) in
+        Tries (HasObjectParts rows)
+        (λ f. (f ≡ nowhere cause.CommandLine) × ((r : _) → HasObjectParts rows r → ⊥)) result }
+{
+    let Some(object) = found.get_str("object") else {
+        return Err(Fault::nowhere(FaultCause::CommandLine));
+    };
+    Ok(ObjectRequest {
+        inputs: inputs_of(alloc, found)?,
+        object,
+        regs: found.get_str("regs"),
+        kinds: found.get_str("kinds"),
     })
 }

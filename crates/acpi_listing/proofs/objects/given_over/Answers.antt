@@ -1,0 +1,24 @@
+use Rattle.std.proofs.Common.{◌≡◌, [], ◌∷◌, ap, drop, subst, sym}
+use Rattle.aml_regions.specs.EventViews.{events_of}
+use Rattle.aml_regions.specs.Registers.{contents}
+use Rattle.aml_regions.specs.Text.{TextSets}
+use Rattle.aml_registers.specs.Answers.{AnswerReads, start_of}
+use Rattle.acpi_listing.proofs.Started.{same_text}
+use Rattle.acpi_listing.proofs.objects.given_over.Goals as goal
+
+-- the log began with the text, so these are the registers that it sets
+pub returns : goal.returns
+returns c =
+    let gave = rw (c.in_ok-names.ensures.contents, c.in_ok-names.ensures.kinds, c.requires.fresh, c.namespace.ensures) at c.in_ok-given.ensures in
+    let first = c.args.registers in
+    let left = c.value_of.new.world in
+    record {
+      names = _;
+      before = start_of first.text.items ∷ [];
+      log = _;
+      gives = gave;
+      answered = λ events is.
+          let same : left.text.items ≡ first.text.items = same_text first.text.items left.text.items (events_of left.file.events.items) events is in
+          subst (AnswerReads (contents first.file)) (ap (drop 1) is)
+          (left.answers (contents first.file) (subst (λ text. TextSets text (contents first.file)) (sym same) c.requires.set));
+    }

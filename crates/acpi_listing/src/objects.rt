@@ -1,0 +1,59 @@
+// The object that a command asks for, and what it gives.
+
+ghost use Rattle.std.specs.Prelude.{◌≡◌, [], IfErr, IfOk};
+ghost use Rattle.acpi_listing.specs.Commands.{IsGivenOver, IsObjectAt};
+ghost use Rattle.acpi_listing.specs.Faults.{nowhere};
+ghost use Rattle.acpi_listing.specs.declared.fault.FaultCause.TheVariants as cause;
+ghost use Rattle.aml_namespace.specs.Shows.{shown};
+ghost use Rattle.aml_regions.specs.Registers.{contents};
+ghost use Rattle.aml_regions.specs.Text.{TextSets};
+
+use crate::fault::{Fault, FaultCause};
+use crate::notes::Notes;
+use crate::tell::tell_object;
+use acpi_objects::{Given, gives_value, value_of};
+use aml_contents::Names;
+use aml_namespace::Namespace;
+use aml_paths::ObjectId;
+use aml_registers::Registers;
+use aml_verify::Checked;
+use std::alloc::Global;
+
+/// The object whose printed path, or an alias's, the word is, where it gives a value.
+pub fn find_object<N: Notes>(
+    alloc: Global,
+    namespace: &Namespace<'_>,
+    word: &str,
+    notes: &N,
+) -> Result<ObjectId, Fault>
+    ensures found { IfOk result (λ id. IsObjectAt (shown namespace.now) word.now id.0) }
+    ensures none { (id : _) → IfErr result (λ f. IsObjectAt (shown namespace.now) word.now id → ⊥) }
+    ensures fault { IfErr result (λ f. f ≡ nowhere cause.NoSuchObject) }
+{
+    let Some(id) = namespace.find(word.as_bytes()) else {
+        tell_object(alloc, notes, namespace, word);
+        return Err(Fault::nowhere(FaultCause::NoSuchObject));
+    };
+    if !gives_value(namespace.object(id)) {
+        notes.tell("that path has no data name, and no method without arguments");
+        return Err(Fault::nowhere(FaultCause::NoSuchObject));
+    }
+    Ok(id)
+}
+
+/// What an object gives, from what the names of the tables hold first, over registers.
+pub fn given_over(
+    alloc: Global,
+    checked: &Checked<'_>,
+    id: ObjectId,
+    registers: Registers,
+) -> Result<Given, Fault>
+    requires set { TextSets registers.text.items (contents registers.file) }
+    requires fresh { registers.file.events.items ≡ [] }
+    ensures { IsGivenOver (contents registers.file) checked.now id.0 result }
+{
+    let mut names = Names::initial(alloc, checked.namespace())?;
+    let mut world = registers;
+    let given = value_of(alloc, checked, id, &mut names, &mut world)?;
+    Ok(given)
+}

@@ -1,0 +1,190 @@
+// The command `resources`.
+
+ghost use Rattle.std.specs.Prelude.{◌≡◌, ◌≤◌, [], Ok, Some, IfOk, option_map, vec_items};
+ghost use Rattle.acpi_listing.specs.Commands.{ListsGiven, ListsItems, ListsLoaded, ListsResources, ListsTables, SpellsNoItems, octets_of};
+ghost use Rattle.acpi_listing.specs.Inputs.{tables_of};
+ghost use Rattle.acpi_listing.specs.Steps.{Tells, Tries, Writes};
+ghost use Rattle.acpi_resource_text.specs.Lines.{items_text};
+ghost use Rattle.acpi_resources.specs.Items.{items_of};
+ghost use Rattle.acpi_text.specs.Outcome.{outcome_line};
+ghost use Rattle.aml_namespace.specs.Shows.{shown};
+ghost use Rattle.aml_regions.specs.Registers.{contents};
+ghost use Rattle.aml_regions.specs.Text.{TextSets};
+ghost use Rattle.aml_signatures.specs.Signed.{kinds_told};
+ghost use Rattle.aml_values.specs.Views.{view};
+
+use crate::eval::tell_said;
+use crate::fault::{Fault, FaultCause, Stop};
+use crate::inputs::Inputs;
+use crate::load::load_counted;
+use crate::notes::Notes;
+use crate::objects::{find_object, given_over};
+use crate::regs::read_registers;
+use crate::signed::read_signatures;
+use crate::source::Source;
+use crate::verify::verdicts_on;
+use crate::words::ObjectRequest;
+use acpi_objects::Given;
+use acpi_resource_text::list_resources;
+use acpi_resources::{Item, items};
+use acpi_text::list_evaluation;
+use aml_meaning::Outcome;
+use aml_namespace::Namespace;
+use aml_paths::ObjectId;
+use aml_registers::Registers;
+use aml_signatures::Signatures;
+use aml_values::Value;
+use aml_verify::Checked;
+use std::alloc::Global;
+use std::io::Write;
+
+/// Prints the resource descriptors that an object gives: what a data name holds, or what the evaluation
+/// of an accepted method gives; a method that is refused has the line of its verdict.
+pub fn list_resources_of<F: Source, N: Notes, W: Write>(
+    alloc: Global,
+    request: &ObjectRequest<'_>,
+    files: &mut F,
+    notes: &N,
+    out: &mut W,
+) -> Result<u8, Stop>
+    ensures status { IfOk result (λ status. status ≤ 3) }
+    ensures printed { Writes (ListsResources F.answers request.now.inputs request.now.object.now
+        (option_map (λ name. name.now) request.now.regs)
+        (option_map (λ name. name.now) request.now.kinds))
+        files.old files.new (W.contents out.old) (W.contents out.new) result }
+{
+    let registers = read_registers(alloc, request.regs, files, notes)?;
+    let signatures = read_signatures(alloc, request.kinds, files, notes)?;
+    let inputs = Inputs::read(alloc, &request.inputs, files)?;
+    list_inputs(alloc, request, registers, &signatures, &inputs, notes, out)
+}
+
+// Prints what an object of the tables that were read gives, over registers.
+fn list_inputs<N: Notes, W: Write>(
+    alloc: Global,
+    request: &ObjectRequest<'_>,
+    registers: Registers,
+    signatures: &Signatures,
+    inputs: &Inputs,
+    notes: &N,
+    out: &mut W,
+) -> Result<u8, Stop>
+    requires set { TextSets registers.text.items (contents registers.file) }
+    requires fresh { registers.file.events.items ≡ [] }
+    ensures status { IfOk result (λ status. status ≤ 3) }
+    ensures printed { Writes (ListsTables (contents registers.file) (kinds_told signatures.now)
+        request.now.object.now (tables_of inputs.now))
+        tt tt (W.contents out.old) (W.contents out.new) result }
+{
+    let namespace = load_counted(alloc, inputs, &request.inputs, &[], notes)?;
+    list_loaded(alloc, request.object, registers, signatures, &namespace, notes, out)
+}
+
+// Prints what an object of a namespace gives, over registers.
+fn list_loaded<N: Notes, W: Write>(
+    alloc: Global,
+    word: &str,
+    registers: Registers,
+    signatures: &Signatures,
+    namespace: &Namespace<'_>,
+    notes: &N,
+    out: &mut W,
+) -> Result<u8, Stop>
+    requires set { TextSets registers.text.items (contents registers.file) }
+    requires fresh { registers.file.events.items ≡ [] }
+    ensures status { IfOk result (λ status. status ≤ 3) }
+    ensures printed { Writes (ListsLoaded (contents registers.file) (kinds_told signatures.now)
+        word.now (shown namespace.now))
+        tt tt (W.contents out.old) (W.contents out.new) result }
+{
+    let id = find_object(alloc, namespace, word, notes)?;
+    let checked = verdicts_on(alloc, namespace, signatures)?;
+    let given = given_over(alloc, &checked, id, registers)?;
+    list_given(alloc, out, &checked, id, &given)
+}
+
+// Prints what an object gave.
+fn list_given<W: Write>(
+    alloc: Global,
+    out: &mut W,
+    checked: &Checked<'_>,
+    id: ObjectId,
+    given: &Given,
+) -> Result<u8, Stop>
+    ensures status { IfOk result (λ status. status ≤ 3) }
+    ensures printed { Writes (ListsGiven checked.now id.0 given.now)
+        tt tt (W.contents out.old) (W.contents out.new) result }
+{
+    match given {
+        Given::Value(value) => list_items(alloc, out, octets_of(value)),
+        Given::Nothing => list_items(alloc, out, None),
+        Given::Refused => tell_said(alloc, out, checked, id),
+        Given::Ended(outcome) => tell_ended(alloc, out, checked.namespace(), outcome),
+    }
+}
+
+// The bytes of a buffer.
+fn octets_of(value: &Value) -> Option<&[u8]>
+    ensures { option_map (λ octets. octets.now) result ≡ octets_of (view value.now) }
+{
+    match value {
+        Value::Buf(octets) => Some(octets.as_slice()),
+        _ => None,
+    }
+}
+
+// Prints the items that bytes spell, where there are bytes.
+fn list_items<W: Write>(alloc: Global, out: &mut W, octets: Option<&[u8]>) -> Result<u8, Stop>
+    ensures status { IfOk result (λ status. status ≤ 3) }
+    ensures printed { Writes (ListsItems (option_map (λ octets. octets.now) octets.entry))
+        tt tt (W.contents out.old) (W.contents out.new) result }
+{
+    match octets {
+        Some(octets) => list_spelled(alloc, out, octets),
+        None => Err(Stop::Fault(Fault::nowhere(FaultCause::NotBuffer))),
+    }
+}
+
+// Prints the items that bytes spell.
+fn list_spelled<W: Write>(alloc: Global, out: &mut W, octets: &[u8]) -> Result<u8, Stop>
+    ensures status { IfOk result (λ status. status ≤ 3) }
+    ensures printed { Writes (ListsItems (Some octets.now))
+        tt tt (W.contents out.old) (W.contents out.new) result }
+{
+    let items = items_in(alloc, octets)?;
+    tell_items(alloc, out, items.as_slice())
+}
+
+// The items that bytes spell.
+fn items_in(alloc: Global, octets: &[u8]) -> Result<Vec<Item>, Fault>
+    ensures { Tries (λ items. items_of octets.now ≡ Ok (vec_items items)) (SpellsNoItems octets.now)
+        result }
+{
+    let items = items(alloc, octets)?;
+    Ok(items)
+}
+
+// Prints items, and answers the status of that.
+fn tell_items<W: Write>(alloc: Global, out: &mut W, items: &[Item]) -> Result<u8, Stop>
+    ensures status { IfOk result (λ status. status ≤ 3) }
+    ensures printed { Writes (Tells (items_text items.now) 0) (tt {0}) (tt {0})
+        (W.contents out.old) (W.contents out.new) result }
+{
+    list_resources(alloc, out, items)?;
+    Ok(0)
+}
+
+// Prints how an evaluation ended that gave no value, and answers the status of that.
+fn tell_ended<W: Write>(
+    alloc: Global,
+    out: &mut W,
+    namespace: &Namespace<'_>,
+    outcome: &Outcome,
+) -> Result<u8, Stop>
+    ensures status { IfOk result (λ status. status ≤ 3) }
+    ensures printed { let line = outcome_line (shown namespace.now).entries outcome.now in
+        Writes (Tells line 3) (tt {0}) (tt {0}) (W.contents out.old) (W.contents out.new) result }
+{
+    list_evaluation(alloc, out, namespace, outcome)?;
+    Ok(3)
+}
