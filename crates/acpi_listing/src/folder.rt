@@ -5,8 +5,8 @@ use std::fs;
 use std::rt::Files;
 
 /// The options whose next word is a value.
-const VALUED: [&str; 6] = [
-    "--method", "--plain", "--args", "--regs", "--kinds", "--osi",
+const VALUED: [&str; 7] = [
+    "--method", "--plain", "--args", "--regs", "--kinds", "--osi", "--object",
 ];
 
 /// Which files of a folder a command takes.

@@ -77,7 +77,15 @@ fn list_inputs<N: Notes, W: Write>(
         tt tt (W.contents out.old) (W.contents out.new) result }
 {
     let namespace = load_counted(alloc, inputs, &request.inputs, &[], notes)?;
-    list_loaded(alloc, request.object, registers, signatures, &namespace, notes, out)
+    list_loaded(
+        alloc,
+        request.object,
+        registers,
+        signatures,
+        &namespace,
+        notes,
+        out,
+    )
 }
 
 // Prints what an object of a namespace gives, over registers.

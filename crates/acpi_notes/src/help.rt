@@ -17,6 +17,7 @@ pub enum Help {
     Names,
     Verify,
     Eval,
+    Resources,
 }
 
 const COMMANDS: &str = "\
@@ -32,6 +33,8 @@ Usage: acpicheck COMMAND [OPTIONS] FILES
                     acpicheck verify dsdt.dat ssdt1.dat
   eval FILES      the events of a method's evaluation, and how it ended
                     acpicheck eval --method '\\_SB_.PCI0._STA' dsdt.dat
+  resources FILES what a _CRS gives: interrupts, addresses, ranges
+                    acpicheck resources --object '\\_SB_.LNKA._CRS' dsdt.dat
 
 acpicheck COMMAND --help tells the options of a command. Without words the program takes them
 from the first line of standard input; there a file is @, the hex text of the next line.
@@ -89,6 +92,21 @@ The method is judged first, as verify does: a refused one is not evaluated, and 
   --dead-externals    reads Externals that stand in an If (Zero), as iasl writes them
 ";
 
+const RESOURCES: &str = "\
+Usage: acpicheck resources --object PATH [OPTIONS] FILES
+
+Loads a DSDT and the SSDTs behind it, and prints a line for each resource descriptor of the buffer
+that an object gives: a data name what it holds, a method without arguments what its evaluation
+gives. A method is judged first, as verify does: a refused one is not evaluated, and has its line.
+  acpicheck resources --object '\\_SB_.PCI0._CRS' dsdt.dat ssdt1.dat
+
+  --object PATH       the object, as names prints it: --object '\\_SB_.LNKA._CRS'
+  --regs FILE         lines SPACE ADDRESS BYTES that set registers, as io 60 1527: --regs board.regs
+  --kinds FILE        kinds of arguments, as verify takes them: --kinds board.kinds
+  --dead-externals    reads Externals that stand in an If (Zero), as iasl writes them:
+                      acpicheck resources --dead-externals --object '\\_SB_.PCI0._CRS' dsdt.dat
+";
+
 const VERSION: &str = "acpicheck 0.1, ACPI 6.5\n";
 
 impl Help {
@@ -103,6 +121,7 @@ impl Help {
             Help::Names => NAMES,
             Help::Verify => VERIFY,
             Help::Eval => EVAL,
+            Help::Resources => RESOURCES,
         }
     }
 }
@@ -140,6 +159,8 @@ fn help_for(first: &str, asks: bool) -> Option<Help>
         Some(Help::Verify)
     } else if first == "eval" {
         Some(Help::Eval)
+    } else if first == "resources" {
+        Some(Help::Resources)
     } else {
         Some(Help::Commands)
     }
