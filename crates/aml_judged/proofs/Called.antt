@@ -29,11 +29,11 @@ use Rattle.aml_judged.specs.Causes.{Refusal}
 use Rattle.aml_judged.specs.Known.{join_env, Held, These, Different, Env}
 use Rattle.aml_judged.specs.Judge.{judged_none_held, none_held_at}
 use Rattle.aml_judged.specs.Judged.{goes, then_judge, NameKinds, no_exits, either, after, Yield, Accepted, Seen, Around, Exits, Judged, Goes, Stops}
-use Rattle.aml_judged.specs.Safe.{Allows, FitsHeld, OnlyAbove, IsWord, FitScript, FitsStop, FitAll, FitNames, FitsState, FitsYield, FitsExit, FitsReturn, IsSafe, IsCalled, AreCalls, IsTame, AreTame}
+use Rattle.aml_judged.specs.Safe.{Allows, FitsHeld, OnlyAbove, FitScript, FitsStop, FitAll, FitNames, FitsState, FitsYield, FitsExit, FitsReturn, IsSafe, IsCalled, AreCalls, IsTame, AreTame}
+use Rattle.aml_judged.specs.Small.{IsSmall, AllSmall}
 use Rattle.aml_judged.specs.Bodies.{judged_made, shared_only, grown_kinds, grown, judged_stated, judged_statement, judged_body, judged_method, entry, Made, Nothing, Holding, Field}
 use Rattle.aml_judged.specs.Laws.{AreSmall, AreVerdicts, HasNoError, IsCallable, IsDone, VerdictsMean, evaluation}
 use Rattle.aml_judged.specs.Verdicts.{result_of, none_left, most_steps, Verdict, bounded, verdict_of, accepted_of, called_from, Judging, seen_from, around_for, verdict_by, AreAccepted}
-use Rattle.aml_operators.specs.declared.op.Op.{Op}
 use Rattle.aml_judged.proofs.Fits.{slots_fit}
 use Rattle.aml_judged.proofs.Owned.{IsMade, made_tick, made_safe}
 use Rattle.aml_judged.proofs.Levels.{allows_left, allows_right}
@@ -152,40 +152,40 @@ grown_calls width kinds callee call Nothing c = c
 grown_calls width kinds callee call (Holding k) c = record { each = c.each }
 grown_calls width kinds callee call (Field p) c = record { each = c.each }
 
-module _ (here : Setting) (callee : ℕ → Seen) (above : ℕ) (small : (o : Op) (ts : Trees) → IsWord here.width (here.literal o ts)) (script : List Event) (tame : AreTame here.call) (narrow : here.width ≤ 64) (wide : 255 < 2 ^ here.width) where
-  plain_made : (kinds : NameKinds) (before : ℕ) (j : Judged Yield) (o : Out (Option Value)) → IsSafe here.width kinds above (plain (FitsYield here.width)) before j o → IsMade here kinds callee above small script before (then_judge j (λ y. goes Nothing)) (then_do o (λ v s. state.Goes tt s))
+module _ (here : Setting) (callee : ℕ → Seen) (above : ℕ) (script : List Event) (tame : AreTame here.call) (narrow : here.width ≤ 64) (wide : 255 < 2 ^ here.width) where
+  plain_made : (kinds : NameKinds) (before : ℕ) (j : Judged Yield) (o : Out (Option Value)) → IsSafe here.width kinds above (plain (FitsYield here.width)) before j o → IsMade here kinds callee above script before (then_judge j (λ y. goes Nothing)) (then_do o (λ v s. state.Goes tt s))
   plain_made kinds before (Stops r) o h = tt
   plain_made kinds before (Goes k env x n) (state.Goes v s) h = (h.1, omega (arith, h.2))
   plain_made kinds before (Goes k env x n) (Halts stop s) h = (stop_left here.width kinds above x no_exits stop s h.0, omega (arith, h.1))
   plain_made kinds before (Goes k env x n) (NoAnswer s) h = tt
   plain_made kinds before (Goes k env x n) (Spent s) h = omega (arith, h)
 
-  stated_made : (kinds : NameKinds) → AreCalls here.width kinds callee here.call → FitScript here.width kinds.shared script → (d : Definition) (t : Tree) (env : Env) (s : State) → FitsState here.width kinds above env s → IsMade here kinds callee above small script s.steps (judged_stated (around_of here kinds callee) d t env) ((stated here d t).run script s)
+  stated_made : (kinds : NameKinds) → AreCalls here.width kinds callee here.call → FitScript here.width kinds.shared script → (d : Definition) (t : Tree) → IsSmall here.width here.literal t → (env : Env) (s : State) → FitsState here.width kinds above env s → IsMade here kinds callee above script s.steps (judged_stated (around_of here kinds callee) d t env) ((stated here d t).run script s)
   unfolding ◌>>=◌ give tick paid
-  stated_made kinds calls slept makes.Nothing t env s fits = plain_made kinds s.steps _ ((mean here t).run script s) (mean_safe here kinds callee above script slept calls small tame narrow wide t env s fits)
-  stated_made kinds calls slept d (Node o at stop ts) env s fits = made_tick here kinds callee above small script (judged_made (around_of here kinds callee) d at ts env) s.steps s (λ u next. (made here d at ts).run script next) (λ m. made_safe here kinds callee above small script d at ts env (with_steps s m) (stepped here.width kinds above env s m fits))
+  stated_made kinds calls slept makes.Nothing t small env s fits = plain_made kinds s.steps _ ((mean here t).run script s) (mean_safe here kinds callee above script slept calls tame narrow wide t small env s fits)
+  stated_made kinds calls slept d (Node o at stop ts) small env s fits = made_tick here kinds callee above script (judged_made (around_of here kinds callee) d at ts env) s.steps s (λ u next. (made here d at ts).run script next) (λ m. made_safe here kinds callee above script d at ts small.1 env (with_steps s m) (stepped here.width kinds above env s m fits))
 
-  statement_made : (kinds : NameKinds) → AreCalls here.width kinds callee here.call → FitScript here.width kinds.shared script → (t : Tree) (env : Env) (s : State) → FitsState here.width kinds above env s → IsMade here kinds callee above small script s.steps (judged_statement (around_of here kinds callee) t env) ((statement here t).run script s)
-  statement_made kinds calls slept (Node o at stop ts) env s fits = stated_made kinds calls slept (definition o) (Node o at stop ts) env s fits
+  statement_made : (kinds : NameKinds) → AreCalls here.width kinds callee here.call → FitScript here.width kinds.shared script → (t : Tree) → IsSmall here.width here.literal t → (env : Env) (s : State) → FitsState here.width kinds above env s → IsMade here kinds callee above script s.steps (judged_statement (around_of here kinds callee) t env) ((statement here t).run script s)
+  statement_made kinds calls slept (Node o at stop ts) small env s fits = stated_made kinds calls slept (definition o) (Node o at stop ts) small env s fits
 
   shared_stays : (kinds : NameKinds) (k : Made) (J : ContentKinds → Type 0) → J (grown_kinds kinds k).shared → J kinds.shared
   shared_stays kinds Nothing J h = h
   shared_stays kinds (Holding k) J h = h
   shared_stays kinds (Field p) J h = h
 
-  then_ended : (kinds : NameKinds) (before : ℕ) (j : Judged Made) (jf : Made → Env → Judged (Unit {0})) (o : Out (Unit {0})) (f : State → Out (Unit {0})) → IsMade here kinds callee above small script before j o → ((k : Made) (env : Env) (s : State) → FitsState here.width (grown_kinds kinds k) above env s → Ended here.width kinds.shared above s.steps (jf k env) (f s)) → Ended here.width kinds.shared above before (then_judge j jf) (then_do o (λ u s. f s))
+  then_ended : (kinds : NameKinds) (before : ℕ) (j : Judged Made) (jf : Made → Env → Judged (Unit {0})) (o : Out (Unit {0})) (f : State → Out (Unit {0})) → IsMade here kinds callee above script before j o → ((k : Made) (env : Env) (s : State) → FitsState here.width (grown_kinds kinds k) above env s → Ended here.width kinds.shared above s.steps (jf k env) (f s)) → Ended here.width kinds.shared above before (then_judge j jf) (then_do o (λ u s. f s))
   then_ended kinds before (Stops r) jf o f h next = tt
   then_ended kinds before (Goes k env x n) jf (state.Goes v s) f h next = after_ended here.width kinds.shared above x n s.steps before (jf k env) (f s) h.1 (next k env s h.0)
   then_ended kinds before (Goes k env x n) jf (Halts stop s) f h next = before_ended here.width kinds.shared above x n before env (jf k env) stop s (stop_ended here.width kinds.shared above kinds.owns kinds.fields before n x env stop s h.0 h.1)
   then_ended kinds before (Goes k env x n) jf (NoAnswer s) f h next = no_answer_ended here.width kinds.shared above before (after x n (jf k env)) s
   then_ended kinds before (Goes k env x n) jf (Spent s) f h next = spent_ended here.width kinds.shared above before n x (jf k env) s h
 
-  body_ended : (ts : Trees) (kinds : NameKinds) → AreCalls here.width kinds callee here.call → FitScript here.width kinds.shared script → (env : Env) (s : State) → FitsState here.width kinds above env s → Ended here.width kinds.shared above s.steps (judged_body (around_of here kinds callee) ts env) ((mean_body here ts).run script s)
+  body_ended : (ts : Trees) → AllSmall here.width here.literal ts → (kinds : NameKinds) → AreCalls here.width kinds callee here.call → FitScript here.width kinds.shared script → (env : Env) (s : State) → FitsState here.width kinds above env s → Ended here.width kinds.shared above s.steps (judged_body (around_of here kinds callee) ts env) ((mean_body here ts).run script s)
   unfolding ◌>>=◌ give
-  body_ended none kinds calls slept env s fits = (fits.reached, fits.holds, fits.shared, omega arith)
-  body_ended (more t ts) kinds calls slept env s fits =
-      then_ended kinds s.steps _ (λ k. judged_body (grown (around_of here kinds callee) k) ts) ((statement here t).run script s) (λ next. (mean_body here ts).run script next) (statement_made kinds calls slept t env s fits) (λ k e next f.
-      shared_stays kinds k (λ sh. Ended here.width sh above next.steps (judged_body (grown (around_of here kinds callee) k) ts e) ((mean_body here ts).run script next)) (body_ended ts (grown_kinds kinds k) (grown_calls here.width kinds callee here.call k calls) (grown_script here.width kinds k script slept) e next f))
+  body_ended none small kinds calls slept env s fits = (fits.reached, fits.holds, fits.shared, omega arith)
+  body_ended (more t ts) small kinds calls slept env s fits =
+      then_ended kinds s.steps _ (λ k. judged_body (grown (around_of here kinds callee) k) ts) ((statement here t).run script s) (λ next. (mean_body here ts).run script next) (statement_made kinds calls slept t small.0 env s fits) (λ k e next f.
+      shared_stays kinds k (λ sh. Ended here.width sh above next.steps (judged_body (grown (around_of here kinds callee) k) ts e) ((mean_body here ts).run script next)) (body_ended ts small.1 (grown_kinds kinds k) (grown_calls here.width kinds callee here.call k calls) (grown_script here.width kinds k script slept) e next f))
 
 module _ (width : ℕ) (kinds : ContentKinds) where
   end_yields : (c : Bool) (o : Option Kind) → c ≡ true → FitsYield width None (result_of c o)
@@ -266,7 +266,7 @@ module _ (all : Judging) (narrow : all.methods.width ≤ 64) (wide : 255 < 2 ^ a
       let ok = ok_verdict _ a e in
       let says = verdict_says all.methods.width all.kinds _ _ (all.args k) (judged_method (around_for all known k m) m.opcode m.body (entry (all.args k))) a ok in
       verdict_called all.methods.width all.kinds _ _ (all.args k) (judged_method (around_for all known k m) m.opcode m.body (entry (all.args k))) a m.table s.frame s.steps _ ok
-      (method_ended all.methods.width all.kinds (held_level s.frame) (around_for all known k m) m.table m.opcode script s.steps _ _ (body_ended (setting_for all.methods (call_within all.methods d) m) (seen_from all known k) (held_level s.frame) (small k m is) script (calls_tame all.methods d) narrow wide m.body (shared_only all.kinds)
+      (method_ended all.methods.width all.kinds (held_level s.frame) (around_for all known k m) m.table m.opcode script s.steps _ _ (body_ended (setting_for all.methods (call_within all.methods d) m) (seen_from all known k) (held_level s.frame) script (calls_tame all.methods d) narrow wide m.body (small k m is) (shared_only all.kinds)
       (seen_calls d k (call_within all.methods d) short calls) slept (entry (all.args k)) (inside vs s)
       (record { reached = refl; own = slots_fit all.methods.width 8 [] [] tt; given = slots_fit all.methods.width 7 vs (all.args k) (subst (FitAll all.methods.width vs) (sym says.1) fit); shared = shared; owned = record { kinds_stay = refl; fitting = refl; words = λ i u e. absurd cc }; fields = refl; holds = refl; callers = refl })))
 

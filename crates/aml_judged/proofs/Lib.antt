@@ -20,6 +20,7 @@ pub mod Invoked
 pub mod Tests
 pub mod Whiles
 pub mod Sound
+pub mod Small
 pub mod Owned
 pub mod Called
 pub mod Examples

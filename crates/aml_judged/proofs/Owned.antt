@@ -2,7 +2,6 @@
 use Rattle.std.proofs.Common.{◌≡◌, ℕ, zero, suc, ◌+◌, ◌%◌, ◌^◌, ◌<◌, ◌≤◌, List, [], ◌∷◌, ◌++◌, Option, Some, None, refl, ap, subst, arith}
 use Rattle.std.proofs.lemmas.Bool.{and_parts}
 use Rattle.std.specs.Prelude.{Bool, true, false, if◌then◌else◌, unwrap_or}
-use Rattle.aml_operators.specs.declared.op.Op.{Op}
 use Rattle.aml_operators.specs.Literal.{literal_in, literal_of}
 use Rattle.aml_operators.specs.Tree.{Tree, Trees, Node, none, more}
 use Rattle.aml_values.specs.Values.{Value, Int, Buf, Str, Pkg}
@@ -29,6 +28,7 @@ use Rattle.aml_judged.specs.Known.{Env, greatest}
 use Rattle.aml_judged.specs.Judge.{stops}
 use Rattle.aml_judged.specs.Judged.{NameKinds, Seen, Judged, Goes, Stops, no_exits, after, then_judge, goes, Exits, Rule}
 use Rattle.aml_judged.specs.Safe.{IsWord, IsOf, FitNames, FitsState, FitsStop, IsSafe}
+use Rattle.aml_judged.specs.Small.{IsSmallBy, IsSmall, AllSmall}
 use Rattle.aml_judged.specs.Bodies.{grown_kinds, unless_computed, first_kind_by, judged_data, judged_made, Made, Holding, Field, judged_own_source, judged_source, judged_field_made}
 use Rattle.aml_judged.proofs.Fits.{both, fits_by, in_range, in_greatest}
 use Rattle.aml_judged.proofs.Turns.{value_of}
@@ -83,7 +83,7 @@ pushed_none width ks names f = record {
 abbrev SameLink : Link → Link → Type 0
 SameLink l k = l ≡ k
 
-module _ (here : Setting) (kinds : NameKinds) (callee : ℕ → Seen) (above : ℕ) (small : (o : Op) (ts : Trees) → IsWord here.width (here.literal o ts)) (script : List Event) where
+module _ (here : Setting) (kinds : NameKinds) (callee : ℕ → Seen) (above : ℕ) (script : List Event) where
   -- a statement at the top of a body, which may have made an own name
   abbrev pub IsMade : ℕ → Judged Made → Out (Unit {0}) → Type 0
   IsMade before (Stops r) o = Unit {0}
@@ -117,18 +117,18 @@ module _ (here : Setting) (kinds : NameKinds) (callee : ℕ → Seen) (above : �
   held_first : (v : Value) (env : Env) (s : State) → IsWord here.width v → FitsState here.width kinds above env s → FitsState here.width (grown_kinds kinds (Holding (name_kind (greatest here.width) v))) above env (with_made here.width s (Some v) None)
   held_first v env s h f = record { reached = f.reached; own = f.own; given = f.given; shared = f.shared; owned = pushed_names here.width kinds.owns s.frame.owns v h f.owned; fields = ap (λ l. l ++ None ∷ []) f.fields; holds = f.holds; callers = f.callers }
 
-  define_by : (a : Action) (at : ℕ) (ts : Trees) (env : Env) (s : State) → FitsState here.width kinds above env s → IsMade s.steps (then_judge (after no_exits 1 (first_kind_by (around_of here kinds callee) a at ts env)) (λ k. goes (Holding k))) ((value_of (around_of here kinds callee) here refl a at ts >>= (λ v. define_own here.width v)).run script s)
+  define_by : (a : Action) (at : ℕ) (ts : Trees) → IsSmallBy here.width here.literal a ts → (env : Env) (s : State) → FitsState here.width kinds above env s → IsMade s.steps (then_judge (after no_exits 1 (first_kind_by (around_of here kinds callee) a at ts env)) (λ k. goes (Holding k))) ((value_of (around_of here kinds callee) here refl a at ts >>= (λ v. define_own here.width v)).run script s)
   unfolding ◌>>=◌ tick paid give make_own
-  define_by (Literal q) at ts env s fits = two_tick (Holding (IntUpTo (greatest here.width))) env s.steps s _ _ (λ m. (held_first (Int (unwrap_or (literal_in q ts) 0 % 2 ^ here.width)) env (with_steps s m) (in_range here.width (unwrap_or (literal_in q ts) 0)) (record { reached = fits.reached; own = fits.own; given = fits.given; shared = fits.shared; owned = fits.owned; fields = fits.fields; holds = fits.holds; callers = fits.callers }), omega arith))
-  define_by (Data q) at ts env s fits = by (computed_size q at ts)
+  define_by (Literal q) at ts small env s fits = two_tick (Holding (IntUpTo (greatest here.width))) env s.steps s _ _ (λ m. (held_first (Int (unwrap_or (literal_in q ts) 0 % 2 ^ here.width)) env (with_steps s m) (in_range here.width (unwrap_or (literal_in q ts) 0)) (record { reached = fits.reached; own = fits.own; given = fits.given; shared = fits.shared; owned = fits.owned; fields = fits.fields; holds = fits.holds; callers = fits.callers }), omega arith))
+  define_by (Data q) at ts small env s fits = by (computed_size q at ts)
     where
       by : (o : Option ℕ) → IsMade s.steps (then_judge (after no_exits 1 (unless_computed (around_of here kinds callee) o (name_kind (greatest here.width) (here.literal q ts)) env)) (λ k. goes (Holding k))) (then_do (then_do (take_step {V = Unit {0}} s.steps s (λ next. state.Goes tt next)) (λ u next. then_do ((data_unless here o (here.literal q ts)).run script next) (λ v last. (want here at v).run script last))) (λ v next. (define_own here.width v).run script next))
       by (Some from) = tt
-      by None = two_tick (Holding (name_kind (greatest here.width) (here.literal q ts))) env s.steps s _ _ (λ m. (held_first (here.literal q ts) env (with_steps s m) (small q ts) (record { reached = fits.reached; own = fits.own; given = fits.given; shared = fits.shared; owned = fits.owned; fields = fits.fields; holds = fits.holds; callers = fits.callers }), omega arith))
-  define_by a at ts env s fits = tt
+      by None = two_tick (Holding (name_kind (greatest here.width) (here.literal q ts))) env s.steps s _ _ (λ m. (held_first (here.literal q ts) env (with_steps s m) small (record { reached = fits.reached; own = fits.own; given = fits.given; shared = fits.shared; owned = fits.owned; fields = fits.fields; holds = fits.holds; callers = fits.callers }), omega arith))
+  define_by a at ts small env s fits = tt
 
-  define_safe : (t : Tree) (env : Env) (s : State) → FitsState here.width kinds above env s → IsMade s.steps (then_judge (judged_data (around_of here kinds callee) t env) (λ k. goes (Holding k))) ((define here t).run script s)
-  define_safe (Node o at stop ts) env s fits = define_by (action o) at ts env s fits
+  define_safe : (t : Tree) → IsSmall here.width here.literal t → (env : Env) (s : State) → FitsState here.width kinds above env s → IsMade s.steps (then_judge (judged_data (around_of here kinds callee) t env) (λ k. goes (Holding k))) ((define here t).run script s)
+  define_safe (Node o at stop ts) small env s fits = define_by (action o) at ts small.0 env s fits
 
   -- a part, and what it makes
   after_made : (x : Exits) (n from before : ℕ) (j : Judged Made) (o : Out (Unit {0})) → before ≤ from + n → IsMade from j o → IsMade before (after x n j) o
@@ -187,8 +187,8 @@ module _ (here : Setting) (kinds : NameKinds) (callee : ℕ → Seen) (above : �
   where_made true rule m at env s h = h
   where_made false rule m at env s h = tt
 
-  pub made_safe : (d : Definition) (at : ℕ) (ts : Trees) (env : Env) (s : State) → FitsState here.width kinds above env s → IsMade s.steps (judged_made (around_of here kinds callee) d at ts env) ((made here d at ts).run script s)
-  made_safe makes.Name at (more name (more held none)) env s fits = where_made (makes_own here (at_of name)) (λ e. then_judge (judged_data (around_of here kinds callee) held e) (λ k. goes (Holding k))) (define here held) at env s (define_safe held env s fits)
-  made_safe (makes.Field counted) at (more source (more index (more name none))) env s fits = where_made (makes_own here (at_of name)) (judged_field_made (around_of here kinds callee) at (source_of source) (literal_of index) (Some counted)) (make_field here at (source_of source) (literal_of index) (Some counted)) at env s (field_made_safe at (source_of source) (literal_of index) (Some counted) env s fits)
-  made_safe makes.CountedField at (more source (more index (more count (more name none)))) env s fits = where_made (makes_own here (at_of name)) (judged_field_made (around_of here kinds callee) at (source_of source) (literal_of index) (option_map size.Bits (literal_of count))) (make_field here at (source_of source) (literal_of index) (option_map size.Bits (literal_of count))) at env s (field_made_safe at (source_of source) (literal_of index) (option_map size.Bits (literal_of count)) env s fits)
-  made_safe d at ts env s fits = tt
+  pub made_safe : (d : Definition) (at : ℕ) (ts : Trees) → AllSmall here.width here.literal ts → (env : Env) (s : State) → FitsState here.width kinds above env s → IsMade s.steps (judged_made (around_of here kinds callee) d at ts env) ((made here d at ts).run script s)
+  made_safe makes.Name at (more name (more held none)) small env s fits = where_made (makes_own here (at_of name)) (λ e. then_judge (judged_data (around_of here kinds callee) held e) (λ k. goes (Holding k))) (define here held) at env s (define_safe held small.1.0 env s fits)
+  made_safe (makes.Field counted) at (more source (more index (more name none))) small env s fits = where_made (makes_own here (at_of name)) (judged_field_made (around_of here kinds callee) at (source_of source) (literal_of index) (Some counted)) (make_field here at (source_of source) (literal_of index) (Some counted)) at env s (field_made_safe at (source_of source) (literal_of index) (Some counted) env s fits)
+  made_safe makes.CountedField at (more source (more index (more count (more name none)))) small env s fits = where_made (makes_own here (at_of name)) (judged_field_made (around_of here kinds callee) at (source_of source) (literal_of index) (option_map size.Bits (literal_of count))) (make_field here at (source_of source) (literal_of index) (option_map size.Bits (literal_of count))) at env s (field_made_safe at (source_of source) (literal_of index) (option_map size.Bits (literal_of count)) env s fits)
+  made_safe d at ts small env s fits = tt

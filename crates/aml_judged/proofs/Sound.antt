@@ -19,7 +19,6 @@ use Rattle.aml_meaning.specs.Conversions.{converted}
 use Rattle.aml_meaning.specs.Elements.{byte_written, element_at}
 use Rattle.aml_meaning.specs.Changes.{change}
 use Rattle.aml_meaning.specs.Notices.{notice}
-use Rattle.aml_operators.specs.declared.op.Op.{Op}
 use Rattle.aml_contents.specs.BodyData.{computed_size}
 use Rattle.aml_contents.specs.FirstKinds.{kind_by}
 use Rattle.aml_meaning.specs.Meaning.{indexed, untargeted, dereferenced, led, place_at, Setting, at_of, act, mean, value, values, mean_all, block, otherwise, is_else, store, stored, tested, gives_value, takes_operand, operator_action, place, outside}
@@ -33,7 +32,8 @@ use Rattle.aml_judged.proofs.FieldsSafe.{around_of}
 use Rattle.aml_judged.proofs.IndexSafe.{SamePlace, indexed_safe, byte_safe}
 use Rattle.aml_judged.proofs.KindRules.{plain, IsBelow, IsNumber, le_test, integer_follows, combined_follows, compared_follows, transformed_follows, negated_follows, AreDivision, divided_follows, converted_follows, concatenated_follows, led_follows}
 use Rattle.aml_bounds.specs.Shapes.{is_operand}
-use Rattle.aml_judged.specs.Safe.{IsWord, FitScript, IsOf, FitAll, FitsState, FitsYield, IsSafe, AreCalls, AreTame}
+use Rattle.aml_judged.specs.Safe.{FitScript, IsOf, FitAll, FitsState, FitsYield, IsSafe, AreCalls, AreTame}
+use Rattle.aml_judged.specs.Small.{IsSmallBy, IsSmall, AllSmall}
 use Rattle.aml_judged.proofs.Fits.{fits_by, in_range}
 use Rattle.aml_judged.proofs.Parts.{safe_then, tick_then, stepped, meet_left, meet_right}
 use Rattle.aml_judged.proofs.Turns.{spells}
@@ -69,7 +69,16 @@ module _ (here : Setting) (kinds : NameKinds) (callee : ℕ → Seen) (above : �
   abbrev Yields : Option Value → Yield → Type 0
   Yields = FitsYield here.width
 
-  module _ (script : List Event) (slept : FitScript here.width kinds.shared script) (calls : AreCalls here.width kinds callee here.call) (words : (o : Op) (ts : Trees) → IsWord here.width (here.literal o ts)) (tame : AreTame here.call) (narrow : here.width ≤ 64) (wide : 255 < 2 ^ here.width) where
+  abbrev SmallBy : Action → Trees → Type 0
+  SmallBy = IsSmallBy here.width here.literal
+
+  abbrev Small : Tree → Type 0
+  Small = IsSmall here.width here.literal
+
+  abbrev SmallAll : Trees → Type 0
+  SmallAll = AllSmall here.width here.literal
+
+  module _ (script : List Event) (slept : FitScript here.width kinds.shared script) (calls : AreCalls here.width kinds callee here.call) (tame : AreTame here.call) (narrow : here.width ≤ 64) (wide : 255 < 2 ^ here.width) where
     one_is : Is (Int 1) (IntUpTo 1)
     one_is = record { fit = refl; word = omega (arith, wide) }
 
@@ -128,129 +137,129 @@ module _ (here : Setting) (kinds : NameKinds) (callee : ℕ → Seen) (above : �
     mutual
       unfolding ◌>>=◌ tick paid give get_local get_arg make_event
 
-      pub mean_safe : (t : Tree) (env : Env) (s : State) → Fine env s → Safe (plain Yields) s.steps (judged around t env) ((mean here t).run script s)
-      mean_safe (Node o at stop ts) env s fits = tick_then here.width kinds above (plain Yields) _ s.steps s _ (λ m. top_safe (definition o) at (judged_act around false (action o) at ts) env m ((act here (action o) at ts).run script (with_steps s m)) (act_safe false (action o) at ts env (with_steps s m) (stepped here.width kinds above env s m fits)))
+      pub mean_safe : (t : Tree) → Small t → (env : Env) (s : State) → Fine env s → Safe (plain Yields) s.steps (judged around t env) ((mean here t).run script s)
+      mean_safe (Node o at stop ts) small env s fits = tick_then here.width kinds above (plain Yields) _ s.steps s _ (λ m. top_safe (definition o) at (judged_act around false (action o) at ts) env m ((act here (action o) at ts).run script (with_steps s m)) (act_safe false (action o) at ts small.0 small.1 env (with_steps s m) (stepped here.width kinds above env s m fits)))
 
-      value_safe : (t : Tree) (env : Env) (s : State) → Fine env s → Safe (plain Is) s.steps (judged_value around t env) ((value here t).run script s)
-      value_safe (Node o at stop ts) env s fits = tick_then here.width kinds above (plain Is) _ s.steps s _ (λ m.
-          safe_then here.width kinds above (plain Yields) (plain Is) m _ _ _ _ (operand_safe (is_operand (action o) ts) (action o) at ts env (with_steps s m) (operand_same (action o) ts) (act_safe true (action o) at ts env (with_steps s m) (stepped here.width kinds above env s m fits))) (λ y e v s1 p f1.
+      value_safe : (t : Tree) → Small t → (env : Env) (s : State) → Fine env s → Safe (plain Is) s.steps (judged_value around t env) ((value here t).run script s)
+      value_safe (Node o at stop ts) small env s fits = tick_then here.width kinds above (plain Is) _ s.steps s _ (λ m.
+          safe_then here.width kinds above (plain Yields) (plain Is) m _ _ _ _ (operand_safe (is_operand (action o) ts) (action o) at ts env (with_steps s m) (operand_same (action o) ts) (act_safe true (action o) at ts small.0 small.1 env (with_steps s m) (stepped here.width kinds above env s m fits))) (λ y e v s1 p f1.
           want_safe here kinds callee above script at y e v s1 p f1))
 
-      act_safe : (w : Bool) (a : Action) (at : ℕ) (ts : Trees) (env : Env) (s : State) → Fine env s → Safe (plain Yields) s.steps (judged_act around w a at ts env) ((act here a at ts).run script s)
-      act_safe w (Literal o) at ts env s fits = (record { fit = le_test here.width _ _ (omega arith); word = in_range here.width (unwrap_or (literal_in o ts) 0) }, fits, omega arith)
-      act_safe w (Data o) at ts env s fits = literal_data_safe here kinds callee above script (computed_size o at ts) (kind_by (here.literal o ts)) (here.literal o ts) env s (record { fit = fits_by (here.literal o ts); word = words o ts }) fits
-      act_safe w (Local i) at ts env s fits = slot_safe here kinds callee above script at i env.locals s.frame.locals (slice_get env.locals i) env s refl fits.own fits
-      act_safe w (Argument i) at ts env s fits = slot_safe here kinds callee above script at i env.args s.frame.args (slice_get env.args i) env s refl fits.given fits
-      act_safe w (Binary f) at (more a (more b (more g none))) env s fits =
-          safe_then here.width kinds above (plain Is) (plain Yields) s.steps _ _ _ _ (value_safe a env s fits) (λ j ea x s1 p f1.
-          safe_then here.width kinds above (plain (IsLiteral b)) (plain Yields) s1.steps _ _ _ _ (literal_safe b ea s1 (value_safe b ea s1 f1)) (λ k eb y s2 q f2.
+      act_safe : (w : Bool) (a : Action) (at : ℕ) (ts : Trees) → SmallBy a ts → SmallAll ts → (env : Env) (s : State) → Fine env s → Safe (plain Yields) s.steps (judged_act around w a at ts env) ((act here a at ts).run script s)
+      act_safe w (Literal o) at ts own small env s fits = (record { fit = le_test here.width _ _ (omega arith); word = in_range here.width (unwrap_or (literal_in o ts) 0) }, fits, omega arith)
+      act_safe w (Data o) at ts own small env s fits = literal_data_safe here kinds callee above script (computed_size o at ts) (kind_by (here.literal o ts)) (here.literal o ts) env s (record { fit = fits_by (here.literal o ts); word = own }) fits
+      act_safe w (Local i) at ts own small env s fits = slot_safe here kinds callee above script at i env.locals s.frame.locals (slice_get env.locals i) env s refl fits.own fits
+      act_safe w (Argument i) at ts own small env s fits = slot_safe here kinds callee above script at i env.args s.frame.args (slice_get env.args i) env s refl fits.given fits
+      act_safe w (Binary f) at (more a (more b (more g none))) own small env s fits =
+          safe_then here.width kinds above (plain Is) (plain Yields) s.steps _ _ _ _ (value_safe a small.0 env s fits) (λ j ea x s1 p f1.
+          safe_then here.width kinds above (plain (IsLiteral b)) (plain Yields) s1.steps _ _ _ _ (literal_safe b ea s1 (value_safe b small.1.0 ea s1 f1)) (λ k eb y s2 q f2.
           safe_then here.width kinds above (plain Is) (plain Yields) s2.steps _ _ _ _ (lift_safe here kinds callee above script Is (combined_kind here.width f (judge.place around a) j (judge.place around b) k (number_of around b)) (combined here.width f (place here a) x (place here b) y) eb s2 (combined_follows here.width f _ _ _ _ j k x y (number_of around b) narrow p q.0 q.1) f2) (λ l ec v s3 r f3.
-          safe_then here.width kinds above IsUnit (plain Yields) s3.steps _ _ _ _ (store_safe g l v ec s3 r f3) (λ u ed z s4 n f4. (r, f4, omega arith)))))
-      act_safe w (Unary f) at (more a (more g none)) env s fits =
-          safe_then here.width kinds above (plain Is) (plain Yields) s.steps _ _ _ _ (value_safe a env s fits) (λ k ea x s1 p f1.
+          safe_then here.width kinds above IsUnit (plain Yields) s3.steps _ _ _ _ (store_safe g small.1.1.0 l v ec s3 r f3) (λ u ed z s4 n f4. (r, f4, omega arith)))))
+      act_safe w (Unary f) at (more a (more g none)) own small env s fits =
+          safe_then here.width kinds above (plain Is) (plain Yields) s.steps _ _ _ _ (value_safe a small.0 env s fits) (λ k ea x s1 p f1.
           safe_then here.width kinds above (plain Is) (plain Yields) s1.steps _ _ _ _ (lift_safe here kinds callee above script Is (transformed_kind here.width f (judge.place around a) k) (transformed here.width f (place here a) x) ea s1 (transformed_follows here.width f _ _ k x narrow p) f1) (λ l ec v s3 r f3.
-          safe_then here.width kinds above IsUnit (plain Yields) s3.steps _ _ _ _ (store_safe g l v ec s3 r f3) (λ u ed z s4 n f4. (r, f4, omega arith))))
-      act_safe w LNot at (more a none) env s fits =
-          safe_then here.width kinds above (plain Is) (plain Yields) s.steps _ _ _ _ (value_safe a env s fits) (λ k ea x s1 p f1.
+          safe_then here.width kinds above IsUnit (plain Yields) s3.steps _ _ _ _ (store_safe g small.1.0 l v ec s3 r f3) (λ u ed z s4 n f4. (r, f4, omega arith))))
+      act_safe w LNot at (more a none) own small env s fits =
+          safe_then here.width kinds above (plain Is) (plain Yields) s.steps _ _ _ _ (value_safe a small.0 env s fits) (λ k ea x s1 p f1.
           safe_then here.width kinds above (plain Is) (plain Yields) s1.steps _ _ _ _ (lift_safe here kinds callee above script Is (negated_kind here.width (judge.place around a) k) (negated here.width (place here a) x) ea s1 (negated_follows here.width _ _ k x p) f1) (λ l ec v s3 r f3. (r, f3, omega arith)))
-      act_safe w Divide at (more a (more b (more r (more q none)))) env s fits =
-          safe_then here.width kinds above (plain Is) (plain Yields) s.steps _ _ _ _ (value_safe a env s fits) (λ j ea x s1 p f1.
-          safe_then here.width kinds above (plain (IsLiteral b)) (plain Yields) s1.steps _ _ _ _ (literal_safe b ea s1 (value_safe b ea s1 f1)) (λ k eb y s2 lit f2.
+      act_safe w Divide at (more a (more b (more r (more q none)))) own small env s fits =
+          safe_then here.width kinds above (plain Is) (plain Yields) s.steps _ _ _ _ (value_safe a small.0 env s fits) (λ j ea x s1 p f1.
+          safe_then here.width kinds above (plain (IsLiteral b)) (plain Yields) s1.steps _ _ _ _ (literal_safe b ea s1 (value_safe b small.1.0 ea s1 f1)) (λ k eb y s2 lit f2.
           safe_then here.width kinds above (plain (AreDivision here.width)) (plain Yields) s2.steps _ _ _ _ (lift_safe here kinds callee above script (AreDivision here.width) (divided_kind here.width (judge.place around a) j (judge.place around b) k (number_of around b)) (divided (place here a) x (place here b) y) eb s2 (divided_follows here.width _ _ _ _ j k x y (number_of around b) p lit.0 lit.1) f2) (λ d ec v s3 m f3.
-          safe_then here.width kinds above IsUnit (plain Yields) s3.steps _ _ _ _ (store_safe r d.remainder v.remainder ec s3 m.remainder f3) (λ u ed z s4 n f4.
-          safe_then here.width kinds above IsUnit (plain Yields) s4.steps _ _ _ _ (store_safe q d.quotient v.quotient ed s4 m.quotient f4) (λ u2 ee z2 s5 n2 f5. (m.quotient, f5, omega arith))))))
-      act_safe w (Convert f) at (more a (more g none)) env s fits =
-          safe_then here.width kinds above (plain Is) (plain Yields) s.steps _ _ _ _ (value_safe a env s fits) (λ k ea x s1 p f1.
+          safe_then here.width kinds above IsUnit (plain Yields) s3.steps _ _ _ _ (store_safe r small.1.1.0 d.remainder v.remainder ec s3 m.remainder f3) (λ u ed z s4 n f4.
+          safe_then here.width kinds above IsUnit (plain Yields) s4.steps _ _ _ _ (store_safe q small.1.1.1.0 d.quotient v.quotient ed s4 m.quotient f4) (λ u2 ee z2 s5 n2 f5. (m.quotient, f5, omega arith))))))
+      act_safe w (Convert f) at (more a (more g none)) own small env s fits =
+          safe_then here.width kinds above (plain Is) (plain Yields) s.steps _ _ _ _ (value_safe a small.0 env s fits) (λ k ea x s1 p f1.
           safe_then here.width kinds above (plain Is) (plain Yields) s1.steps _ _ _ _ (lift_safe here kinds callee above script Is (converted_kind here.width f (judge.place_at around at) (judge.place around a) k) (converted here.width f (place_at here at) (place here a) x) ea s1 (converted_follows here.width f _ _ _ _ k x p) f1) (λ l ec v s3 r f3.
-          safe_then here.width kinds above IsUnit (plain Yields) s3.steps _ _ _ _ (store_safe g l v ec s3 r f3) (λ u ed z s4 n f4. (r, f4, omega arith))))
-      act_safe w Concatenate at (more a (more b (more g none))) env s fits =
-          safe_then here.width kinds above (plain Is) (plain Yields) s.steps _ _ _ _ (value_safe a env s fits) (λ j ea x s1 p f1.
-          safe_then here.width kinds above (plain Is) (plain Yields) s1.steps _ _ _ _ (value_safe b ea s1 f1) (λ k eb y s2 q f2.
+          safe_then here.width kinds above IsUnit (plain Yields) s3.steps _ _ _ _ (store_safe g small.1.0 l v ec s3 r f3) (λ u ed z s4 n f4. (r, f4, omega arith))))
+      act_safe w Concatenate at (more a (more b (more g none))) own small env s fits =
+          safe_then here.width kinds above (plain Is) (plain Yields) s.steps _ _ _ _ (value_safe a small.0 env s fits) (λ j ea x s1 p f1.
+          safe_then here.width kinds above (plain Is) (plain Yields) s1.steps _ _ _ _ (value_safe b small.1.0 ea s1 f1) (λ k eb y s2 q f2.
           safe_then here.width kinds above (plain Is) (plain Yields) s2.steps _ _ _ _ (lift_safe here kinds callee above script Is (concatenated_kind (judge.place_at around at) (judge.place around a) j (judge.place around b) k) (concatenated (place_at here at) (place here a) x (place here b) y) eb s2 (concatenated_follows here.width _ _ _ _ _ _ j k x y p q) f2) (λ l ec v s3 r f3.
-          safe_then here.width kinds above IsUnit (plain Yields) s3.steps _ _ _ _ (store_safe g l v ec s3 r f3) (λ u ed z s4 n f4. (r, f4, omega arith)))))
-      act_safe w SizeOf at (more a none) env s fits =
+          safe_then here.width kinds above IsUnit (plain Yields) s3.steps _ _ _ _ (store_safe g small.1.1.0 l v ec s3 r f3) (λ u ed z s4 n f4. (r, f4, omega arith)))))
+      act_safe w SizeOf at (more a none) own small env s fits =
           safe_then here.width kinds above (plain Is) (plain Yields) s.steps _ _ _ _ (size_safe here kinds callee above script a env s fits) (λ l ec v s3 r f3. (r, f3, omega arith))
-      act_safe w Dereference at (more a none) env s fits = dereferenced_safe at a env s fits
-      act_safe w CondRefOf at (more a (more g none)) env s fits = condition_safe here kinds callee above script at a g env s fits
-      act_safe w (ByOne f) at (more a none) env s fits =
+      act_safe w Dereference at (more a none) own small env s fits = dereferenced_safe at a small.0 env s fits
+      act_safe w CondRefOf at (more a (more g none)) own small env s fits = condition_safe here kinds callee above script at a g env s fits
+      act_safe w (ByOne f) at (more a none) own small env s fits =
           safe_then here.width kinds above IsUnit (plain Yields) s.steps _ _ _ _ (placed_safe here kinds callee above script a env s fits) (λ u0 e0 z0 s0 n0 f0.
-          safe_then here.width kinds above (plain Is) (plain Yields) s0.steps _ _ _ _ (value_safe a e0 s0 f0) (λ j ea x s1 p f1.
+          safe_then here.width kinds above (plain Is) (plain Yields) s0.steps _ _ _ _ (value_safe a small.0 e0 s0 f0) (λ j ea x s1 p f1.
           safe_then here.width kinds above (plain Is) (plain Yields) s1.steps _ _ _ _ (lift_safe here kinds callee above script Is (combined_kind here.width f (judge.place around a) j (judge.place around a) (IntUpTo 1) (Some 1)) (combined here.width f (place here a) x (place here a) (Int 1)) ea s1 (combined_follows here.width f _ _ _ _ j (IntUpTo 1) x (Int 1) (Some 1) narrow p one_is refl) f1) (λ l ec v s3 r f3.
-          safe_then here.width kinds above IsUnit (plain Yields) s3.steps _ _ _ _ (store_safe a l v ec s3 r f3) (λ u ed z s4 n f4. (r, f4, omega arith)))))
-      act_safe w (Compare f) at (more a (more b none)) env s fits =
-          safe_then here.width kinds above (plain Is) (plain Yields) s.steps _ _ _ _ (value_safe a env s fits) (λ j ea x s1 p f1.
-          safe_then here.width kinds above (plain Is) (plain Yields) s1.steps _ _ _ _ (value_safe b ea s1 f1) (λ k eb y s2 q f2.
+          safe_then here.width kinds above IsUnit (plain Yields) s3.steps _ _ _ _ (store_safe a small.0 l v ec s3 r f3) (λ u ed z s4 n f4. (r, f4, omega arith)))))
+      act_safe w (Compare f) at (more a (more b none)) own small env s fits =
+          safe_then here.width kinds above (plain Is) (plain Yields) s.steps _ _ _ _ (value_safe a small.0 env s fits) (λ j ea x s1 p f1.
+          safe_then here.width kinds above (plain Is) (plain Yields) s1.steps _ _ _ _ (value_safe b small.1.0 ea s1 f1) (λ k eb y s2 q f2.
           safe_then here.width kinds above (plain Is) (plain Yields) s2.steps _ _ _ _ (lift_safe here kinds callee above script Is (compared_kind here.width f (judge.place around a) j (judge.place around b) k) (compared here.width f (place here a) x (place here b) y) eb s2 (compared_follows here.width f _ _ _ _ j k x y p q) f2) (λ l ec v s3 r f3. (r, f3, omega arith))))
-      act_safe w Store at (more a (more g none)) env s fits =
-          safe_then here.width kinds above (plain Is) (plain Yields) s.steps _ _ _ _ (value_safe a env s fits) (λ l ea v s1 r f1.
-          safe_then here.width kinds above IsUnit (plain Yields) s1.steps _ _ _ _ (store_safe g l v ea s1 r f1) (λ u ed z s2 n f2. (r, f2, omega arith)))
-      act_safe w Return at (more a none) env s fits =
-          safe_then here.width kinds above (plain Is) (plain Yields) s.steps _ _ _ _ (value_safe a env s fits) (λ l ea v s1 r f1. return_safe here kinds callee above script at l v ea s1 r f1)
-      act_safe w If at (more t body) env s fits =
-          safe_then here.width kinds above (Held around kinds above) (plain Yields) s.steps _ _ _ _ (test_safe here kinds callee above script t env s (value_safe t env s fits)) (λ held et x s1 p f1.
-          safe_then here.width kinds above IsUnit (plain Yields) s1.steps _ _ _ _ (if_safe _ _ (block here body) (otherwise here body) (x == 0) (refusal around causes.HeldDiffers at) s1 (λ z. block_safe body held s1 (p (is_nonzero x z))) (otherwise_safe body et s1 f1)) (λ u2 eb z s2 q f2. (tt, f2, omega arith)))
-      act_safe w While at (more t body) env s fits =
-          safe_then here.width kinds above IsUnit (plain Yields) s.steps _ _ _ _ (while_safe here kinds callee above script tame narrow (shape_of around t body) at body (tested here (place here t) (value here t)) (judged_test around t (judged_value around t)) (judged_all around body) env s (tells around here refl (place here t) t body) (test_lower around here refl (place here t) t script) (λ e s1 f1. test_safe here kinds callee above script t e s1 (value_safe t e s1 f1)) (λ e s1 f1. all_safe body e s1 f1) fits) (λ u2 eb z s2 q f2. (tt, f2, omega arith))
-      act_safe w Break at ts env s fits = break_safe here kinds callee above script env.looped at env s fits
-      act_safe w Continue at ts env s fits = continue_safe here kinds callee above script env.looped at env s fits
-      act_safe w Nothing at ts env s fits = (tt, fits, omega arith)
-      act_safe w Name at ts env s fits = name_safe here kinds callee above script (here.link at) at env s fits
-      act_safe w Invoke at (more name arguments) env s fits = invoked_safe here kinds callee above script slept calls w (here.link (at_of name)) (at_of name) _ arguments (judged_values around arguments) (values here arguments) env s (values_safe arguments env s fits) fits
-      act_safe w Notify at (more o (more a none)) env s fits =
+      act_safe w Store at (more a (more g none)) own small env s fits =
+          safe_then here.width kinds above (plain Is) (plain Yields) s.steps _ _ _ _ (value_safe a small.0 env s fits) (λ l ea v s1 r f1.
+          safe_then here.width kinds above IsUnit (plain Yields) s1.steps _ _ _ _ (store_safe g small.1.0 l v ea s1 r f1) (λ u ed z s2 n f2. (r, f2, omega arith)))
+      act_safe w Return at (more a none) own small env s fits =
+          safe_then here.width kinds above (plain Is) (plain Yields) s.steps _ _ _ _ (value_safe a small.0 env s fits) (λ l ea v s1 r f1. return_safe here kinds callee above script at l v ea s1 r f1)
+      act_safe w If at (more t body) own small env s fits =
+          safe_then here.width kinds above (Held around kinds above) (plain Yields) s.steps _ _ _ _ (test_safe here kinds callee above script t env s (value_safe t small.0 env s fits)) (λ held et x s1 p f1.
+          safe_then here.width kinds above IsUnit (plain Yields) s1.steps _ _ _ _ (if_safe _ _ (block here body) (otherwise here body) (x == 0) (refusal around causes.HeldDiffers at) s1 (λ z. block_safe body small.1 held s1 (p (is_nonzero x z))) (otherwise_safe body small.1 et s1 f1)) (λ u2 eb z s2 q f2. (tt, f2, omega arith)))
+      act_safe w While at (more t body) own small env s fits =
+          safe_then here.width kinds above IsUnit (plain Yields) s.steps _ _ _ _ (while_safe here kinds callee above script tame narrow (shape_of around t body) at body (tested here (place here t) (value here t)) (judged_test around t (judged_value around t)) (judged_all around body) env s (tells around here refl (place here t) t body) (test_lower around here refl (place here t) t script) (λ e s1 f1. test_safe here kinds callee above script t e s1 (value_safe t small.0 e s1 f1)) (λ e s1 f1. all_safe body small.1 e s1 f1) fits) (λ u2 eb z s2 q f2. (tt, f2, omega arith))
+      act_safe w Break at ts own small env s fits = break_safe here kinds callee above script env.looped at env s fits
+      act_safe w Continue at ts own small env s fits = continue_safe here kinds callee above script env.looped at env s fits
+      act_safe w Nothing at ts own small env s fits = (tt, fits, omega arith)
+      act_safe w Name at ts own small env s fits = name_safe here kinds callee above script (here.link at) at env s fits
+      act_safe w Invoke at (more name arguments) own small env s fits = invoked_safe here kinds callee above script slept calls w (here.link (at_of name)) (at_of name) _ arguments (judged_values around arguments) (values here arguments) env s (values_safe arguments small.1 env s fits) fits
+      act_safe w Notify at (more o (more a none)) own small env s fits =
           safe_then here.width kinds above (plain (MayNotify here kinds callee above script slept)) (plain Yields) s.steps _ _ _ _ (notified_safe here kinds callee above script slept (action (operator_of o)) (at_of o) env s fits) (λ may ea object s1 m f1.
-          safe_then here.width kinds above (plain Is) (plain Yields) s1.steps _ _ _ _ (value_safe a ea s1 f1) (λ k eb x s2 p f2.
+          safe_then here.width kinds above (plain Is) (plain Yields) s1.steps _ _ _ _ (value_safe a small.1.0 ea s1 f1) (λ k eb x s2 p f2.
           safe_then here.width kinds above (plain (Noticed here kinds callee above script slept)) (plain Yields) s2.steps _ _ _ _ (lift_safe here kinds callee above script (Noticed here kinds callee above script slept) (notice_kind (judge.place around o) may) (notice (place here o) object) eb s2 (notice_follows here kinds callee above script slept _ _ object may m) f2) (λ u ec id s3 z f3.
           safe_then here.width kinds above (plain (IsBelow here.width)) (plain Yields) s3.steps _ _ _ _ (lift_safe here kinds callee above script (IsBelow here.width) (integer_kind (judge.place around a) k) (integer (place here a) x) ec s3 (integer_follows here.width _ _ k x p) f3) (λ j ed n s4 y f4.
           event_safe here kinds callee above script slept s4.steps (Notified id n) ed s4 f4))))
-      act_safe w (Pause f) at (more a none) env s fits =
-          safe_then here.width kinds above (plain Is) (plain Yields) s.steps _ _ _ _ (value_safe a env s fits) (λ k eb x s2 p f2.
+      act_safe w (Pause f) at (more a none) own small env s fits =
+          safe_then here.width kinds above (plain Is) (plain Yields) s.steps _ _ _ _ (value_safe a small.0 env s fits) (λ k eb x s2 p f2.
           safe_then here.width kinds above (plain (IsBelow here.width)) (plain Yields) s2.steps _ _ _ _ (lift_safe here kinds callee above script (IsBelow here.width) (integer_kind (judge.place around a) k) (integer (place here a) x) eb s2 (integer_follows here.width _ _ k x p) f2) (λ j ed n s4 y f4.
           pause_safe here kinds callee above script slept f n ed s4 f4))
-      act_safe w Acquire at (more o (more timeout none)) env s fits =
+      act_safe w Acquire at (more o (more timeout none)) own small env s fits =
           safe_then here.width kinds above (plain SameMutex) (plain Yields) s.steps _ _ _ _ (mutex_safe here kinds callee above script at (action (operator_of o)) (at_of o) env s fits) (λ n ea m s1 same f1.
           safe_then here.width kinds above IsUnit (plain Yields) s1.steps _ _ _ _ (subst (λ k. Safe IsUnit s1.steps (judged_taken around at k ea) ((acquire here.table at m).run script s1)) same (taken_safe here kinds callee above script at m ea s1 f1)) (λ u eb z s2 p f2. (zero_is, f2, omega arith)))
-      act_safe w Release at (more o none) env s fits =
+      act_safe w Release at (more o none) own small env s fits =
           safe_then here.width kinds above (plain SameMutex) (plain Yields) s.steps _ _ _ _ (mutex_safe here kinds callee above script at (action (operator_of o)) (at_of o) env s fits) (λ n ea m s1 same f1.
           safe_then here.width kinds above IsUnit (plain Yields) s1.steps _ _ _ _ (subst (λ k. Safe IsUnit s1.steps (judged_released around at k ea) ((release here.table at m).run script s1)) same (released_safe here kinds callee above script at m ea s1 f1)) (λ u eb z s2 p f2. (tt, f2, omega arith)))
-      act_safe w a at ts env s fits = tt
+      act_safe w a at ts own small env s fits = tt
 
-      store_safe : (g : Tree) (k : Kind) (v : Value) (env : Env) (s : State) → Is v k → Fine env s → Safe IsUnit s.steps (judged_store around g k env) ((store here g v).run script s)
-      store_safe (Node o at stop ts) k v env s h fits = at_store_safe (action o) at ts k v env s h fits
+      store_safe : (g : Tree) → Small g → (k : Kind) (v : Value) (env : Env) (s : State) → Is v k → Fine env s → Safe IsUnit s.steps (judged_store around g k env) ((store here g v).run script s)
+      store_safe (Node o at stop ts) small k v env s h fits = at_store_safe (action o) at ts small.1 k v env s h fits
 
-      at_store_safe : (a : Action) (at : ℕ) (ts : Trees) (k : Kind) (v : Value) (env : Env) (s : State) → Is v k → Fine env s → Safe IsUnit s.steps (judged_stored around a at ts k env) ((stored here a at ts v).run script s)
-      at_store_safe Index at (more x (more i (more g none))) k v env s h fits =
+      at_store_safe : (a : Action) (at : ℕ) (ts : Trees) → SmallAll ts → (k : Kind) (v : Value) (env : Env) (s : State) → Is v k → Fine env s → Safe IsUnit s.steps (judged_stored around a at ts k env) ((stored here a at ts v).run script s)
+      at_store_safe Index at (more x (more i (more g none))) small k v env s h fits =
           safe_then here.width kinds above (plain (SamePlace)) IsUnit s.steps _ _ _ _ (into_same g (λ b. Safe (plain SamePlace) s.steps (judged_indexed around at b x env) ((indexed here at (operator_action here g) x).run script s)) (indexed_safe here kinds callee above script at (operator_action here g) x env s fits)) (λ from e0 there s0 same f0.
-          safe_then here.width kinds above (plain Is) IsUnit s0.steps _ _ _ _ (value_safe i e0 s0 f0) (λ j ea y s1 p f1.
+          safe_then here.width kinds above (plain Is) IsUnit s0.steps _ _ _ _ (value_safe i small.1.0 e0 s0 f0) (λ j ea y s1 p f1.
           subst (λ m. Safe IsUnit s1.steps (then_judge (ruled (byte_written_kind (judge.place_at around at) (judge.place_at around from) (held_kind around (here.link from)) (judge.place around i) j k) ea) (λ u e. pays 1 tt e)) ((change (here.link m) (byte_written (place_at here at) (place_at here m) (place here i) y v)).run script s1)) (sym same) (byte_safe here kinds callee above script at from i (held_kind around (here.link from)) j k y v ea s1 refl p h f1)))
-      at_store_safe a at ts k v env s h fits = put_safe here kinds callee above script a at ts k v env s h fits
+      at_store_safe a at ts small k v env s h fits = put_safe here kinds callee above script a at ts k v env s h fits
 
-      dereferenced_safe : (at : ℕ) (t : Tree) (env : Env) (s : State) → Fine env s → Safe (plain Yields) s.steps (judged_dereferenced around at t env) ((dereferenced here at t).run script s)
-      dereferenced_safe at (Node o from stop ts) env s fits = led_safe (action o) at from ts env s fits
+      dereferenced_safe : (at : ℕ) (t : Tree) → Small t → (env : Env) (s : State) → Fine env s → Safe (plain Yields) s.steps (judged_dereferenced around at t env) ((dereferenced here at t).run script s)
+      dereferenced_safe at (Node o from stop ts) small env s fits = led_safe (action o) at from ts small.1 env s fits
 
-      led_safe : (a : Action) (at from : ℕ) (ts : Trees) (env : Env) (s : State) → Fine env s → Safe (plain Yields) s.steps (judged_led around a at from ts env) ((led here a at from ts).run script s)
-      led_safe Index at from (more a (more i (more g none))) env s fits = tick_then here.width kinds above (plain Yields) _ s.steps s _ (λ m.
+      led_safe : (a : Action) (at from : ℕ) (ts : Trees) → SmallAll ts → (env : Env) (s : State) → Fine env s → Safe (plain Yields) s.steps (judged_led around a at from ts env) ((led here a at from ts).run script s)
+      led_safe Index at from (more a (more i (more g none))) small env s fits = tick_then here.width kinds above (plain Yields) _ s.steps s _ (λ m.
           safe_then here.width kinds above IsUnit (plain Yields) m _ _ _ _ (into_same g (λ b. Safe IsUnit m (judged_untargeted around from b env) ((untargeted here from (operator_action here g)).run script (with_steps s m))) (untargeted_safe here kinds callee above script slept from (operator_action here g) env (with_steps s m) (stepped here.width kinds above env s m fits))) (λ u e0 z s0 n0 f0.
-          safe_then here.width kinds above (plain Is) (plain Yields) s0.steps _ _ _ _ (value_safe a e0 s0 f0) (λ j ea x s1 p f1.
-          safe_then here.width kinds above (plain (IsLiteral i)) (plain Yields) s1.steps _ _ _ _ (literal_safe i ea s1 (value_safe i ea s1 f1)) (λ k eb y s2 q f2.
+          safe_then here.width kinds above (plain Is) (plain Yields) s0.steps _ _ _ _ (value_safe a small.0 e0 s0 f0) (λ j ea x s1 p f1.
+          safe_then here.width kinds above (plain (IsLiteral i)) (plain Yields) s1.steps _ _ _ _ (literal_safe i ea s1 (value_safe i small.1.0 ea s1 f1)) (λ k eb y s2 q f2.
           safe_then here.width kinds above (plain Is) (plain Yields) s2.steps _ _ _ _ (lift_safe here kinds callee above script Is (led_kind (judge.place_at around from) (judge.place around a) j (judge.place around i) k (number_of around i)) (element_at (place_at here from) (place here a) x (place here i) y) eb s2 (led_follows here.width _ _ _ _ _ _ j k x y (number_of around i) wide p q.0 q.1) f2) (λ l ec v s3 r f3. (r, f3, omega arith))))))
-      led_safe a at from ts env s fits = tt
+      led_safe a at from ts small env s fits = tt
 
-      values_safe : (ts : Trees) (env : Env) (s : State) → Fine env s → Safe (plain (FitAll here.width)) s.steps (judged_values around ts env) ((values here ts).run script s)
-      values_safe none env s fits = (tt, fits, omega arith)
-      values_safe (more t ts) env s fits =
-          safe_then here.width kinds above (plain Is) (plain (FitAll here.width)) s.steps _ _ _ _ (value_safe t env s fits) (λ k e v s1 p f1.
-          safe_then here.width kinds above (plain (FitAll here.width)) (plain (FitAll here.width)) s1.steps _ _ _ _ (values_safe ts e s1 f1) (λ ks e2 vs s2 q f2. ((p, q), f2, omega arith)))
+      values_safe : (ts : Trees) → SmallAll ts → (env : Env) (s : State) → Fine env s → Safe (plain (FitAll here.width)) s.steps (judged_values around ts env) ((values here ts).run script s)
+      values_safe none small env s fits = (tt, fits, omega arith)
+      values_safe (more t ts) small env s fits =
+          safe_then here.width kinds above (plain Is) (plain (FitAll here.width)) s.steps _ _ _ _ (value_safe t small.0 env s fits) (λ k e v s1 p f1.
+          safe_then here.width kinds above (plain (FitAll here.width)) (plain (FitAll here.width)) s1.steps _ _ _ _ (values_safe ts small.1 e s1 f1) (λ ks e2 vs s2 q f2. ((p, q), f2, omega arith)))
 
-      pub all_safe : (ts : Trees) (env : Env) (s : State) → Fine env s → Safe IsUnit s.steps (judged_all around ts env) ((mean_all here ts).run script s)
-      all_safe none env s fits = (tt, fits, omega arith)
-      all_safe (more t ts) env s fits = safe_then here.width kinds above (plain Yields) IsUnit s.steps _ _ _ _ (mean_safe t env s fits) (λ y e v s1 p f1. all_safe ts e s1 f1)
+      pub all_safe : (ts : Trees) → SmallAll ts → (env : Env) (s : State) → Fine env s → Safe IsUnit s.steps (judged_all around ts env) ((mean_all here ts).run script s)
+      all_safe none small env s fits = (tt, fits, omega arith)
+      all_safe (more t ts) small env s fits = safe_then here.width kinds above (plain Yields) IsUnit s.steps _ _ _ _ (mean_safe t small.0 env s fits) (λ y e v s1 p f1. all_safe ts small.1 e s1 f1)
 
-      block_safe : (ts : Trees) (env : Env) (s : State) → Fine env s → Safe IsUnit s.steps (judged_block around ts env) ((block here ts).run script s)
-      block_safe none env s fits = (tt, fits, omega arith)
-      block_safe (more t ts) env s fits =
+      block_safe : (ts : Trees) → SmallAll ts → (env : Env) (s : State) → Fine env s → Safe IsUnit s.steps (judged_block around ts env) ((block here ts).run script s)
+      block_safe none small env s fits = (tt, fits, omega arith)
+      block_safe (more t ts) small env s fits =
           choice_safe (is_else (operator_of t)) (goes tt) (λ e. then_judge (judged around t e) (λ y. judged_block around ts)) (give tt) (mean here t >>= (λ v. block here ts)) env s (nothing_safe env s fits)
-          (safe_then here.width kinds above (plain Yields) IsUnit s.steps (judged around t env) (λ y e. judged_block around ts e) _ _ (mean_safe t env s fits) (λ y e v s1 p f1. block_safe ts e s1 f1))
+          (safe_then here.width kinds above (plain Yields) IsUnit s.steps (judged around t env) (λ y e. judged_block around ts e) _ _ (mean_safe t small.0 env s fits) (λ y e v s1 p f1. block_safe ts small.1 e s1 f1))
 
-      otherwise_safe : (ts : Trees) (env : Env) (s : State) → Fine env s → Safe IsUnit s.steps (judged_otherwise around ts env) ((otherwise here ts).run script s)
-      otherwise_safe none env s fits = (tt, fits, omega arith)
-      otherwise_safe (more (Node o at stop parts) ts) env s fits = choice_safe (is_else o) (judged_all around parts) (judged_otherwise around ts) (mean_all here parts) (otherwise here ts) env s (all_safe parts env s fits) (otherwise_safe ts env s fits)
+      otherwise_safe : (ts : Trees) → SmallAll ts → (env : Env) (s : State) → Fine env s → Safe IsUnit s.steps (judged_otherwise around ts env) ((otherwise here ts).run script s)
+      otherwise_safe none small env s fits = (tt, fits, omega arith)
+      otherwise_safe (more (Node o at stop parts) ts) small env s fits = choice_safe (is_else o) (judged_all around parts) (judged_otherwise around ts) (mean_all here parts) (otherwise here ts) env s (all_safe parts small.0.1 env s fits) (otherwise_safe ts small.1 env s fits)

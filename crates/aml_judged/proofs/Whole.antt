@@ -15,10 +15,12 @@ use Rattle.aml_meaning.specs.Within.{Callee}
 use Rattle.aml_meaning.specs.Whole.{before}
 use Rattle.aml_bounds.specs.Chains.{is_short}
 use Rattle.aml_judged.specs.Judged.{Always, Accepted}
-use Rattle.aml_judged.specs.Safe.{FitNames, FitScript, IsWord}
+use Rattle.aml_judged.specs.Safe.{FitNames, FitScript}
+use Rattle.aml_judged.specs.Small.{AllSmall}
 use Rattle.aml_judged.specs.Laws.{AreSmall, AreVerdicts, IsCallable, IsDone, evaluation}
 use Rattle.aml_judged.specs.Verdicts.{Judging, AreAccepted, accepted_of, verdict_by}
 use Rattle.aml_judged.proofs.Called.{verdicts_mean}
+use Rattle.aml_judged.proofs.Small.{all_small}
 use Rattle.aml_judged.proofs.Examples.{one, three, leaf, rising, stored_zero, no_link}
 
 abbrev callee : (ℕ → Link) → Trees → Callee
@@ -64,10 +66,13 @@ stands k false false e f = rw (e, f) refl
 are_accepted : AreAccepted all known
 are_accepted = record { each = λ k. stands k (k == 0) (k == 1) refl refl }
 
-some_callee : (k : ℕ) (m : Callee) (b c : Bool) → (if b then Some counts else (if c then Some calls_it else None)) ≡ Some m → (o : _) (ts : Trees) → IsWord 64 (m.literal o ts)
-some_callee k m true c e o ts = let same : counts ≡ m = cc in subst (λ n. IsWord 64 (n.literal o ts)) same (omega arith)
-some_callee k m false true e o ts = let same : calls_it ≡ m = cc in subst (λ n. IsWord 64 (n.literal o ts)) same (omega arith)
-some_callee k m false false e o ts = absurd cc
+zeros_small : (ts : Trees) → AllSmall 64 (λ o parts. Int 0) ts
+zeros_small ts = all_small 64 (λ o parts. Int 0) (λ o parts. omega arith) ts
+
+some_callee : (k : ℕ) (m : Callee) (b c : Bool) → (if b then Some counts else (if c then Some calls_it else None)) ≡ Some m → AllSmall 64 m.literal m.body
+some_callee k m true c e = let same : counts ≡ m = cc in subst (λ n. AllSmall 64 n.literal n.body) same (zeros_small counts.body)
+some_callee k m false true e = let same : calls_it ≡ m = cc in subst (λ n. AllSmall 64 n.literal n.body) same (zeros_small calls_it.body)
+some_callee k m false false e = absurd cc
 
 are_small : AreSmall all
 are_small k m e = some_callee k m (k == 0) (k == 1) e

@@ -3,7 +3,7 @@ use Rattle.std.proofs.Common.{◌≡◌, ◌≤◌, ℕ, [], Option, Some, None,
 use Rattle.std.proofs.lemmas.Bool.{eqb-true}
 use Rattle.std.specs.Prelude.{List, Bool, true, false, ◌==◌, if◌then◌else◌}
 use Rattle.aml_operators.specs.declared.op.Op.TheVariants as op
-use Rattle.aml_operators.specs.Tree.{Trees, Node}
+use Rattle.aml_operators.specs.Tree.{Node}
 use Rattle.aml_namespace.specs.declared.link.Link.TheVariants as link
 use Rattle.aml_namespace.specs.declared.object.Object.TheVariants as object
 use Rattle.aml_namespace.specs.declared.width.Width.TheVariants as width_of
@@ -20,9 +20,11 @@ use Rattle.aml_meaning.specs.Within.{Callee}
 use Rattle.aml_bounds.specs.Chains.{is_short}
 use Rattle.aml_judged.specs.Judged.{Always, Accepted}
 use Rattle.aml_judged.specs.Laws.{AreSmall, AreVerdicts, IsCallable, IsDone, evaluation}
-use Rattle.aml_judged.specs.Safe.{FitNames, FitScript, IsWord}
+use Rattle.aml_judged.specs.Safe.{FitNames, FitScript}
+use Rattle.aml_judged.specs.Small.{AllSmall}
 use Rattle.aml_judged.specs.Verdicts.{Judging, AreAccepted, accepted_of, verdict_by}
 use Rattle.aml_judged.proofs.Called.{verdicts_mean}
+use Rattle.aml_judged.proofs.Small.{all_small}
 use Rattle.aml_judged.proofs.Examples.{one, two, three, leaf}
 
 -- Acquire (a mutex of level 3), Release (it), Return (One)
@@ -67,9 +69,9 @@ stands k false e = rw e refl
 are_accepted : AreAccepted all known
 are_accepted = record { each = λ k. stands k (k == 0) refl }
 
-some_callee : (m : Callee) (b : Bool) → (if b then Some takes_it else None) ≡ Some m → (o : _) (ts : Trees) → IsWord 64 (m.literal o ts)
-some_callee m true e o ts = let same : takes_it ≡ m = cc in subst (λ n. IsWord 64 (n.literal o ts)) same (omega arith)
-some_callee m false e o ts = absurd cc
+some_callee : (m : Callee) (b : Bool) → (if b then Some takes_it else None) ≡ Some m → AllSmall 64 m.literal m.body
+some_callee m true e = let same : takes_it ≡ m = cc in subst (λ n. AllSmall 64 n.literal n.body) same (all_small 64 (λ o parts. Int 0) (λ o parts. omega arith) takes_it.body)
+some_callee m false e = absurd cc
 
 are_small : AreSmall all
 are_small k m e = some_callee m (k == 0) e

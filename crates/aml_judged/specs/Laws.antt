@@ -1,29 +1,28 @@
 -- What a verdict means, and that there is one: the laws.
 use Rattle.std.specs.Prelude.{◌==◌, ◌≡◌, ℕ, ◌≤◌, List, [], ◌∷◌, Option, Some, None, false, if◌then◌else◌, true, false}
-use Rattle.aml_operators.specs.Tree.{Trees}
 use Rattle.aml_namespace.specs.declared.width.Width.{Width}
 use Rattle.aml_namespace.specs.Widths.{bits_of}
 use Rattle.aml_values.specs.Values.{Value}
-use Rattle.aml_operators.specs.declared.op.Op.{Op}
 use Rattle.aml_regions.specs.Events.{Event}
 use Rattle.aml_meaning.specs.State.{State, held_level, Out, Halts, NoAnswer, Spent}
 use Rattle.aml_meaning.specs.Within.{Callee, call_within, most_within, setting_for}
 use Rattle.aml_meaning.specs.Whole.{evaluated}
 use Rattle.aml_judged.specs.Known.{Env}
 use Rattle.aml_judged.specs.Judged.{Accepted, Around}
-use Rattle.aml_judged.specs.Safe.{Allows, IsWord, FitScript, FitAll, FitNames, FitsYield, IsCalled}
+use Rattle.aml_judged.specs.Safe.{Allows, FitScript, FitAll, FitNames, FitsYield, IsCalled}
+use Rattle.aml_judged.specs.Small.{AllSmall}
 use Rattle.aml_judged.specs.Bodies.{judged_method, shared_only}
 use Rattle.aml_bounds.specs.Chains.{is_among, is_short, IsBehindCallees}
 use Rattle.aml_judged.specs.Verdicts.{accepted_of, around_for, called_from, Judging, seen_from, TellsChains, verdict_by, AreAccepted}
 use Rattle.aml_meaning.specs.State as state
 
 module _ (all : Judging) where
-  -- what literals of data hold: integers of the width, bytes, and packages that have not too many
-  -- elements
+  -- what the literals of data in methods' bodies hold: integers of the width, bytes, and packages that
+  -- have not too many elements
   abbrev pub AreSmall : Type 0
   AreSmall =
       (k : ℕ) (m : Callee) → all.methods.callee k ≡ Some m →
-      (o : Op) (ts : Trees) → IsWord all.methods.width (m.literal o ts)
+      AllSmall all.methods.width m.literal m.body
 
   -- verdicts on methods whose integers have 32 or 64 bits, and whose literals are small
   pub record AreVerdicts (known : ℕ → Option Accepted) : Type 0 where

@@ -8,6 +8,7 @@ pub mod Bodies
 pub mod Verdicts
 pub mod Integers
 pub mod Safe
+pub mod Small
 pub mod Laws
 pub mod Sums
 pub mod Events

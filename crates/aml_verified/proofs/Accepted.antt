@@ -6,6 +6,7 @@ use Rattle.aml_judged.specs.Laws.{AreVerdicts, evaluation, HasNoError, IsCallabl
 use Rattle.aml_judged.specs.Verdicts.{AreAccepted, Judging}
 use Rattle.aml_known.specs.declared.accepted.Accepted.{Accepted}
 use Rattle.aml_known.specs.Views.{accepted_of}
+use Rattle.aml_literal_laws.proofs.Literals.{literals_are_small}
 use Rattle.aml_meaning.specs.State.{State}
 use Rattle.aml_meaning.specs.Within.{Callee, Methods}
 use Rattle.aml_methods.specs.Judgings.{Told}
@@ -28,7 +29,7 @@ module _ (told : Told) (c : Checked) (all : Judging) (k : ℕ) (callee : Callee)
   verdicts = record {
     width = (shown c.namespace.now).width;
     bits = ap (λ (m : Methods). m.width) was.judging.methods;
-    small = was.small;
+    small = literals_are_small (shown c.namespace.now) was.judging.bodies all was.bytes was.judging.are was.judging.methods;
     accepted = answer.are;
   }
 

@@ -1,11 +1,12 @@
 -- What it means that the verifier accepted a method: the law.
 use Rattle.std.specs.Prelude.{◌≡◌, ◌≤◌, ℕ, List, Some}
-use Rattle.aml_judged.specs.Laws.{AreSmall, evaluation, HasNoError, IsDone}
+use Rattle.aml_judged.specs.Laws.{evaluation, HasNoError, IsDone}
 use Rattle.aml_judged.specs.Safe.{Allows, FitAll, FitNames, FitScript}
 use Rattle.aml_judged.specs.Verdicts.{Judging}
 use Rattle.aml_kinds.specs.Kinds.{Kind}
 use Rattle.aml_known.specs.declared.accepted.Accepted.{Accepted}
 use Rattle.aml_known.specs.Views.{accepted_of}
+use Rattle.aml_literal_laws.specs.Laws.{TablesAreBytes}
 use Rattle.aml_meaning.specs.State.{held_level, State}
 use Rattle.aml_meaning.specs.Within.{Callee}
 use Rattle.aml_methods.specs.Judgings.{IsJudging, Told}
@@ -21,13 +22,12 @@ use Rattle.aml_verify.specs.declared.verdict.Verdict.TheVariants as verdict
 use Rattle.aml_verify.specs.Said.{verdict_at}
 use Rattle.aml_verify.specs.Verdicts.{IsChecked}
 
--- a method that was accepted, in the setting in which it was judged, of whose literals none is larger
--- than those of a table may be
+-- a method that was accepted, in the setting in which it was judged, where the tables are made of bytes
 pub record WasAccepted (told : Told) (c : Checked) (all : Judging) (k : ℕ) (callee : Callee)
     (a : Accepted) : Type 0 where
   pub checked : IsChecked told c
   pub judging : IsJudging (shown c.namespace.now) told all
-  pub small : AreSmall all
+  pub bytes : TablesAreBytes (shown c.namespace.now).tables
   pub method : Method
   pub there : method_at (shown c.namespace.now) k ≡ Some method
   pub said : verdict_at c.verdicts.items k ≡ Some (verdict.Accepted a)

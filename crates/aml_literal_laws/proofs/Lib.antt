@@ -1,0 +1,5 @@
+pub mod Bytes
+pub mod Tables
+pub mod Counted
+pub mod Words
+pub mod Literals
