@@ -3,7 +3,7 @@
 ghost use Rattle.aml_namespace.specs.Names.{link_with_owns};
 ghost use Rattle.aml_own_names.specs.OwnNamesSeen.{owns_seen};
 ghost use Rattle.aml_namespace.specs.Shows.{shown};
-ghost use Rattle.aml_bodies.specs.Prepared.{AreLinks};
+ghost use Rattle.aml_bodies.specs.Links.{AreLinks};
 
 use aml_bodies::Links;
 use aml_namespace::{Namespace, Width};

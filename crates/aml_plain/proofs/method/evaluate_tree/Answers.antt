@@ -3,7 +3,7 @@ use Rattle.std.proofs.lemmas.Result.{err_from_is_err_and}
 use Rattle.aml_own_names.specs.OwnNamesSeen.{owns_seen}
 use Rattle.aml_namespace.specs.Shows.{shown}
 use Rattle.aml_operators.specs.Tree.{view}
-use Rattle.aml_bodies.proofs.Kept.{prepared_is, prepared_shaped}
+use Rattle.aml_bodies.proofs.Preparing.{prepared_is, prepared_shaped}
 use Rattle.aml_bodies.proofs.Methods.{there}
 use Rattle.aml_plain.proofs.Methods.{stands}
 use Rattle.aml_acts.proofs.Outcomes.{unread}
