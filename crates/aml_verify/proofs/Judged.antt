@@ -1,6 +1,11 @@
 -- What is said of a body that was judged is its method's verdict.
-use Rattle.std.proofs.Common.{◌≡◌, ℕ, List, [], map, slice_get, Option, Some, Ok, Err, refl, sym, ap, subst, ◌∙◌, arith}
-use Rattle.std.specs.Prelude.{Bool}
+use Rattle.std.proofs.Common.{◌≡◌, ℕ, List, [], map, slice_get, Option, Some, None, Ok, Err, refl, sym, ap, subst, ◌∙◌, arith}
+use Rattle.std.specs.Prelude.{◌&&◌, Bool, false}
+use Rattle.aml_contents.specs.Contents.{ContentKinds}
+use Rattle.aml_integers.proofs.Order.{refused_is_not}
+use Rattle.aml_integers.specs.Known.{IsAround, marked}
+use Rattle.aml_integers.specs.Laws.{decided}
+use Rattle.aml_judged.specs.Integers.{are_integers, integer_only_by, integers_in}
 use Rattle.aml_components.specs.declared.components.Components.{Components}
 use Rattle.aml_components.specs.Heights.{is_short_in}
 use Rattle.aml_components.specs.declared.heights.Heights.{Heights}
@@ -13,6 +18,7 @@ use Rattle.aml_judged.specs.Judged.{Around}
 use Rattle.aml_judged.specs.Verdicts as judgement
 use Rattle.aml_judged.specs.Verdicts.{AreAccepted, around_for, called_from, Judging, verdict_by, verdict_of}
 use Rattle.aml_kinds.specs.Kinds.{Kind, Shape}
+use Rattle.aml_known.specs.Views.{accepted_of}
 use Rattle.aml_known.specs.declared.known.Known.{Known}
 use Rattle.aml_known.specs.declared.accepted.Accepted.{Accepted}
 use Rattle.aml_known.specs.declared.stop.Stop.{Stop}
@@ -20,8 +26,8 @@ use Rattle.aml_known.specs.declared.stop.Stop.TheVariants as stop
 use Rattle.aml_judging.specs.Follows.{IsVerdict}
 use Rattle.aml_meaning.specs.declared.part.BufferPart.{BufferPart}
 use Rattle.aml_meaning.specs.Methods.{callee_of}
-use Rattle.aml_meaning.specs.Within.{Callee}
-use Rattle.aml_methods.proofs.Judgings.{callee_there}
+use Rattle.aml_meaning.specs.Within.{Callee, Methods}
+use Rattle.aml_methods.proofs.Judgings.{callee_there, no_callee}
 use Rattle.aml_methods.specs.Judgings.{arguments_of, IsJudging, Told}
 use Rattle.aml_namespace.specs.declared.object.Method.{Method}
 use Rattle.aml_namespace.specs.Load.{Shown}
@@ -34,9 +40,10 @@ use Rattle.aml_shapes.specs.Numbers.{numbered}
 use Rattle.aml_tree.specs.declared.fault.Refusal as tree
 use Rattle.aml_tree.specs.declared.fault.TreeFault.{TreeFault}
 use Rattle.aml_tree.specs.declared.fault.TreeFault.TheVariants as unread
-use Rattle.aml_verify.proofs.Seeing.{body_seen, judged_seen}
+use Rattle.aml_verify.proofs.Seeing.{body_seen, judged_seen, known_said}
 use Rattle.aml_verify.proofs.Stepping.{callee_same}
 use Rattle.aml_verify.specs.Bodies.{around_by, callee_by}
+use Rattle.aml_verify.specs.Said.{accepted_by}
 use Rattle.aml_verify.specs.Verdicts.{IsAtWork, IsRead, Says}
 use Rattle.aml_verify.specs.declared.verdict.Verdict.{Verdict}
 use Rattle.aml_verify.specs.declared.verdict.Verdict.TheVariants as verdict
@@ -76,6 +83,41 @@ module _ (ns : Shown) (told : Told) (shapes : List Shape) (shared : List (Option
 
   pub refused_said : (short : Bool) (kinds : List Kind) (r : Refusal) → short ≡ is_short_in heights 64 k → kinds ≡ arguments_of ns told k m → IsVerdict (numbered shapes) (Verdict_by short kinds) (Err (stop.Refused r)) → SaysRight (verdict.Refused r)
   refused_said short kinds r s args is_v all j known a = is_verdict all j known a short kinds s args ∙ ap Some is_v
+
+  -- a method that is accepted is marked as is decided of it
+  pub accepted_marked : (only others : List Bool) (kinds : List Kind) (x : Accepted) (alone : Bool) → SaysRight (verdict.Accepted x) → kinds ≡ arguments_of ns told k m → others ≡ only
+      → ((methods : Methods) (c : Callee) → IsAround here methods c → alone ≡ (are_integers kinds && integers_in methods c here.kinds.shared (marked others) (views body)))
+      → (all : Judging) → IsJudging ns told all → (known : ℕ → Option judged.Accepted) → AreAccepted all known → alone ≡ decided all known (marked only) k
+  accepted_marked only others kinds x alone says args marks_are is_alone all j known a =
+      let known_is : known k ≡ Some (accepted_of (numbered shapes) x) = a.each k ∙ ap judgement.accepted_of (says all j known a) in
+      let same = around_same all j known a in
+      let around : IsAround here all.methods callee = record {
+        width = ap (λ (x : Around). x.width) (sym same);
+        field = λ i. ap (λ (x : Around). x.field i) (sym same);
+        buffer_field = λ i. ap (λ (x : Around). x.buffer_field i) (sym same);
+        link = λ at. ap (λ (x : Around). x.link at) (sym same);
+      } in
+      let kinds_are : kinds ≡ all.args k = args ∙ sym (j.args k m there) in
+      let shared_is : here.kinds.shared ≡ all.kinds = ap (λ (x : Around). x.kinds.shared) (sym same) in
+      is_alone all.methods callee around
+      ∙ ap (λ (ks : List Kind). are_integers ks && integers_in all.methods callee here.kinds.shared (marked others) (views body)) kinds_are
+      ∙ ap (λ (ks : ContentKinds). are_integers (all.args k) && integers_in all.methods callee ks (marked others) (views body)) shared_is
+      ∙ ap (λ (ms : List Bool). are_integers (all.args k) && integers_in all.methods callee all.kinds (marked ms) (views body)) marks_are
+      ∙ sym (ap (λ (o : Option judged.Accepted). integer_only_by all (marked only) k o (all.methods.callee k)) known_is
+      ∙ ap (λ (o : Option Callee). integer_only_by all (marked only) k (Some (accepted_of (numbered shapes) x)) o) (is_callee all j known a))
+
+-- a method that is not accepted is not marked
+pub refused_marked : (ns : Shown) (told : Told) (shapes : ℕ → Shape) (k : ℕ) (m : Method) (v : Verdict) (only : List Bool) → method_at ns k ≡ Some m → accepted_by shapes (Some v) ≡ None
+    → ((all : Judging) → IsJudging ns told all → (known : ℕ → Option judged.Accepted) → AreAccepted all known → Says ns shapes k m v (verdict_by all known k (all.methods.callee k)))
+    → (all : Judging) → IsJudging ns told all → (known : ℕ → Option judged.Accepted) → AreAccepted all known → false ≡ decided all known (marked only) k
+refused_marked ns told shapes k m v only there refused says all j known a =
+    sym (refused_is_not all known (marked only) k (known_said ns told all j known a shapes k m v there (says all j known a) ∙ refused))
+
+-- nor is what is no method
+pub nothing_marked : (ns : Shown) (told : Told) (k : ℕ) (only : List Bool) → method_at ns k ≡ None
+    → (all : Judging) → IsJudging ns told all → (known : ℕ → Option judged.Accepted) → AreAccepted all known → false ≡ decided all known (marked only) k
+nothing_marked ns told k only none all j known a =
+    sym (refused_is_not all known (marked only) k (a.each k ∙ ap (λ o. judgement.accepted_of (verdict_by all known k o)) (no_callee ns told all j k none)))
 
 pub is_read : (ns : Shown) (k : ℕ) (m : Method) (ts : List Tree) → ReadsBodyOf ns k m (Ok ts) → IsRead ns k m ts
 is_read ns k m ts h = record { is = h }

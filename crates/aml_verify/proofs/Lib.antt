@@ -4,3 +4,7 @@ pub mod Seeing
 pub mod Stepping
 pub mod Judged
 pub mod Beginning
+pub mod Keeping
+pub mod Marking
+pub mod Accepting
+pub mod Finding

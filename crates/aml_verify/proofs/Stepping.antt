@@ -26,7 +26,7 @@ use Rattle.aml_verify.proofs.Places.{method_within, within, said_other, said_sam
 use Rattle.aml_verify.proofs.Seeing.{known_said, one_answer}
 use Rattle.aml_verify.specs.Bodies.{callee_by}
 use Rattle.aml_verify.specs.Said.{accepted_by, verdict_at}
-use Rattle.aml_verify.specs.Verdicts.{IsAtWork, kept, Says}
+use Rattle.aml_verify.specs.Verdicts.{IsAtWork, Says, said_more}
 use Rattle.aml_verify.specs.declared.verdict.Verdict.{Verdict}
 
 is_there : (o : Option Verdict) (v : Verdict) → o ≡ Some v → IsSome o
@@ -165,7 +165,7 @@ module _ (ns : Shown) (told : Told) (shapes : List Shape) (shared : List (Option
   Said k None = method_at ns k ≡ None
 
   -- what is said of the next, if it is a method, is kept
-  pub one_step : (k : ℕ) (said : Option Verdict) → slice_get order judged_so_far ≡ Some k → Said k said → IsAtWork ns told shapes shared heights components order (judged_so_far + 1) (kept verdicts k said)
+  pub one_step : (k : ℕ) (said : Option Verdict) → slice_get order judged_so_far ≡ Some k → Said k said → IsAtWork ns told shapes shared heights components order (judged_so_far + 1) (said_more verdicts k said)
   one_step k (Some said) at h = one_more k h.0 at h.1 said h.2
   one_step k None at h = one_passed k at h
 

@@ -1,3 +1,5 @@
+pub mod Accepts
 pub mod Said
 pub mod Bodies
+pub mod Keeping
 pub mod Verdicts

@@ -1,10 +1,14 @@
 -- What is said of the methods of a namespace.
-use Rattle.std.specs.Prelude.{◌≡◌, ◌≤◌, ◌+◌, ◌-◌, ℕ, List, length, take, slice_get, slice_set, IsSome, Option, Some, None, Ok, Err, true, false}
+use Rattle.std.specs.Prelude.{◌≡◌, ◌≤◌, ◌+◌, ◌-◌, ℕ, List, length, take, slice_get, slice_set, IsSome, Option, Some, None, Ok, Err, Bool, true, false}
+use Rattle.aml_bodies.specs.Kept.{AreAllKept, AreKept, IsKept}
+use Rattle.aml_bodies.specs.declared.keeping.Kept.{Kept}
 use Rattle.aml_bounds.specs.Chains.{is_among}
 use Rattle.aml_bounds.specs.Pairs.{numbers}
 use Rattle.aml_components.specs.declared.components.Components.{Components}
 use Rattle.aml_components.specs.declared.heights.Heights.{Heights}
 use Rattle.aml_contents.specs.FirstContents.{first_kinds}
+use Rattle.aml_integers.specs.Known.{marked}
+use Rattle.aml_integers.specs.Laws.{decided}
 use Rattle.aml_judged.specs.Judged as judged
 use Rattle.aml_judged.specs.Verdicts as judgement
 use Rattle.aml_judged.specs.Verdicts.{AreAccepted, Judging, verdict_by}
@@ -22,10 +26,12 @@ use Rattle.aml_signatures.specs.Signed.{kinds_told}
 use Rattle.aml_tree.specs.declared.fault.TreeFault.TheVariants as unread
 use Rattle.aml_methods.specs.Judgings.{IsJudging, TellsCalls, Told}
 use Rattle.aml_verify.specs.Bodies.{kinds_by}
+use Rattle.aml_verify.specs.Keeping.{AreMarked, KeepsSoFar, MarksSoFar}
 use Rattle.aml_verify.specs.Said.{verdict_at}
 use Rattle.aml_verify.specs.declared.checked.Checked.{Checked}
 use Rattle.aml_verify.specs.declared.verdict.Verdict.{Verdict}
 use Rattle.aml_verify.specs.declared.verdict.Verdict.TheVariants as verdict
+use Rattle.aml_verify.specs.declared.verifier.Found.{Found}
 use Rattle.aml_verify.specs.declared.verifier.Verifier.{Verifier}
 
 -- what is said of the method with a number is its verdict; or its body has no tree, and that is why
@@ -44,13 +50,17 @@ AreRight ns told shapes verdicts =
     (v : Verdict) → verdict_at verdicts k ≡ Some v →
     Says ns shapes k m v (verdict_by all known k (all.methods.callee k))
 
--- verdicts on all methods of a namespace, and on nothing else
+-- verdicts on all methods of a namespace, and on nothing else; of their bodies those are kept that have a tree, and those methods are
+-- marked that evaluate integers alone
 pub record IsChecked (told : Told) (c : Checked) : Type 0 where
   pub right : AreRight (shown c.namespace.now) told (numbered c.shapes) c.verdicts.items
   pub all : (k : ℕ) (m : Method) → method_at (shown c.namespace.now) k ≡ Some m →
       IsSome (verdict_at c.verdicts.items k)
   pub only : (k : ℕ) → method_at (shown c.namespace.now) k ≡ None →
       verdict_at c.verdicts.items k ≡ None
+  pub kept : AreKept (shown c.namespace.now) c.kept.items
+  pub all_kept : AreAllKept (shown c.namespace.now) c.kept.items
+  pub integers : AreMarked (shown c.namespace.now) told c.integers.items
 
 -- a verifier at work: what it says so far is right, of just those methods that it has judged
 pub record IsAtWork (ns : Shown) (told : Told) (shapes : List Shape) (shared : List (Option Known))
@@ -71,9 +81,11 @@ pub record IsAtWork (ns : Shown) (told : Told) (shapes : List Shape) (shared : L
 abbrev pub order_of : Verifier → List ℕ
 order_of v = numbers v.order.items
 
-abbrev pub IsVerifier : Verifier → Type 0
-IsVerifier v = IsAtWork (shown v.namespace.now) (kinds_told v.signatures.now) v.shapes v.shared.items
-    v.heights v.components (order_of v) v.judged v.verdicts.items
+pub record IsVerifier (v : Verifier) : Type 0 where
+  pub at_work : IsAtWork (shown v.namespace.now) (kinds_told v.signatures.now) v.shapes v.shared.items
+      v.heights v.components (order_of v) v.judged v.verdicts.items
+  pub keeps : KeepsSoFar (shown v.namespace.now) (order_of v) v.judged v.kept.items
+  pub marks : MarksSoFar (shown v.namespace.now) (kinds_told v.signatures.now) (order_of v) v.judged v.integers.items
 
 -- another verifier of the same methods in the same order, whose arguments are of the same kinds
 pub record IsOfSame (old new : Verifier) : Type 0 where
@@ -103,10 +115,25 @@ SaidOf v k (Some said) =
     (m : Method) × (method_at (shown v.namespace.now) k ≡ Some m) × SaysNext v k m said
 SaidOf v k None = method_at (shown v.namespace.now) k ≡ None
 
+-- whether the next method is marked as is decided of it, by the marks so far
+abbrev pub MarksNext : Verifier → ℕ → Bool → Type 0
+MarksNext v k mark =
+    (all : Judging) → IsJudging (shown v.namespace.now) (kinds_told v.signatures.now) all →
+    (known : ℕ → Option judged.Accepted) → AreAccepted all known →
+    mark ≡ decided all known (marked v.integers.items) k
+
+-- what is found of a number that is next: what is said of its method, what is kept of its body, where that has a tree, and its mark
+pub record FoundOf (v : Verifier) (k : ℕ) (f : Found) : Type 0 where
+  pub said : SaidOf v k f.verdict
+  pub kept : (one : Kept) → f.kept ≡ Some one → IsKept (shown v.namespace.now) k one
+  pub read : (m : Method) → method_at (shown v.namespace.now) k ≡ Some m →
+      (ts : List Tree) → IsBodyOf (shown v.namespace.now) k m ts → IsSome f.kept
+  pub marks : MarksNext v k f.integers
+
 -- with what is said of one more, where there is room for it
-abbrev pub kept : List (Option Verdict) → ℕ → Option Verdict → List (Option Verdict)
-kept verdicts k (Some said) = slice_set verdicts k (Some said)
-kept verdicts k None = verdicts
+abbrev pub said_more : List (Option Verdict) → ℕ → Option Verdict → List (Option Verdict)
+said_more verdicts k (Some said) = slice_set verdicts k (Some said)
+said_more verdicts k None = verdicts
 
 -- a step answers the number that is next, and what its method is, is said; or none is left, and all
 -- stays

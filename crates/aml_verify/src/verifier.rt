@@ -1,19 +1,23 @@
 // Judging the methods of a namespace, one body at a time.
 
-ghost use Rattle.std.specs.Prelude.{◌≡◌, ◌++◌, ℕ, IfOk, OnErr, None, Some, length, map, slice_get};
+ghost use Rattle.std.specs.Prelude.{◌≡◌, ◌++◌, ℕ, IfOk, OnErr, None, Some, false, length, map, slice_get, slice_set};
+ghost use Rattle.aml_bodies.specs.Kept.{AreOwnsOf, kept_at};
 ghost use Rattle.aml_bounds.specs.Pairs.{numbers};
+ghost use Rattle.aml_integers.specs.Known.{marked};
 ghost use Rattle.aml_namespace.specs.Names.{method_at};
 ghost use Rattle.aml_operators.specs.Tree.{view};
 ghost use Rattle.aml_namespace.specs.Shows.{shown};
 ghost use Rattle.aml_signatures.specs.Signed.{kinds_told};
 ghost use Rattle.aml_verify.specs.Said.{verdict_at};
-ghost use Rattle.aml_verify.specs.Verdicts.{IsChecked, IsOfSame, IsRead, IsVerifier, JudgesNext, kept, left, SaidOf, SaysNext};
+ghost use Rattle.aml_verify.specs.Verdicts.{FoundOf, IsChecked, IsOfSame, IsRead, IsVerifier, JudgesNext, left, MarksNext, said_more, SaysNext};
 
 use crate::body::Body;
 use crate::checked::Checked;
 use crate::verdict::Verdict;
+use aml_bodies::{Kept, keep_with};
 use aml_bounds::call_order;
 use aml_components::{Components, Heights};
+use aml_integers::integers_alone;
 use aml_known::{Known, Stop};
 use aml_methods::{arguments, gathered};
 use aml_namespace::{Method, Namespace};
@@ -42,6 +46,20 @@ pub struct Verifier<'a, 's> {
     judged: usize,
     /// By the numbers of the methods' objects.
     verdicts: Vec<Option<Verdict>>,
+    /// What is kept of the methods' bodies that were read, by the same numbers.
+    kept: Vec<Option<Kept>>,
+    /// Which methods evaluate integers alone, by the same numbers.
+    integers: Vec<bool>,
+}
+
+/// What is found of a method that is judged.
+#[derive(Drop)]
+struct Found {
+    verdict: Option<Verdict>,
+    /// What is kept of its body, where it could be read.
+    kept: Option<Kept>,
+    /// Whether it is accepted and evaluates integers alone.
+    integers: bool,
 }
 
 /// No verdicts, for so many objects.
@@ -59,6 +77,36 @@ fn no_verdicts(alloc: Global, count: usize) -> Result<Vec<Option<Verdict>>, NoMe
     Ok(verdicts)
 }
 
+/// Nothing that is kept, for so many objects.
+fn none_kept(alloc: Global, count: usize) -> Result<Vec<Option<Kept>>, NoMemory>
+    ensures count { IfOk result (λ kept. length kept.items ≡ count) }
+    ensures none { IfOk result (λ kept. (k : ℕ) → kept_at kept.items k ≡ None) }
+{
+    let mut kept = Vec::new(alloc);
+    for _ in 0..count {
+        match kept.push(None) {
+            Ok(()) => {}
+            Err(_) => return Err(NoMemory),
+        }
+    }
+    Ok(kept)
+}
+
+/// No marks, for so many objects.
+fn no_marks(alloc: Global, count: usize) -> Result<Vec<bool>, NoMemory>
+    ensures count { IfOk result (λ marks. length marks.items ≡ count) }
+    ensures none { IfOk result (λ marks. (k : ℕ) → marked marks.items k ≡ false) }
+{
+    let mut marks = Vec::new(alloc);
+    for _ in 0..count {
+        match marks.push(false) {
+            Ok(()) => {}
+            Err(_) => return Err(NoMemory),
+        }
+    }
+    Ok(marks)
+}
+
 /// Methods, and others behind them.
 fn behind(mut order: Vec<ObjectId>, others: &[ObjectId]) -> Result<Vec<ObjectId>, NoMemory>
     ensures { IfOk result (λ all. all.items ≡ order.items ++ others.now) }
@@ -71,10 +119,28 @@ fn behind(mut order: Vec<ObjectId>, others: &[ObjectId]) -> Result<Vec<ObjectId>
 
 /// Keeps what is said of the method with a number, where there is room for it.
 fn keep(verdicts: &mut Vec<Option<Verdict>>, id: ObjectId, said: Option<Verdict>)
-    ensures { verdicts.new.items ≡ kept verdicts.old.items id.0 said }
+    ensures { verdicts.new.items ≡ said_more verdicts.old.items id.0 said }
 {
     if said.is_some() && id.0 < verdicts.len() {
         verdicts[id.0] = said;
+    }
+}
+
+/// Keeps what is found of a body, where there is room for it.
+fn keep_one(kept: &mut Vec<Option<Kept>>, id: ObjectId, one: Option<Kept>)
+    ensures { kept.new.items ≡ slice_set kept.old.items id.0 one }
+{
+    if id.0 < kept.len() {
+        kept[id.0] = one;
+    }
+}
+
+/// Marks a method, where there is room for it.
+fn mark(marks: &mut Vec<bool>, id: ObjectId, one: bool)
+    ensures { marks.new.items ≡ slice_set marks.old.items id.0 one }
+{
+    if id.0 < marks.len() {
+        marks[id.0] = one;
     }
 }
 
@@ -100,7 +166,10 @@ impl<'a, 's> Verifier<'a, 's> {
         let heights = Heights::of(alloc, &pairs, &ordered, &others)?;
         let components = Components::of(alloc, &pairs)?;
         let order = behind(ordered, &others)?;
-        let verdicts = no_verdicts(alloc, namespace.len())?;
+        let count = namespace.len();
+        let verdicts = no_verdicts(alloc, count)?;
+        let kept = none_kept(alloc, count)?;
+        let integers = no_marks(alloc, count)?;
         Ok(Verifier {
             alloc,
             namespace,
@@ -112,6 +181,8 @@ impl<'a, 's> Verifier<'a, 's> {
             order,
             judged: 0,
             verdicts,
+            kept,
+            integers,
         })
     }
 
@@ -124,7 +195,7 @@ impl<'a, 's> Verifier<'a, 's> {
     }
 
     /// Judges the next method, and answers it; None where all are judged. Its body is read, judged and
-    /// dropped.
+    /// dropped; what its names mean is kept.
     ///
     /// # Errors
     ///
@@ -139,51 +210,83 @@ impl<'a, 's> Verifier<'a, 's> {
             return Ok(None);
         }
         let id = self.order[self.judged];
-        let said = self.said(id)?;
-        keep(&mut self.verdicts, id, said);
+        let found = self.found(id)?;
+        keep(&mut self.verdicts, id, found.verdict);
+        keep_one(&mut self.kept, id, found.kept);
+        mark(&mut self.integers, id, found.integers);
         self.judged += 1;
         Ok(Some(id))
     }
 
-    /// What is said of the method with a number, which is next; None where no method has it.
-    fn said(&self, id: ObjectId) -> Result<Option<Verdict>, NoMemory>
+    /// What is found of the method with a number, which is next; nothing where no method has it.
+    fn found(&self, id: ObjectId) -> Result<Found, NoMemory>
         requires next { slice_get (numbers self.now.order.items) self.now.judged ≡ Some id.0 }
-        ensures { IfOk result (λ said. IsVerifier self.now → SaidOf self.now id.0 said) }
+        ensures { IfOk result (λ f. IsVerifier self.now → FoundOf self.now id.0 f) }
     {
         match self.namespace.method(id) {
-            Some(method) => {
-                let verdict = self.judge(id, method)?;
-                Ok(Some(verdict))
-            }
-            None => Ok(None),
+            Some(method) => self.judge(id, method),
+            None => Ok(Found {
+                verdict: None,
+                kept: None,
+                integers: false,
+            }),
         }
     }
 
-    /// What is said of the next method.
-    fn judge(&self, id: ObjectId, method: Method) -> Result<Verdict, NoMemory>
+    /// What is found of the next method.
+    fn judge(&self, id: ObjectId, method: Method) -> Result<Found, NoMemory>
         requires next { slice_get (numbers self.now.order.items) self.now.judged ≡ Some id.0 }
         requires there { method_at (shown self.now.namespace.now) id.0 ≡ Some method }
-        ensures { IfOk result (λ said. IsVerifier self.now → SaysNext self.now id.0 method said) }
+        ensures { IfOk result (λ f. IsVerifier self.now → FoundOf self.now id.0 f) }
     {
         match self.namespace.tree(self.alloc, id) {
             Ok(body) => self.judge_body(id, method, &body),
-            Err(TreeFault::Refused(refusal)) => Ok(Verdict::Unreadable {
-                table: method.table,
-                refusal,
+            Err(TreeFault::Refused(refusal)) => Ok(Found {
+                verdict: Some(Verdict::Unreadable {
+                    table: method.table,
+                    refusal,
+                }),
+                kept: None,
+                integers: false,
             }),
             Err(TreeFault::NoMemory) => Err(NoMemory),
         }
     }
 
     /// The same where its statements are read.
-    fn judge_body(&self, id: ObjectId, method: Method, body: &[Term]) -> Result<Verdict, NoMemory>
+    fn judge_body(&self, id: ObjectId, method: Method, body: &[Term]) -> Result<Found, NoMemory>
         requires next { slice_get (numbers self.now.order.items) self.now.judged ≡ Some id.0 }
         requires there { method_at (shown self.now.namespace.now) id.0 ≡ Some method }
         requires read { IsRead (shown self.now.namespace.now) id.0 method (map view body.now) }
-        ensures { IfOk result (λ said. IsVerifier self.now → SaysNext self.now id.0 method said) }
+        ensures { IfOk result (λ f. IsVerifier self.now → FoundOf self.now id.0 f) }
     {
         let bytes = self.namespace.body_bytes(id);
         let owns = OwnNames::of(self.alloc, bytes, body)?;
+        let (verdict, integers) = self.judge_with(id, method, &owns, body)?;
+        let kept = keep_with(self.alloc, self.namespace, id, owns, body)?;
+        Ok(Found {
+            verdict: Some(verdict),
+            kept: Some(kept),
+            integers,
+        })
+    }
+
+    /// Its verdict, and whether it is accepted and evaluates integers alone.
+    fn judge_with(
+        &self,
+        id: ObjectId,
+        method: Method,
+        owns: &OwnNames,
+        body: &[Term],
+    ) -> Result<(Verdict, bool), NoMemory>
+        requires next { slice_get (numbers self.now.order.items) self.now.judged ≡ Some id.0 }
+        requires there { method_at (shown self.now.namespace.now) id.0 ≡ Some method }
+        requires read { IsRead (shown self.now.namespace.now) id.0 method (map view body.now) }
+        requires made { AreOwnsOf (shown self.now.namespace.now) id.0 (map view body.now) owns.now }
+        ensures said { IfOk result (λ f. IsVerifier self.now → SaysNext self.now id.0 method f.0) }
+        ensures marks { IfOk result (λ f. IsVerifier self.now → MarksNext self.now id.0 f.1) }
+    {
+        let bytes = self.namespace.body_bytes(id);
         let args = arguments(self.alloc, self.namespace, self.signatures, id, method.args)?;
         let mut around = Body {
             alloc: self.alloc,
@@ -191,7 +294,7 @@ impl<'a, 's> Verifier<'a, 's> {
             method: id,
             table: method.table,
             bytes,
-            owns: &owns,
+            owns,
             shapes: &self.shapes,
             shared: &self.shared,
             verdicts: &self.verdicts,
@@ -201,10 +304,11 @@ impl<'a, 's> Verifier<'a, 's> {
             fields: Vec::new(self.alloc),
         };
         self.shapes.are_apart();
+        let alone = integers_alone(&around, &self.integers, &args, body);
         let short = self.heights.is_short(id, 64);
         match judge(self.alloc, &mut around, short, method.at, args, body) {
-            Ok(accepted) => Ok(Verdict::Accepted(accepted)),
-            Err(Stop::Refused(refusal)) => Ok(Verdict::Refused(refusal)),
+            Ok(accepted) => Ok((Verdict::Accepted(accepted), alone)),
+            Err(Stop::Refused(refusal)) => Ok((Verdict::Refused(refusal), false)),
             Err(Stop::NoMemory) => Err(NoMemory),
         }
     }
@@ -222,6 +326,8 @@ impl<'a, 's> Verifier<'a, 's> {
             shapes: self.shapes,
             shared: self.shared,
             verdicts: self.verdicts,
+            kept: self.kept,
+            integers: self.integers,
         }
     }
 }

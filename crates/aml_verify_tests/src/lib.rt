@@ -2,4 +2,6 @@
 #![tactic(auto)]
 
 #[cfg(test)]
+mod keeping;
+#[cfg(test)]
 mod verdicts;

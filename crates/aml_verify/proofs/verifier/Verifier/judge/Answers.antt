@@ -1,12 +1,11 @@
 use Rattle.aml_namespace.specs.Shows.{shown}
-use Rattle.aml_shapes.specs.Numbers.{numbered}
-use Rattle.aml_signatures.specs.Signed.{kinds_told}
-use Rattle.aml_verify.proofs.Judged.{is_read, unread_said}
+use Rattle.aml_verify.proofs.Finding.{unread_found}
+use Rattle.aml_verify.proofs.Judged.{is_read}
 use Rattle.aml_verify.proofs.verifier.Verifier.judge.Goals as goal
 
 pub judge_body-requires-clause-read : goal.judge_body-requires-clause-read
 judge_body-requires-clause-read c = rw c.deref.ensures.value (is_read (shown c.args.self.now.namespace.now) c.args.id.0 c.args.method _ (c.in-Ok.ensures c.args.method c.requires.there))
 
 pub returns-in-Err-Refused : goal.returns-in-Err-Refused
-returns-in-Err-Refused c = λ is. let v = c.args.self.now in
-    rw c.in-Err-Refused.refusal-is (unread_said (shown v.namespace.now) (kinds_told v.signatures.now) (numbered v.shapes) c.args.id.0 c.args.method c.in-Err-Refused.field-0 c.in-Err-Refused.refusal c.in-Err-Refused.field-0-is (c.in-Err-Refused.ensures c.args.method c.requires.there))
+returns-in-Err-Refused c = λ is.
+    rw c.in-Err-Refused.refusal-is (unread_found c.args.self.now c.args.id.0 c.args.method c.in-Err-Refused.field-0 c.in-Err-Refused.refusal c.requires.there c.in-Err-Refused.field-0-is (c.in-Err-Refused.ensures c.args.method c.requires.there))

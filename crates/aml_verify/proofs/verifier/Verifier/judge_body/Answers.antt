@@ -1,26 +1,24 @@
-use Rattle.std.proofs.Common.{refl}
-use Rattle.aml_bounds.specs.Pairs.{numbers}
+use Rattle.std.proofs.Common.{map}
+use Rattle.aml_bodies.proofs.Keeps.{owns_made}
 use Rattle.aml_namespace.specs.Shows.{shown}
-use Rattle.aml_own_names.specs.OwnNamesSeen.{owns_seen}
-use Rattle.aml_shapes.specs.Numbers.{numbered}
-use Rattle.aml_signatures.specs.Signed.{kinds_told}
-use Rattle.aml_verify.proofs.Judged.{accepted_said, is_refused, refused_said, still_at_work}
+use Rattle.aml_operators.specs.Tree.{view}
+use Rattle.aml_verify.proofs.Finding.{are_statements, is_known, read_found}
 use Rattle.aml_verify.proofs.verifier.Verifier.judge_body.Goals as goal
 
-pub returns-in-Ok : goal.returns-in-Ok
-returns-in-Ok c = λ is. let v = c.args.self.now in
-    accepted_said (shown v.namespace.now) (kinds_told v.signatures.now) v.shapes c.deref.result.now v.heights v.components (numbers v.order.items) v.judged c.deref-2.result.now
-    (still_at_work (shown v.namespace.now) (kinds_told v.signatures.now) v.shapes v.shared.items c.deref.result.now v.heights v.components (numbers v.order.items) v.judged v.verdicts.items c.deref-2.result.now c.deref.ensures.value c.deref-2.ensures.value is)
-    c.args.id.0 c.args.method c.requires.next c.requires.there c.args.body.now c.requires.read
-    c.body_bytes-bytes.result.now (c.body_bytes-bytes.ensures c.args.method c.requires.there) (owns_seen c.in_ok-owns.owns) c.in_ok-owns.ensures
-    c.new.result.items c.new.ensures.items c.new-2.result.items c.new-2.ensures.items
-    c.is_short-short.result _ c.in-Ok.accepted c.is_short-short.ensures (c.in_ok-args.ensures _ c.args.method refl) (c.in-Ok.ensures c.are_apart.ensures)
+pub judge_with-requires-clause-made : goal.judge_with-requires-clause-made
+judge_with-requires-clause-made c =
+    owns_made (shown c.args.self.now.namespace.now) c.args.id.0 (map view c.args.body.now) c.in_ok-owns.owns c.body_bytes-bytes.result.now c.in_ok-owns.ensures c.body_bytes-bytes.ensures
 
-pub returns-in-Err-Refused : goal.returns-in-Err-Refused
-returns-in-Err-Refused c = λ is. let v = c.args.self.now in
-    refused_said (shown v.namespace.now) (kinds_told v.signatures.now) v.shapes c.deref.result.now v.heights v.components (numbers v.order.items) v.judged c.deref-2.result.now
-    (still_at_work (shown v.namespace.now) (kinds_told v.signatures.now) v.shapes v.shared.items c.deref.result.now v.heights v.components (numbers v.order.items) v.judged v.verdicts.items c.deref-2.result.now c.deref.ensures.value c.deref-2.ensures.value is)
-    c.args.id.0 c.args.method c.requires.next c.requires.there c.args.body.now c.requires.read
-    c.body_bytes-bytes.result.now (c.body_bytes-bytes.ensures c.args.method c.requires.there) (owns_seen c.in_ok-owns.owns) c.in_ok-owns.ensures
-    c.new.result.items c.new.ensures.items c.new-2.result.items c.new-2.ensures.items
-    c.is_short-short.result _ c.in-Err-Refused.refusal c.is_short-short.ensures (c.in_ok-args.ensures _ c.args.method refl) (is_refused (numbered v.shapes) _ c.in-Err-Refused.field-0 c.in-Err-Refused.refusal c.in-Err-Refused.field-0-is (c.in-Err-Refused.ensures c.are_apart.ensures))
+pub keep_with-requires-clause-read : goal.keep_with-requires-clause-read
+keep_with-requires-clause-read c = are_statements (shown c.args.self.now.namespace.now) c.args.id.0 c.args.method (map view c.args.body.now) c.requires.there c.requires.read
+
+pub keep_with-requires-clause-made : goal.keep_with-requires-clause-made
+keep_with-requires-clause-made c =
+    owns_made (shown c.args.self.now.namespace.now) c.args.id.0 (map view c.args.body.now) c.in_ok-owns.owns c.body_bytes-bytes.result.now c.in_ok-owns.ensures c.body_bytes-bytes.ensures
+
+pub keep_with-requires-clause-known : goal.keep_with-requires-clause-known
+keep_with-requires-clause-known c = is_known _ c.args.method c.requires.there
+
+pub returns : goal.returns
+returns c = λ is.
+    read_found c.args.self.now c.args.id.0 c.args.method c.in_ok-verdict.verdict c.in_ok-kept.kept c.in_ok-verdict.integers c.requires.there (c.in_ok-verdict.ensures.said is) c.in_ok-kept.ensures (c.in_ok-verdict.ensures.marks is)

@@ -1,0 +1,44 @@
+-- What a verifier keeps of the bodies that it read, and which methods it marks as those that evaluate integers alone.
+use Rattle.std.specs.Prelude.{◌≡◌, ℕ, Bool, List, length, take, Option, Some, None, IsSome, true}
+use Rattle.std.specs.Option.{option_map}
+use Rattle.aml_bodies.specs.Kept.{AreKept, kept_at}
+use Rattle.aml_bodies.specs.declared.keeping.Kept.{Kept}
+use Rattle.aml_bounds.specs.Chains.{is_among}
+use Rattle.aml_integers.specs.Known.{marked}
+use Rattle.aml_integers.specs.Laws.{AreDecided}
+use Rattle.aml_judged.specs.Integers.{AreIntegerOnly}
+use Rattle.aml_judged.specs.Judged.{Accepted}
+use Rattle.aml_judged.specs.Verdicts.{AreAccepted, Judging}
+use Rattle.aml_methods.specs.Judgings.{IsJudging, Told}
+use Rattle.aml_namespace.specs.declared.object.Method.{Method}
+use Rattle.aml_namespace.specs.Load.{Shown}
+use Rattle.aml_namespace.specs.Names.{IsBodyOf, body_bytes, method_at}
+use Rattle.aml_operators.specs.Tree.{Tree}
+
+-- of the bodies of those methods that are judged each that has a tree is kept
+pub record KeepsSoFar (ns : Shown) (order : List ℕ) (judged : ℕ) (kept : List (Option Kept)) : Type 0 where
+  pub room : length kept ≡ length ns.entries
+  pub are : AreKept ns kept
+  pub all : (k : ℕ) (m : Method) → method_at ns k ≡ Some m → is_among k (take judged order) ≡ true →
+      (ts : List Tree) → IsBodyOf ns k m ts → IsSome (kept_at kept k)
+
+-- those methods that are judged are marked as is decided of them, others are not marked
+pub record MarksSoFar (ns : Shown) (told : Told) (order : List ℕ) (judged : ℕ) (only : List Bool) : Type 0 where
+  pub room : length only ≡ length ns.entries
+  pub are : (all : Judging) → IsJudging ns told all → (known : ℕ → Option Accepted) → AreAccepted all known →
+      AreDecided all known (λ k. is_among k (take judged order)) (marked only)
+
+-- marked are those methods that evaluate integers alone
+abbrev pub AreMarked : Shown → Told → List Bool → Type 0
+AreMarked ns told only =
+    (all : Judging) → IsJudging ns told all → (known : ℕ → Option Accepted) → AreAccepted all known →
+    AreIntegerOnly all known (marked only)
+
+-- the table of a method, the place there of its body's first byte, and the table's bytes up to the body's end
+abbrev pub place_of : Shown → Method → ℕ × ℕ × List ℕ
+place_of ns m = (m.table, m.body.at, body_bytes ns m)
+
+-- the same of the method with a number, where it is accepted
+abbrev pub body_of : Shown → ℕ → Option Accepted → Option (ℕ × ℕ × List ℕ)
+body_of ns k None = None
+body_of ns k (Some a) = option_map (place_of ns) (method_at ns k)
