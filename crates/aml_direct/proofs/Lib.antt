@@ -1,0 +1,15 @@
+pub mod Terms
+pub mod Never
+pub mod Simple
+pub mod Sizes
+pub mod Leaves
+pub mod Choices
+pub mod Named
+pub mod Bodies
+pub mod Fields
+pub mod Left
+pub mod Calls
+pub mod Stated
+pub mod Arguments
+pub mod Blocks
+pub mod Operands

@@ -1,0 +1,7 @@
+pub mod Data
+pub mod Fields
+pub mod Keeps
+pub mod Methods
+pub mod Past
+pub mod Quiet
+pub mod Tells

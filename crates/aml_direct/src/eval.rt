@@ -1,0 +1,8 @@
+// The evaluator: a cycle of functions, each one form of the meaning, read where it stands.
+
+mod blocks;
+pub mod calls;
+mod elements;
+mod operators;
+mod stores;
+mod terms;
