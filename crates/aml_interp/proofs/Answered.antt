@@ -1,0 +1,102 @@
+-- What an evaluation of an accepted method answers.
+use Rattle.std.proofs.Common.{◌≡◌, ℕ, List, Some, Result, Ok, Err, subst}
+use Rattle.std.specs.Prelude.{IfOk, OnErr}
+use Rattle.aml_bodies.proofs.Around.{around_there}
+use Rattle.aml_bodies.specs.Methods.{Around}
+use Rattle.aml_direct.specs.Methods.{Evaluates}
+use Rattle.aml_interp.proofs.Accepted.{ends_so, ready}
+use Rattle.aml_interp.proofs.Ends.{body_untold, done_well, kinds_kept}
+use Rattle.aml_interp.proofs.Ready.{body, method}
+use Rattle.aml_interp.specs.Answers.{Answers, IsCutShort, IsDone, IsReady, value_answered}
+use Rattle.aml_interp.specs.Headline.{AreAnswers, AreOfKinds, Headline, IsAccepted, IsDoneWell, verdict_of}
+use Rattle.aml_known.specs.declared.accepted.Accepted.{Accepted}
+use Rattle.aml_meaning.proofs.Runs.{prefix_refl}
+use Rattle.aml_meaning.specs.Methods.{methods_of, setting_in}
+use Rattle.aml_meaning.specs.State.{Names}
+use Rattle.aml_meaning.specs.Whole.{before, evaluated}
+use Rattle.aml_meaning.specs.Within.{most_within}
+use Rattle.aml_meaning.specs.declared.outcome.Outcome.{Outcome}
+use Rattle.aml_meaning.specs.declared.outcome.Outcome.TheVariants as outcome
+use Rattle.aml_methods.specs.Judgings.{Told}
+use Rattle.aml_namespace.specs.Names.{IsBodyOf, method_at}
+use Rattle.aml_namespace.specs.Shows.{shown}
+use Rattle.aml_namespace.specs.declared.object.Method.{Method}
+use Rattle.aml_operators.specs.Tree.{Tree, trees}
+use Rattle.aml_paths.specs.declared.memory.NoMemory.{NoMemory}
+use Rattle.aml_regions.specs.Events.{Event}
+use Rattle.aml_steady.proofs.Methods.{keeps_call_within}
+use Rattle.aml_values.specs.Values.{Value}
+use Rattle.aml_verify.specs.Said.{verdict_at}
+use Rattle.aml_verify.specs.declared.checked.Checked.{Checked}
+use Rattle.aml_verify.specs.declared.verdict.Verdict.TheVariants as verdict
+
+module _ (c : Checked) (k : ℕ) (values : List Value) (names : Names) (log : List Event) (names_left : Names) (log_left : List Event) where
+  -- an evaluation with so many steps as the one verdict on the method says
+  pub answers_by : (answer : Result Outcome NoMemory) (a : Accepted) → verdict_at c.verdicts.items k ≡ Some (verdict.Accepted a) →
+      ((m : Method) → method_at (shown c.namespace.now) k ≡ Some m → (ts : List Tree) → IsBodyOf (shown c.namespace.now) k m ts →
+      Evaluates (shown c.namespace.now) k m (trees ts) values a.bound names log answer names_left log_left) →
+      Answers c k values names log answer names_left log_left
+  answers_by answer a said did = record {
+    are = λ b other m there ts body.
+        let same : a ≡ b = cc in
+        subst (λ (x : Accepted). Evaluates (shown c.namespace.now) k m (trees ts) values x.bound names log answer names_left log_left) same
+        (did m there ts body);
+  }
+
+  -- where one ends, it has gone no further than its steps take it
+  pub untold : (o : Outcome) (e : NoMemory) → Answers c k values names log (Ok o) names_left log_left → Answers c k values names log (Err e) names_left log_left
+  untold o e did = record {
+    are = λ a said m there ts body around.
+        body_untold (setting_in (shown c.namespace.now) around.bodies k m (trees ts)) (trees ts) values a.bound names log o e names_left log_left
+        (did.are a said m there ts body around);
+  }
+
+  -- what is answered of an outcome says the same
+  pub value_told : (answer : Result Outcome NoMemory) → Answers c k values names log answer names_left log_left →
+      IfOk (value_answered answer) (λ value. IsDone c k values names log value names_left log_left)
+  value_told (Ok (outcome.Done value)) did = did
+  value_told (Ok (outcome.AmlError e)) did = tt
+  value_told (Ok outcome.OutOfSteps) did = tt
+  value_told (Err e) did = tt
+
+  pub memory_told : (answer : Result Outcome NoMemory) → Answers c k values names log answer names_left log_left →
+      OnErr (value_answered answer) (IsCutShort c k values names log names_left log_left)
+  memory_told (Ok (outcome.Done value)) did = tt
+  memory_told (Ok (outcome.AmlError e)) did = untold (outcome.AmlError e) (record {}) did
+  memory_told (Ok outcome.OutOfSteps) did = untold outcome.OutOfSteps (record {}) did
+  memory_told (Err e) did = did
+
+  -- names are of the kinds that they were of
+  pub kinds_stay : (a : Accepted) → IsReady c → verdict_at c.verdicts.items k ≡ Some (verdict.Accepted a) →
+      (answer : Result Outcome NoMemory) → Answers c k values names log answer names_left log_left → names_left.kinds ≡ names.kinds
+  kinds_stay a is said answer did =
+      let m = method c is k a said in
+      let b = body c is k a said m.0 m.1 in
+      let around : Around (shown c.namespace.now) = around_there (shown c.namespace.now) in
+      kinds_kept (setting_in (shown c.namespace.now) around.bodies k m.0 (trees b.0)) (trees b.0) values a.bound names log
+      (keeps_call_within (methods_of (shown c.namespace.now) around.bodies) most_within) answer names_left log_left
+      (did.are a said m.0 m.1 b.0 b.1 around)
+
+  -- and what is told is done
+  module _ (told : Told) (a : Accepted) (is : IsAccepted told c k a) (fits : AreOfKinds (shown c.namespace.now) (verdict_of c a) values names)
+      (answers : AreAnswers (shown c.namespace.now) (verdict_of c a) log_left) where
+    pub is_done : (o : Outcome) → Answers c k values names log (Ok o) names_left log_left → IsDoneWell (shown c.namespace.now) (verdict_of c a) o names_left
+    is_done o did =
+        let r = ready told c is.checked in
+        let m = method c r k a is.said in
+        let b = body c r k a is.said m.0 m.1 in
+        let around : Around (shown c.namespace.now) = around_there (shown c.namespace.now) in
+        let t = (did.are a is.said m.0 m.1 b.0 b.1 around).tells log_left (prefix_refl log_left) in
+        done_well (shown c.namespace.now) (verdict_of c a) o
+        (evaluated (setting_in (shown c.namespace.now) around.bodies k m.0 (trees b.0)) (trees b.0) values log_left (before names a.bound log))
+        names_left log_left
+        (ends_so told c k a is m.0 m.1 b.0 b.1 around values names fits log log_left answers)
+        t.0 t.1
+
+pub headline : Headline
+headline = record {
+  meaning = λ told c k a is m there ts body around values names fits log script answers.
+      ends_so told c k a is m there ts body around values names fits log script answers;
+  answer = λ told c k a is values names fits log o names_left log_left answers did.
+      is_done c k values names log names_left log_left told a is fits answers o did;
+}

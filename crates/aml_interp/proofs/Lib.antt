@@ -1,0 +1,6 @@
+pub mod Bodies
+pub mod Ends
+pub mod Taken
+pub mod Accepted
+pub mod Ready
+pub mod Answered
