@@ -1,0 +1,17 @@
+//! What an interrupt routing table needs to be followed: the link devices that a `_PRT` names, and the
+//! resource descriptors that each one's `_CRS` gives (ACPI 6.5, 6.2.13 and 6.2.2).
+#![tactic(auto)]
+
+mod crs;
+mod devices;
+mod fault;
+mod links;
+mod notes;
+mod prt;
+
+pub use crs::{crs_of, items_of_device};
+pub use devices::{device_at, devices_in};
+pub use fault::{LinkFault, LinkRefusal};
+pub use links::items_of_links;
+pub use notes::{entry_note, link_text, source_text};
+pub use prt::{Prt, prt_of};
