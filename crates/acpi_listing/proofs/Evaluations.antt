@@ -1,5 +1,5 @@
 -- Laws of listing names and of evaluating methods.
-use Rattle.std.proofs.Common.{◌≡◌, ◌∙◌, ℕ, List, [], Bor, Option, Some, None, Result, Ok, Err, ap, refl, subst, sym}
+use Rattle.std.proofs.Common.{◌≡◌, ◌∙◌, ℕ, List, [], map, Bool, Bor, Option, Some, None, Result, Ok, Err, ap, refl, subst, sym}
 use Rattle.std.specs.Prelude.{IsErrAnd, true}
 use Rattle.aml_namespace.specs.declared.object.Method.{Method}
 use Rattle.aml_namespace.specs.Load.{Shown}
@@ -18,7 +18,13 @@ use Rattle.acpi_listing.specs.Loading.{IsNamespace, Loads, interfaces_of}
 use Rattle.acpi_listing.specs.Registers.{OpensRegisters, ReadsRegisters}
 use Rattle.acpi_listing.specs.Signatures.{OpensSignatures, ReadsSignatures}
 use Rattle.acpi_verdicts.specs.Verdicts.{said_of, said_text}
+use Rattle.aml_known.specs.Views.{kinds_of}
 use Rattle.aml_known.specs.declared.accepted.Accepted.{Accepted}
+use Rattle.aml_shapes.specs.Numbers.{numbered}
+use Rattle.aml_values.specs.Views.{view}
+use Rattle.aml_values.specs.declared.value.Value as held
+use Rattle.aml_verify.specs.Accepts.{accepts_by, all_fit}
+use Rattle.aml_verify.specs.Said.{accepted_by, verdict_at}
 use Rattle.aml_methods.specs.Judgings.{Told}
 use Rattle.aml_signatures.specs.Signed.{kinds_told}
 use Rattle.aml_signatures.specs.declared.signatures.Signatures.{Signatures}
@@ -28,7 +34,7 @@ use Rattle.aml_verify.specs.declared.verdict.Verdict.TheVariants as verdict
 use Rattle.aml_regions.specs.Registers.{contents}
 use Rattle.aml_registers.specs.declared.registers.Registers.{Registers}
 use Rattle.acpi_listing.specs.Steps.{Step, Then, Obtains, Still, Tells, Writes}
-use Rattle.acpi_listing.specs.Commands.{Accepts, AreVerdictsOn, EvaluatesBody, EvaluatesFiles, EvaluatesFound, EvaluatesJudged, EvaluatesMethod, EvaluatesTables, Finds, Fit, IsMeant, IsMethodAt, Judges, ListsNames, ReadsArguments, ReadsBody, Takes, are_of, evaluation_text, outcome_status}
+use Rattle.acpi_listing.specs.Commands.{Accepts, AreVerdictsOn, EvaluatesBody, EvaluatesFiles, EvaluatesFound, EvaluatesJudged, EvaluatesMethod, EvaluatesTables, Finds, Fit, IsMeant, IsMethodAt, Judges, ListsNames, ReadsArguments, ReadsBody, Takes, evaluation_text, outcome_status}
 use Rattle.acpi_listing.specs.declared.fault.Fault.{Fault}
 use Rattle.acpi_listing.specs.declared.fault.Stop.{Stop}
 use Rattle.acpi_listing.specs.declared.fault.Stop.TheVariants.{Fault as Faulty}
@@ -102,6 +108,14 @@ module _ (bytes : ℕ → ℕ → ℕ) (ns : Shown) (id : ℕ) (m : Method) (arg
         (given (Fit ns m arguments) behind_fit tt tt held holds tt r takes
         (given (IsMeant ns bytes id m (trees ts) arguments steps) behind_outcome tt tt held holds outcome r meant does))
 
+-- what is answered of an accepted method's arguments is whether each is of its kind
+pub all_fit_as : (checked : Checked) (k : ℕ) (accepted : Accepted) (listed values : List held.Value) (answer b : Bool) → listed ≡ values → said_of checked k ≡ Some (verdict.Accepted accepted)
+    → answer ≡ accepts_by (accepted_by (numbered checked.shapes) (verdict_at checked.verdicts.items k)) (map view listed) → answer ≡ b
+    → all_fit (map view values) (kinds_of (numbered checked.shapes) accepted.args.items) ≡ b
+all_fit_as checked k accepted listed values answer b are said is does =
+    ap (λ (vs : List held.Value). all_fit (map view vs) (kinds_of (numbered checked.shapes) accepted.args.items)) (sym are)
+    ∙ ap (λ (o : Option Verdict). accepts_by (accepted_by (numbered checked.shapes) o) (map view listed)) (sym said) ∙ sym is ∙ does
+
 -- a method that is judged first
 module _ (bytes : ℕ → ℕ → ℕ) (told : Told) (ns : Shown) (arguments : List Value) (found : ℕ × Method) where
   abbrev behind_verdicts : Checked → Step (Unit {0}) ℕ
@@ -121,17 +135,17 @@ module _ (bytes : ℕ → ℕ → ℕ) (told : Told) (ns : Shown) (arguments : L
 
     -- one that is accepted, and takes the arguments or not
     pub not_taken : (accepted : Accepted) (held : Option (List ℕ)) (f : Fault) (r : Result ℕ Stop) → IsErrAnd r (λ s. s ≡ Faulty f)
-        → said_of checked found.0 ≡ Some (verdict.Accepted accepted) → Accepts accepted arguments (Err f)
+        → said_of checked found.0 ≡ Some (verdict.Accepted accepted) → Accepts checked accepted arguments (Err f)
         → Writes (EvaluatesFound bytes told ns arguments None found) tt tt held held r
     not_taken accepted held f r is said refuses = after_verdicts _ held held r said
-        (given_fault (Accepts accepted arguments) (λ _. EvaluatesMethod bytes ns arguments accepted.bound found) tt held f r is refuses)
+        (given_fault (Accepts checked accepted arguments) (λ _. EvaluatesMethod bytes ns arguments accepted.bound found) tt held f r is refuses)
 
     pub taken : (accepted : Accepted) (held holds : Option (List ℕ)) (r : Result ℕ Stop)
-        → said_of checked found.0 ≡ Some (verdict.Accepted accepted) → are_of accepted.args.items arguments ≡ true
+        → said_of checked found.0 ≡ Some (verdict.Accepted accepted) → Accepts checked accepted arguments (Ok tt)
         → Writes (EvaluatesMethod bytes ns arguments accepted.bound found) tt tt held holds r
         → Writes (EvaluatesFound bytes told ns arguments None found) tt tt held holds r
     taken accepted held holds r said takes does = after_verdicts _ held holds r said
-        (given (Accepts accepted arguments) (λ _. EvaluatesMethod bytes ns arguments accepted.bound found) tt tt held holds tt r takes does)
+        (given (Accepts checked accepted arguments) (λ _. EvaluatesMethod bytes ns arguments accepted.bound found) tt tt held holds tt r takes does)
 
     -- and any other
     other : (said : Option Verdict) (held holds : Option (List ℕ)) (r : Result ℕ Stop) → ((a : Accepted) → said ≡ Some (verdict.Accepted a) → ⊥)

@@ -60,11 +60,12 @@ use Rattle.acpi_listing.specs.declared.words.Request.{Request}
 use Rattle.acpi_listing.specs.declared.words.Request.TheVariants.{Tables, Names, Verify, Eval, Resources}
 use Rattle.acpi_verdicts.specs.Verdicts.{any_refused, said_of, said_text, verdicts_text}
 use Rattle.aml_known.specs.declared.accepted.Accepted.{Accepted}
-use Rattle.aml_known.specs.declared.known.Known.{Known}
-use Rattle.aml_known.specs.declared.known.Known.TheVariants as known
+use Rattle.aml_known.specs.Views.{kinds_of}
 use Rattle.aml_methods.specs.Judgings.{Told}
 use Rattle.aml_namespace.specs.Shows.{shown}
 use Rattle.aml_signatures.specs.Signed.{kinds_told}
+use Rattle.aml_shapes.specs.Numbers.{numbered}
+use Rattle.aml_verify.specs.Accepts.{all_fit}
 use Rattle.aml_verify.specs.Verdicts.{IsChecked}
 use Rattle.aml_verify.specs.declared.checked.Checked.{Checked}
 use Rattle.aml_verify.specs.declared.verdict.Verdict.{Verdict}
@@ -198,31 +199,17 @@ abbrev pub EvaluatesMethod : (ℕ → ℕ → ℕ) → Shown → List Value → 
 EvaluatesMethod bytes ns arguments steps found =
     Then (Obtains (ReadsBody ns found.0 found.1)) (EvaluatesBody bytes ns found arguments steps)
 
--- whether a value is of a kind; which packages are of a shape no signature tells
-abbrev pub is_of : Known → Value → Bool
-is_of known.Mixed v = true
-is_of (known.Int most) (Int n) = nat_le n most
-is_of (known.Buf size) (Buf octets) = length octets == size
-is_of (known.Str size) (Str characters) = length characters == size
-is_of known.AnyPkg (Pkg elements) = true
-is_of kind v = false
-
--- whether there is a value for each kind, and is of it
-abbrev pub are_of : List Known → List Value → Bool
-are_of [] [] = true
-are_of (k ∷ ks) (v ∷ vs) = is_of k v && are_of ks vs
-are_of ks vs = false
-
 -- an accepted method takes arguments: as many as it has, each of its kind
-abbrev pub Accepts : Accepted → List Value → Result (Unit {0}) Fault → Type 0
-Accepts accepted arguments (Ok _) = are_of accepted.args.items arguments ≡ true
-Accepts accepted arguments (Err f) = (are_of accepted.args.items arguments ≡ false) × (f ≡ nowhere cause.ArgsDontFit)
+abbrev pub Accepts : Checked → Accepted → List Value → Result (Unit {0}) Fault → Type 0
+Accepts checked accepted arguments (Ok _) = all_fit arguments (kinds_of (numbered checked.shapes) accepted.args.items) ≡ true
+Accepts checked accepted arguments (Err f) =
+    (all_fit arguments (kinds_of (numbered checked.shapes) accepted.args.items) ≡ false) × (f ≡ nowhere cause.ArgsDontFit)
 
 -- `eval` of a method by what is said of it: an accepted one takes arguments of its kinds, and is evaluated with as many steps as its
 -- verdict says; what is said of any other has its line
 abbrev pub EvaluatesJudged : (ℕ → ℕ → ℕ) → Shown → List Value → ℕ × Method → Checked → Option Verdict → Step (Unit {0}) ℕ
 EvaluatesJudged bytes ns arguments found checked (Some (verdict.Accepted accepted)) =
-    Then (Obtains (Accepts accepted arguments)) (λ _. EvaluatesMethod bytes ns arguments accepted.bound found)
+    Then (Obtains (Accepts checked accepted arguments)) (λ _. EvaluatesMethod bytes ns arguments accepted.bound found)
 EvaluatesJudged bytes ns arguments found checked said = Tells (said_text checked (record { 0 = found.0 })) 3
 
 -- `eval` of a method with so many steps, or, without a number, by its verdict, where these kinds are told

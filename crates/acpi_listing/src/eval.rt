@@ -7,7 +7,7 @@ ghost use Rattle.aml_values.specs.Views.{view};
 ghost use Rattle.aml_namespace.specs.Names.{method_at};
 ghost use Rattle.aml_namespace.specs.Shows.{bytes_in, shown};
 ghost use Rattle.acpi_listing.specs.Commands.{EvaluatesFiles, EvaluatesFound, EvaluatesMethod, EvaluatesTables, IsMethodAt, IsNoMethodAt, printed_path};
-ghost use Rattle.acpi_listing.specs.Commands.{IsMeant, Takes, are_of, are_taken, is_of, evaluation_text, is_taken, outcome_status, with_events};
+ghost use Rattle.acpi_listing.specs.Commands.{IsMeant, Takes, are_taken, evaluation_text, is_taken, outcome_status, with_events};
 ghost use Rattle.aml_operators.specs.Tree as terms;
 ghost use Rattle.aml_operators.specs.Tree.{views};
 ghost use Rattle.aml_bodies.specs.Methods.{AreStatementsOf};
@@ -40,7 +40,7 @@ use crate::words::EvalRequest;
 use acpi_text::{RunFault, list_evaluation, list_events, list_refusal};
 use acpi_verdicts::list_said;
 use aml_contents::Names;
-use aml_known::{Accepted, Known};
+use aml_known::Accepted;
 use aml_meaning::Outcome;
 use aml_namespace::{Method, Namespace, Width};
 use aml_operators::Term;
@@ -197,7 +197,7 @@ fn evaluate_judged<N: Notes, W: Write>(
     let Some(accepted) = accepted_in(&checked, id) else {
         return tell_said(alloc, out, &checked, id);
     };
-    if !are_of(&accepted.args, &given.arguments) {
+    if !checked.accepts(id, &given.arguments) {
         tell_misfit(alloc, notes, namespace, word, method, &given.arguments);
         return Err(Stop::Fault(Fault::nowhere(FaultCause::ArgsDontFit)));
     }
@@ -406,33 +406,6 @@ fn is_taken(greatest: u64, value: &Value) -> bool
     match value {
         Value::Int(number) => *number <= greatest,
         _ => true,
-    }
-}
-
-// Whether there is a value for each of some kinds, and is of it.
-fn are_of(kinds: &[Known], values: &[Value]) -> bool
-    ensures { result ≡ are_of kinds.now (map view values.now) }
-{
-    match kinds {
-        [] => values.is_empty(),
-        [kind, other_kinds @ ..] => match values {
-            [] => false,
-            [value, others @ ..] => is_of(*kind, value) && are_of(other_kinds, others),
-        },
-    }
-}
-
-// Whether a value is of a kind. Which packages are of a shape no signature tells.
-fn is_of(kind: Known, value: &Value) -> bool
-    ensures { result ≡ is_of kind (view value.now) }
-{
-    match (kind, value) {
-        (Known::Mixed, _) => true,
-        (Known::Int(most), Value::Int(number)) => *number <= most,
-        (Known::Buf(size), Value::Buf(octets)) => octets.len() as u64 == size,
-        (Known::Str(size), Value::Str(characters)) => characters.len() as u64 == size,
-        (Known::AnyPkg, Value::Pkg(_)) => true,
-        _ => false,
     }
 }
 
