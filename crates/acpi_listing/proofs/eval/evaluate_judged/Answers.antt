@@ -25,14 +25,16 @@ returns-then-not-accepts-clause-printed g c =
     let r : Result ℕ Stop = Err (Faulty c.nowhere.result) in
     let refuses : c.accepts.result ≡ false = cc c.if-not-accepts.true in
     not_taken (contents c.args.given.registers.file) (kinds_told c.args.signatures.now) (shown c.args.namespace.now) (map values.view c.args.given.arguments.items) (c.args.id.0, c.args.method)
-    c.in_ok-checked.checked c.in_ok-checked.ensures.verdicts c.in-Some.accepted.now _ (nowhere cause.ArgsDontFit) r (ap (λ f. Faulty f) c.nowhere.ensures) c.in-Some.ensures.some
-    (all_fit_as c.in_ok-checked.checked c.args.id.0 c.in-Some.accepted.now c.deref.result.now c.args.given.arguments.items c.accepts.result false c.deref.ensures.value c.in-Some.ensures.some
-    (c.accepts.ensures.fits (kinds_told c.args.signatures.now) c.in_ok-checked.ensures.verdicts.0) refuses, refl)
+    c.in_ok-checked.checked c.in_ok-checked.ensures.verdicts c.in-Some.accepted.now _ (nowhere cause.ArgsDontFit) r (ap (λ f. Faulty f) c.nowhere.ensures) c.in-Some.ensures.some (
+      all_fit_as c.in_ok-checked.checked c.args.id.0 c.in-Some.accepted.now c.deref.result.now c.args.given.arguments.items c.accepts.result false c.deref.ensures.value c.in-Some.ensures.some
+          (c.accepts.ensures.fits (kinds_told c.args.signatures.now) c.in_ok-checked.ensures.verdicts.0) refuses,
+      refl,
+    )
 
 pub returns-clause-printed : goal.returns-clause-printed
 returns-clause-printed g c =
     let does : c.accepts.result ≡ true = cc c.if-not-accepts.false in
     let takes = all_fit_as c.in_ok-checked.checked c.args.id.0 c.in-Some.accepted.now c.deref.result.now c.args.given.arguments.items c.accepts.result true c.deref.ensures.value c.in-Some.ensures.some
-        (c.accepts.ensures.fits (kinds_told c.args.signatures.now) c.in_ok-checked.ensures.verdicts.0) does in
+    (c.accepts.ensures.fits (kinds_told c.args.signatures.now) c.in_ok-checked.ensures.verdicts.0) does in
     taken (contents c.args.given.registers.file) (kinds_told c.args.signatures.now) (shown c.args.namespace.now) (map values.view c.args.given.arguments.items) (c.args.id.0, c.args.method)
     c.in_ok-checked.checked c.in_ok-checked.ensures.verdicts c.in-Some.accepted.now _ _ c.evaluate_method.result c.in-Some.ensures.some takes c.evaluate_method.ensures.printed
