@@ -44,7 +44,7 @@ INPUT is text in which `;` is a line end, with the spaces behind it, `(TEXT)*N` 
 between braces is its hex text.
 
 OUTPUT is the lines of standard output with `; ` between each two; `+ ` at a line's front stands for two spaces, and
-` *N` behind a line for N of it; of a load `-` is no line. The status must be that of the last line: 2 of E520, 1 of
+` *N` behind a line for N of it; `-` alone is no line. The status must be that of the last line: 2 of E520, 1 of
 another fault, 3 of an error and `out of steps`, else 0; but 3 where any line is that of a refused method and the last
 one is no fault. Standard error must be empty where the status is 0 or 3.
 
@@ -197,7 +197,7 @@ def output_of(above, text):
         found += above.lines.get(line, [re.sub(r"^\+ ", "  ", line)]) * int(times or 1)
     if not text or "" in found:
         raise ValueError("no output")
-    return found
+    return found if text != "-" else []
 
 
 def steps_of(words):
@@ -229,7 +229,7 @@ def load(above, place, text, output):
     files = {"dsdt.bin": table_of(b"DSDT", above.revision, modules[0])}
     files |= {f"ssdt{number}.bin": table_of(b"SSDT", 2, module) for number, module in enumerate(modules[1:], 1)}
     lines = output_of(above, output)
-    lines = lines if lines[-1].startswith("fault ") else PREDEFINED + (lines if output != "-" else [])
+    lines = lines if lines and lines[-1].startswith("fault ") else PREDEFINED + lines
     return [Row(place, above.growths, files, ["names", *files], b"", lines)]
 
 
@@ -367,8 +367,9 @@ def status_of(line):
 
 def answer_of(lines):
     """The standard output and the status that lines stand for."""
+    last = lines[-1] if lines else ""
     is_refused = any(re.match(r"\\\S* refused ", line) for line in lines)
-    return "".join(f"{line}\n" for line in lines).encode(), status_of(lines[-1]) or (3 if is_refused else 0)
+    return "".join(f"{line}\n" for line in lines).encode(), status_of(last) or (3 if is_refused else 0)
 
 
 def lay_out(row, room):

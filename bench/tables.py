@@ -26,11 +26,14 @@
 | externals | COUNT Externals of methods of one argument at the root, and a body that calls each |
 | deep_externals | COUNT such Externals in a scope that is 10,000 segments deep |
 | long_externals | COUNT such Externals at the root, of names of 255 segments, the first of which differ |
+| routes | 1,000 link devices, whose `_CRS` is a method that returns an interrupt, and a `_PRT` of COUNT elements that name them in turn |
+| routes_last | the same, where each element names the last link, but for the first ones, which name each once |
 
 The names of `chosen`, `methods_chosen` and `uses_chosen` are those that whoever writes a table would choose against a
 reader that keeps names in a hash map of the kit: its default hasher has a fixed seed, and these names all begin their
 search in the same part of the map. A reader that keeps them in order does not notice.
 """
+import itertools
 import sys
 
 FIRST = "ABCDEFGHIJKLMNOPQRSTUVWXYZ_"
@@ -178,6 +181,19 @@ def deepest_ifs(names):
     return calls
 
 
+def link(name):
+    """A device with a method _CRS that returns a buffer of an interrupt, level triggered and active low."""
+    buffer = package(b"\x11", b"\x0a\x06" + bytes.fromhex("230002187900"))
+    return package(b"\x5b\x82", name + method(b"_CRS", b"\xa4" + buffer))
+
+
+def routes(names, named):
+    """Links of these names, and a _PRT of an element for each name."""
+    elements = b"".join(package(b"\x12", b"\x04\x0c" + (i << 16 | 0xFFFF).to_bytes(4, "little") + b"\x00" + name + b"\x00") for i, name in enumerate(named))
+    prt = b"\x08_PRT" + package(b"\x13", b"\x0b" + len(named).to_bytes(2, "little") + elements)
+    return b"".join(link(name) for name in names) + prt
+
+
 def body_of(kind, count):
     if kind == "adds":
         return method(b"MAIN", b"\x70\x00\x60" + b"\x72\x60\x01\x60" * count + b"\xa4\x60")
@@ -229,6 +245,10 @@ def body_of(kind, count):
         return MAIN + deep(10_000, b"".join(b"\x15" + name + b"\x08\x01" for name in other_names(count)))
     if kind == "long_externals":
         return MAIN + b"".join(b"\x15" + name_of([name] + [b"DEEP"] * 254) + b"\x08\x01" for name in other_names(count))
+    if kind in ("routes", "routes_last"):
+        names = other_names(1_000)
+        turn = itertools.cycle(names if kind == "routes" else names[-1:])
+        return routes(names, list(itertools.islice(itertools.chain(names, turn), count)))
     raise ValueError(kind)
 
 

@@ -10,7 +10,7 @@ use Rattle.acpi_listing.specs.declared.fault.Fault.{Fault}
 use Rattle.acpi_listing.specs.Faults.{nowhere}
 use Rattle.acpi_listing.specs.declared.fault.FaultCause.TheVariants as cause
 use Rattle.acpi_listing.specs.declared.words.Request.{Request}
-use Rattle.acpi_listing.specs.declared.words.Request.TheVariants.{Tables, Names, Verify, Eval, Resources}
+use Rattle.acpi_listing.specs.declared.words.Request.TheVariants.{Tables, Names, Verify, Eval, Resources, Routing}
 
 -- `clap` says of this command line what it takes
 pub takes_words : is_simple acpicheck_app ≡ true
@@ -41,6 +41,7 @@ nothing_of_none (Names names) (rows, is, inputs) = absurd (cc)
 nothing_of_none (Verify request) (rows, is, parts) = absurd (cc)
 nothing_of_none (Eval request) (rows, is, parts) = absurd (cc)
 nothing_of_none (Resources request) (rows, is, parts) = absurd (cc)
+nothing_of_none (Routing request) (rows, is, parts) = absurd (cc)
 
 abbrev name_in : Option (Text × List Row) → Text
 name_in None = []
@@ -48,13 +49,14 @@ name_in (Some p) = p.0
 
 -- another command, no request
 pub nothing_of_other : (name : Text) (rows : List Row) → (name ≡ codes "tables" → ⊥) → (name ≡ codes "names" → ⊥) → (name ≡ codes "verify" → ⊥)
-    → (name ≡ codes "eval" → ⊥) → (name ≡ codes "resources" → ⊥)
+    → (name ≡ codes "eval" → ⊥) → (name ≡ codes "resources" → ⊥) → (name ≡ codes "routing" → ⊥)
     → (r : Request) → IsRequest (Some (name, rows)) r → ⊥
-nothing_of_other name rows first second third fourth fifth (Tables names) (others, is, files) = first (ap name_in is)
-nothing_of_other name rows first second third fourth fifth (Names names) (others, is, inputs) = second (ap name_in is)
-nothing_of_other name rows first second third fourth fifth (Verify request) (others, is, parts) = third (ap name_in is)
-nothing_of_other name rows first second third fourth fifth (Eval request) (others, is, parts) = fourth (ap name_in is)
-nothing_of_other name rows first second third fourth fifth (Resources request) (others, is, parts) = fifth (ap name_in is)
+nothing_of_other name rows first second third fourth fifth sixth (Tables names) (others, is, files) = first (ap name_in is)
+nothing_of_other name rows first second third fourth fifth sixth (Names names) (others, is, inputs) = second (ap name_in is)
+nothing_of_other name rows first second third fourth fifth sixth (Verify request) (others, is, parts) = third (ap name_in is)
+nothing_of_other name rows first second third fourth fifth sixth (Eval request) (others, is, parts) = fourth (ap name_in is)
+nothing_of_other name rows first second third fourth fifth sixth (Resources request) (others, is, parts) = fifth (ap name_in is)
+nothing_of_other name rows first second third fourth fifth sixth (Routing request) (others, is, parts) = sixth (ap name_in is)
 
 -- a value that is not there is none of a request
 pub missing : (o : Option Text) (t : Text) → None ≡ o → o ≡ Some t → ⊥

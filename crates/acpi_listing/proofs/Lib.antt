@@ -10,3 +10,4 @@ pub mod Telling
 pub mod Started
 pub mod Judgements
 pub mod GivenListed
+pub mod RoutesListed

@@ -81,11 +81,18 @@ object_app name = with_rule (with_rule (with_rule (new_app name) object_rule) re
 abbrev pub resources_app : App
 resources_app = with_rule (with_rule (object_app (codes "resources")) dead_externals_rule) files_rule
 
+-- the file of the MADT
+abbrev pub madt_rule : Rule
+madt_rule = option_rule (codes "madt")
+
+abbrev pub routing_app : App
+routing_app = with_rule (with_rule (with_rule (object_app (codes "routing")) madt_rule) dead_externals_rule) files_rule
+
 -- the words have no program's name in front, and one of the commands is wanted
 abbrev pub commands_app : App
 commands_app = on_top (λ s. record s { no_binary_name = true; subcommand_required = true }) (new_app (codes "acpicheck"))
 
 abbrev pub acpicheck_app : App
 acpicheck_app =
-    with_subcommand (with_subcommand (with_subcommand (with_subcommand (with_subcommand commands_app
-    (files_app (codes "tables")).top) names_app.top) verify_app.top) eval_app.top) resources_app.top
+    with_subcommand (with_subcommand (with_subcommand (with_subcommand (with_subcommand (with_subcommand commands_app
+    (files_app (codes "tables")).top) names_app.top) verify_app.top) eval_app.top) resources_app.top) routing_app.top

@@ -25,22 +25,35 @@ use Rattle.aml_values.specs.Views.{view}
 use Rattle.acpi_objects.specs.Gives.{GivesBy, gives_value}
 use Rattle.acpi_objects.specs.declared.given.Given.{Given}
 use Rattle.acpi_objects.specs.declared.given.Given.TheVariants as given
-use Rattle.acpi_resource_text.specs.Lines.{items_text}
+use Rattle.acpi_resource_text.specs.Lines.{items_text, routes_text}
+use Rattle.acpi_resources.specs.Interrupts.{Links, crs_of_links, global_number, interrupt_of_device}
 use Rattle.acpi_resources.specs.Items.{items_of}
 use Rattle.acpi_resources.specs.declared.fault.ResourceFault.{ResourceFault}
 use Rattle.acpi_resources.specs.declared.fault.ResourceFault.TheVariants as resources
 use Rattle.acpi_resources.specs.declared.fault.ResourceRefusal.{ResourceRefusal}
+use Rattle.acpi_resources.specs.Routes.{routes_of}
 use Rattle.acpi_resources.specs.declared.item.Item.{Item}
+use Rattle.acpi_resources.specs.declared.route.Route.{Route}
+use Rattle.acpi_resources.specs.declared.route_fault.RouteFault.{RouteFault}
+use Rattle.acpi_resources.specs.declared.route_fault.RouteFault.TheVariants as routes
+use Rattle.acpi_resources.specs.declared.route_fault.RouteRefusal.{RouteRefusal}
+use Rattle.acpi_routing.specs.Prt.{GivesPrt}
+use Rattle.acpi_routing.specs.declared.fault.LinkFault.{LinkFault}
+use Rattle.acpi_routing.specs.declared.fault.LinkFault.TheVariants as links
+use Rattle.acpi_routing.specs.declared.fault.LinkRefusal.{LinkRefusal}
+use Rattle.acpi_routing.specs.declared.prt.Prt.{Prt}
+use Rattle.acpi_tables.specs.declared.madt.Madt.{Madt}
 use Rattle.acpi_listing.specs.Arguments.{ListsArguments, ListsBadArguments}
 use Rattle.acpi_text.specs.Events.{events_text}
 use Rattle.acpi_text.specs.Lists.{Lists}
 use Rattle.acpi_text.specs.Names.{names_text}
 use Rattle.aml_path_text.specs.Paths.{path_of}
 use Rattle.acpi_text.specs.Outcome.{outcome_line, refusal_line}
-use Rattle.acpi_listing.specs.Faults.{at_byte, fault_line, nowhere}
+use Rattle.acpi_listing.specs.Faults.{at_byte, fault_line, in_element, nowhere}
 use Rattle.acpi_listing.specs.Files.{Answers, ListsFiles}
 use Rattle.acpi_listing.specs.Inputs.{ReadsInputs, tables_of}
 use Rattle.acpi_listing.specs.Loading.{Loads, interfaces_of}
+use Rattle.acpi_listing.specs.Madt.{ReadsControllers, ReadsMadt}
 use Rattle.acpi_listing.specs.Registers.{ReadsRegisters}
 use Rattle.acpi_listing.specs.Signatures.{ReadsSignatures}
 use Rattle.acpi_listing.specs.Steps.{Step, Then, Obtains, Still, Tells, Tries}
@@ -57,7 +70,7 @@ use Rattle.acpi_listing.specs.declared.inputs.InputNames.{InputNames}
 use Rattle.acpi_listing.specs.declared.hex_lines.HexLines.{HexLines}
 use Rattle.acpi_text.specs.declared.writing.RunFault.{RunFault}
 use Rattle.acpi_listing.specs.declared.words.Request.{Request}
-use Rattle.acpi_listing.specs.declared.words.Request.TheVariants.{Tables, Names, Verify, Eval, Resources}
+use Rattle.acpi_listing.specs.declared.words.Request.TheVariants.{Tables, Names, Verify, Eval, Resources, Routing}
 use Rattle.acpi_verdicts.specs.Verdicts.{any_refused, said_of, said_text, verdicts_text}
 use Rattle.aml_known.specs.declared.accepted.Accepted.{Accepted}
 use Rattle.aml_known.specs.Views.{kinds_of}
@@ -308,6 +321,80 @@ ListsResources answers names word regs kinds =
     Then (ReadsInputs answers names) (λ inputs.
     Still (ListsTables (contents registers.file) (kinds_told signatures) word (tables_of inputs)))))
 
+-- why a link that a _PRT names has no items
+abbrev pub link_fault : LinkFault → Fault
+link_fault links.NoMemory = nowhere cause.NoMemory
+link_fault (links.Refused refused) = at_byte (cause.Resources refused.refusal.cause) refused.refusal.at
+
+-- what an object gives from what names hold first, and behind that, of each link that it names, what that one's _CRS gives; whatever
+-- happened before, the reads among all events since then are answered as registers of these bytes answer them
+pub record PrtOver (bytes : ℕ → ℕ → ℕ) (checked : Checked) (id : ℕ) (r : Result Prt LinkRefusal) : Type 0 where
+  pub names : State.Names
+  pub before : List Event
+  pub log : List Event
+  pub gives : GivesPrt checked id r (names_first (shown checked.namespace.now)) before names log
+  pub answered : (events : List Event) → log ≡ before ++ events → AnswerReads bytes events
+
+-- what an object gives and the items of the links that it names, or the first link whose bytes are no items
+abbrev pub IsPrtOver : (ℕ → ℕ → ℕ) → Checked → ℕ → Result Prt Fault → Type 0
+IsPrtOver bytes checked id =
+    Tries (λ prt. PrtOver bytes checked id (Ok prt))
+    (λ f. (refused : LinkRefusal) × PrtOver bytes checked id (Err refused) × (f ≡ link_fault (links.Refused refused)))
+
+-- why a _PRT has no routes
+abbrev pub route_fault : RouteFault → Fault
+route_fault routes.NoMemory = nowhere cause.NoMemory
+route_fault (routes.Refused refusal) = in_element (cause.Routes refusal.cause) refusal.element
+
+-- the routes of a _PRT, with the items of its links and with a MADT or none; or its first element that has none
+abbrev pub routes_with : Option Madt → Links → Value → Result (List Route) RouteRefusal
+routes_with madt links prt = routes_of (interrupt_of_device (global_number madt) links) prt
+
+-- a _PRT has no routes, and this is why
+abbrev pub FollowsNot : Option Madt → Links → Value → Fault → Type 0
+FollowsNot madt links prt f =
+    (refusal : RouteRefusal) × (routes_with madt links prt ≡ Err refusal) × (f ≡ route_fault (routes.Refused refusal))
+
+-- the routes of a _PRT, or why it has none
+abbrev pub Follows : Option Madt → Links → Value → Result (List Route) Fault → Type 0
+Follows madt links prt = Tries (λ found. routes_with madt links prt ≡ Ok found) (FollowsNot madt links prt)
+
+-- the routes of a package have their lines; any other value is no _PRT
+abbrev pub ListsValue : Option Madt → Links → Value → Step (Unit {0}) ℕ
+ListsValue madt links (Pkg elements) = Then (Obtains (Follows madt links (Pkg elements))) (λ routes. Tells (routes_text routes) 0)
+ListsValue madt links v = Obtains (λ r. r ≡ Err (nowhere cause.NotPackage))
+
+-- `routing` by what the object gives, and the items of the links that it names; a method that is not accepted, or whose evaluation
+-- ended otherwise, has its line
+abbrev pub ListsPrt : Option Madt → Checked → ℕ → Given → Links → Step (Unit {0}) ℕ
+ListsPrt madt checked id (given.Value v) links = ListsValue madt links (view v)
+ListsPrt madt checked id given.Nothing links = Obtains (λ r. r ≡ Err (nowhere cause.NotPackage))
+ListsPrt madt checked id given.Refused links = Tells (said_text checked (record { 0 = id })) 3
+ListsPrt madt checked id (given.Ended outcome) links = Tells (outcome_line (shown checked.namespace.now).entries outcome) 3
+
+-- `routing` of a namespace, over registers of these bytes, where these kinds are told, with a MADT or none: the object of that path, the
+-- verdicts on all methods, what the object gives and then its links, where their interrupts go
+abbrev pub RoutesLoaded : (ℕ → ℕ → ℕ) → Told → Option Madt → List ℕ → Shown → Step (Unit {0}) ℕ
+RoutesLoaded bytes told madt word ns =
+    Then (Obtains (FindsObject ns word)) (λ id.
+    Then (Obtains (Judges told ns)) (λ checked.
+    Then (Obtains (IsPrtOver bytes checked id)) (λ prt.
+    ListsPrt madt checked id prt.given (crs_of_links prt.links.items))))
+
+-- `routing` of tables: the load, and what was loaded
+abbrev pub RoutesTables : (ℕ → ℕ → ℕ) → Told → Option Madt → List ℕ → List (List ℕ) → Step (Unit {0}) ℕ
+RoutesTables bytes told madt word tables = Then (Obtains (Loads [] tables)) (λ ns. RoutesLoaded bytes told madt word ns)
+
+-- `routing`: the registers, the kinds that are told, the MADT, the files, their tables over these registers
+abbrev pub ListsRoutes : {F : Type 0} → Answers F → InputNames → List ℕ → Option (List ℕ) → Option (List ℕ) → Option (List ℕ) → Step F ℕ
+ListsRoutes answers names word regs kinds controllers =
+    Then (ReadsRegisters answers regs) (λ registers.
+    Then (ReadsSignatures answers kinds) (λ signatures.
+    Then (ReadsControllers answers controllers) (λ bytes.
+    Then (Obtains (ReadsMadt bytes)) (λ madt.
+    Then (ReadsInputs answers names) (λ inputs.
+    Still (RoutesTables (contents registers.file) (kinds_told signatures) madt word (tables_of inputs)))))))
+
 -- what the words ask for, or why there is nothing
 abbrev pub Asks : List (List ℕ) → Result Request Fault → Type 0
 Asks words = Tries (AsksFor words) (λ f. (f ≡ nowhere cause.CommandLine) × AsksNothing words)
@@ -319,6 +406,7 @@ Obeys answers (Names names) = ListsNames answers names
 Obeys answers (Verify request) = VerifiesFiles answers request.inputs (option_map (λ name. name.now) request.kinds)
 Obeys answers (Eval request) = EvaluatesFiles answers request.inputs request.method.now (option_map (λ text. text.now) request.args) (option_map (λ name. name.now) request.regs) (option_map (λ name. name.now) request.kinds) request.steps (option_map (λ text. text.now) request.osi)
 Obeys answers (Resources request) = ListsResources answers request.inputs request.object.now (option_map (λ name. name.now) request.regs) (option_map (λ name. name.now) request.kinds)
+Obeys answers (Routing request) = ListsRoutes answers request.asked.inputs request.asked.object.now (option_map (λ name. name.now) request.asked.regs) (option_map (λ name. name.now) request.asked.kinds) (option_map (λ name. name.now) request.madt)
 
 -- a command: its words, and what they ask for
 abbrev pub ObeysWords : {F : Type 0} → Answers F → List (List ℕ) → Step F ℕ

@@ -1,12 +1,12 @@
 -- Faults: what is wrong, where, and the line that tells both.
 use Rattle.std.specs.Prelude.{ℕ, List, [], ◌∷◌, codes, decimal}
-use Rattle.acpi_resources.specs.Causes.{resource_cause_text}
+use Rattle.acpi_resources.specs.Causes.{resource_cause_text, route_cause_text}
 use Rattle.acpi_tables.specs.Causes.{table_cause_text}
 use Rattle.aml_namespace.specs.Causes.{load_cause_text}
 use Rattle.acpi_text.specs.Text.{joined}
 use Rattle.acpi_listing.specs.declared.fault.Fault.{Fault}
 use Rattle.acpi_listing.specs.declared.fault.FaultCause.{FaultCause}
-use Rattle.acpi_listing.specs.declared.fault.FaultCause.TheVariants.{CommandLine, BadKinds, BadRegs, BadArgs, ArgsDontFit, File, NoMemory, NoSuchObject, NotBuffer, Table, Load, Resources}
+use Rattle.acpi_listing.specs.declared.fault.FaultCause.TheVariants.{CommandLine, BadKinds, BadRegs, BadArgs, ArgsDontFit, File, NoMemory, NoSuchObject, NotBuffer, NotPackage, Table, Load, Resources, Routes}
 use Rattle.acpi_listing.specs.declared.fault.Where.{Where}
 use Rattle.acpi_listing.specs.declared.fault.Where.TheVariants as place
 
@@ -30,9 +30,14 @@ at_byte cause at = fault_at cause (place.Byte at)
 abbrev pub in_line : FaultCause → ℕ → Fault
 in_line cause line = fault_at cause (place.Line line)
 
+-- what is wrong in the element with a number
+abbrev pub in_element : FaultCause → ℕ → Fault
+in_element cause element = fault_at cause (place.Element element)
+
 -- what is wrong, as it is printed: a number and a name
 abbrev pub cause_text : FaultCause → List ℕ
 cause_text NotBuffer = codes "E421 NotBuffer"
+cause_text NotPackage = codes "E422 NotPackage"
 cause_text BadKinds = codes "E501 BadKinds"
 cause_text BadRegs = codes "E511 BadRegs"
 cause_text CommandLine = codes "E520 CommandLine"
@@ -44,6 +49,7 @@ cause_text NoSuchObject = codes "E525 NoSuchObject"
 cause_text (Table cause) = table_cause_text cause
 cause_text (Load cause) = load_cause_text cause
 cause_text (Resources cause) = resource_cause_text cause
+cause_text (Routes cause) = route_cause_text cause
 
 -- where it is, as it is printed behind that: the table and the byte, the byte alone, the line, or the element
 unfoldable pub where_text : Where → List ℕ

@@ -10,6 +10,7 @@ pub mod FirstLine
 pub mod Registers
 pub mod Signatures
 pub mod Inputs
+pub mod Madt
 pub mod Loading
 pub mod Commands
 pub mod Program

@@ -8,9 +8,10 @@ use Rattle.acpi_listing.specs.CommandLine.{acpicheck_app}
 use Rattle.acpi_listing.specs.Inputs.{file_names}
 use Rattle.acpi_listing.specs.declared.inputs.InputNames.{InputNames}
 use Rattle.acpi_listing.specs.declared.words.Request.{Request}
-use Rattle.acpi_listing.specs.declared.words.Request.TheVariants.{Tables, Names, Verify, Eval, Resources}
+use Rattle.acpi_listing.specs.declared.words.Request.TheVariants.{Tables, Names, Verify, Eval, Resources, Routing}
 use Rattle.acpi_listing.specs.declared.words.EvalRequest.{EvalRequest}
 use Rattle.acpi_listing.specs.declared.words.ObjectRequest.{ObjectRequest}
+use Rattle.acpi_listing.specs.declared.words.RoutingRequest.{RoutingRequest}
 use Rattle.acpi_listing.specs.declared.words.VerifyRequest.{VerifyRequest}
 
 -- a text is a number below 2^64 in decimal digits, a plus may stand first
@@ -58,6 +59,11 @@ HasObjectParts rows request =
     × (first_of (codes "regs") rows ≡ option_map (λ name. name.now) request.regs)
     × (first_of (codes "kinds") rows ≡ option_map (λ name. name.now) request.kinds)
 
+-- each part of a question for routes is the value of its option
+abbrev pub HasRoutingParts : List Row → RoutingRequest → Type 0
+HasRoutingParts rows request =
+    HasObjectParts rows request.asked × (first_of (codes "madt") rows ≡ option_map (λ name. name.now) request.madt)
+
 -- a command and what its words gave is a request
 abbrev pub IsRequest : Option (Text × List Row) → Request → Type 0
 IsRequest found (Tables names) =
@@ -67,6 +73,7 @@ IsRequest found (Names names) = (rows : List Row) × (found ≡ Some (codes "nam
 IsRequest found (Verify request) = (rows : List Row) × (found ≡ Some (codes "verify", rows)) × HasVerifyParts rows request
 IsRequest found (Eval request) = (rows : List Row) × (found ≡ Some (codes "eval", rows)) × HasParts rows request
 IsRequest found (Resources request) = (rows : List Row) × (found ≡ Some (codes "resources", rows)) × HasObjectParts rows request
+IsRequest found (Routing request) = (rows : List Row) × (found ≡ Some (codes "routing", rows)) × HasRoutingParts rows request
 
 -- the words are a command line, and this is what they ask for
 abbrev pub AsksFor : List Text → Request → Type 0

@@ -2,15 +2,16 @@
 
 ghost use Rattle.std.specs.Prelude.{◌≡◌};
 ghost use Rattle.acpi_listing.specs.Files.{source_fault, load_fault};
-ghost use Rattle.acpi_listing.specs.Commands.{fault_status, resource_fault};
-ghost use Rattle.acpi_listing.specs.Faults.{cause_text, in_table, nowhere};
+ghost use Rattle.acpi_listing.specs.Commands.{fault_status, link_fault, resource_fault, route_fault};
+ghost use Rattle.acpi_listing.specs.Faults.{at_byte, cause_text, in_table, nowhere};
 ghost use Rattle.acpi_listing.specs.Registers.{registers_fault};
 ghost use Rattle.acpi_listing.specs.Signatures.{signatures_fault};
 ghost use Rattle.acpi_listing.specs.declared.fault.FaultCause.TheVariants as told;
 ghost use Rattle.acpi_listing.specs.declared.fault.Stop.TheVariants as stop;
 
 use crate::source::SourceFault;
-use acpi_resources::{ResourceCause, ResourceFault};
+use acpi_resources::{ResourceCause, ResourceFault, RouteCause, RouteFault};
+use acpi_routing::LinkFault;
 use acpi_tables::{TableCause, TableFault};
 use acpi_text::RunFault;
 use aml_namespace::{LoadCause, LoadFault, LoadRefusal};
@@ -47,12 +48,16 @@ pub enum FaultCause {
     NoSuchObject,
     /// What the object gives is no buffer.
     NotBuffer,
+    /// What the object gives is no package.
+    NotPackage,
     /// A table that cannot be listed.
     Table(TableCause),
     /// A table that cannot be loaded.
     Load(LoadCause),
     /// Bytes that are no list of resource descriptors.
     Resources(ResourceCause),
+    /// A `_PRT` that cannot be followed.
+    Routes(RouteCause),
 }
 
 /// Where it is.
@@ -94,6 +99,16 @@ impl Fault {
         }
     }
 
+    /// The fault of a table in a file that has no number.
+    pub fn of_bytes(fault: TableFault) -> Self
+        ensures { result ≡ at_byte (told.Table fault.cause) fault.at }
+    {
+        Fault {
+            cause: FaultCause::Table(fault.cause),
+            at: Where::Byte(fault.at),
+        }
+    }
+
     /// The fault of a load.
     pub fn of_load(refusal: LoadRefusal) -> Self
         ensures { result ≡ in_table (told.Load refusal.cause) refusal.table refusal.at }
@@ -125,6 +140,7 @@ impl FaultCause {
     {
         match self {
             FaultCause::NotBuffer => "E421 NotBuffer",
+            FaultCause::NotPackage => "E422 NotPackage",
             FaultCause::BadKinds => "E501 BadKinds",
             FaultCause::BadRegs => "E511 BadRegs",
             FaultCause::CommandLine => "E520 CommandLine",
@@ -136,6 +152,7 @@ impl FaultCause {
             FaultCause::Table(cause) => cause.text(),
             FaultCause::Load(cause) => cause.text(),
             FaultCause::Resources(cause) => cause.text(),
+            FaultCause::Routes(cause) => cause.text(),
         }
     }
 }
@@ -248,6 +265,34 @@ impl From<ResourceFault> for Fault {
             ResourceFault::Refused(refusal) => Fault {
                 cause: FaultCause::Resources(refusal.cause),
                 at: Where::Byte(refusal.at),
+            },
+        }
+    }
+}
+
+impl From<LinkFault> for Fault {
+    ghost from_gives = { λ e f. f ≡ link_fault e };
+
+    fn from(fault: LinkFault) -> Fault {
+        match fault {
+            LinkFault::NoMemory => Fault::nowhere(FaultCause::NoMemory),
+            LinkFault::Refused(refused) => Fault {
+                cause: FaultCause::Resources(refused.refusal.cause),
+                at: Where::Byte(refused.refusal.at),
+            },
+        }
+    }
+}
+
+impl From<RouteFault> for Fault {
+    ghost from_gives = { λ e f. f ≡ route_fault e };
+
+    fn from(fault: RouteFault) -> Fault {
+        match fault {
+            RouteFault::NoMemory => Fault::nowhere(FaultCause::NoMemory),
+            RouteFault::Refused(refusal) => Fault {
+                cause: FaultCause::Routes(refusal.cause),
+                at: Where::Element(refusal.element),
             },
         }
     }

@@ -5,8 +5,8 @@ use std::fs;
 use std::rt::Files;
 
 /// The options whose next word is a value.
-const VALUED: [&str; 7] = [
-    "--method", "--plain", "--args", "--regs", "--kinds", "--osi", "--object",
+const VALUED: [&str; 8] = [
+    "--method", "--plain", "--args", "--regs", "--kinds", "--osi", "--object", "--madt",
 ];
 
 /// Which files of a folder a command takes.

@@ -1,20 +1,25 @@
 // The object that a command asks for, and what it gives.
 
 ghost use Rattle.std.specs.Prelude.{◌≡◌, [], IfErr, IfOk};
-ghost use Rattle.acpi_listing.specs.Commands.{IsGivenOver, IsObjectAt};
+ghost use Rattle.acpi_listing.specs.Commands.{IsGivenOver, IsObjectAt, IsPrtOver};
 ghost use Rattle.acpi_listing.specs.Faults.{nowhere};
 ghost use Rattle.acpi_listing.specs.declared.fault.FaultCause.TheVariants as cause;
+ghost use Rattle.acpi_routing.specs.Faults.{Answers};
+ghost use Rattle.acpi_routing.specs.Prt.{GivesPrt};
+ghost use Rattle.aml_machine.specs.Views.{names_of};
 ghost use Rattle.aml_namespace.specs.Shows.{shown};
 ghost use Rattle.aml_regions.specs.Registers.{contents};
 ghost use Rattle.aml_regions.specs.Text.{TextSets};
 
 use crate::fault::{Fault, FaultCause};
 use crate::notes::Notes;
-use crate::tell::tell_object;
+use crate::tell::{tell_link, tell_object};
 use acpi_objects::{Given, gives_value, value_of};
+use acpi_routing::{LinkFault, Prt, prt_of};
 use aml_contents::Names;
 use aml_namespace::Namespace;
 use aml_paths::ObjectId;
+use aml_regions::World;
 use aml_registers::Registers;
 use aml_verify::Checked;
 use std::alloc::Global;
@@ -56,4 +61,43 @@ pub fn given_over(
     let mut world = registers;
     let given = value_of(alloc, checked, id, &mut names, &mut world)?;
     Ok(given)
+}
+
+/// What an object gives, and the items of the links that it names, from what the names of the tables hold
+/// first, over registers. People are told which link is at fault.
+pub fn prt_over<N: Notes>(
+    alloc: Global,
+    checked: &Checked<'_>,
+    id: ObjectId,
+    registers: Registers,
+    notes: &N,
+) -> Result<Prt, Fault>
+    requires set { TextSets registers.text.items (contents registers.file) }
+    requires fresh { registers.file.events.items ≡ [] }
+    ensures { IsPrtOver (contents registers.file) checked.now id.0 result }
+{
+    let mut names = Names::initial(alloc, checked.namespace())?;
+    let mut world = registers;
+    let prt = prt_noted(alloc, checked, id, &mut names, &mut world, notes)?;
+    Ok(prt)
+}
+
+// The same over these names and this world.
+fn prt_noted<W: World, N: Notes>(
+    alloc: Global,
+    checked: &Checked<'_>,
+    id: ObjectId,
+    names: &mut Names,
+    world: &mut W,
+    notes: &N,
+) -> Result<Prt, LinkFault>
+    ensures { Answers (λ prt. prt)
+        (λ r. GivesPrt checked.now id.0 r (names_of names.old) (W.log world.old)
+        (names_of names.new) (W.log world.new)) result }
+{
+    let found = prt_of(alloc, checked, id, names, world);
+    if let Err(LinkFault::Refused(refused)) = &found {
+        tell_link(alloc, notes, checked.namespace(), *refused);
+    }
+    found
 }

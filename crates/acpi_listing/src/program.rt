@@ -14,6 +14,7 @@ use crate::line_notes::LineNotes;
 use crate::names::list_names_of;
 use crate::notes::{Notes, Silent};
 use crate::resources::list_resources_of;
+use crate::routing::list_routes_of;
 use crate::source::Source;
 use crate::tell::tell_end;
 use crate::verify::verify_files;
@@ -129,5 +130,6 @@ fn obey<S: AsStr, F: Source, N: Notes, W: Write>(
         Request::Verify(request) => verify_files(alloc, &request, files, notes, out),
         Request::Eval(request) => evaluate(alloc, &request, files, notes, out),
         Request::Resources(request) => list_resources_of(alloc, &request, files, notes, out),
+        Request::Routing(request) => list_routes_of(alloc, &request, files, notes, out),
     }
 }

@@ -182,8 +182,8 @@ fn tell_items<W: Write>(alloc: Global, out: &mut W, items: &[Item]) -> Result<u8
     Ok(0)
 }
 
-// Prints how an evaluation ended that gave no value, and answers the status of that.
-fn tell_ended<W: Write>(
+/// Prints how an evaluation ended that gave no value, and answers the status of that.
+pub(crate) fn tell_ended<W: Write>(
     alloc: Global,
     out: &mut W,
     namespace: &Namespace<'_>,

@@ -8,10 +8,13 @@ use acpi_notes::{
     Files, argument_note, count_note, file_label, greatest_note, help_of, load_note, object_note,
     registers_note, signatures_note, table_note,
 };
+use acpi_resources::{Item, RouteCause};
+use acpi_routing::{LinkRefusal, entry_note, link_text, source_text};
 use acpi_tables::TableFault;
 use acpi_verdicts::explain;
 use aml_externals::is_dead_if;
 use aml_namespace::{LoadCause, LoadRefusal, Method, Namespace};
+use aml_paths::ObjectId;
 use aml_tree::TreeCause;
 use aml_values::Value;
 use aml_verify::Checked;
@@ -110,6 +113,53 @@ pub(crate) fn tell_refused<N: Notes>(
                 return;
             }
         }
+    }
+}
+
+/// Of a file of `--madt` that is no MADT.
+pub(crate) fn tell_madt<N: Notes>(
+    alloc: Global,
+    notes: &N,
+    name: Option<&str>,
+    bytes: &[u8],
+    fault: TableFault,
+) {
+    let label = match name {
+        Some(name) if name != "@" => name,
+        _ => "the file of --madt",
+    };
+    tell(notes, table_note(alloc, label, bytes, fault));
+}
+
+/// Of a link whose `_CRS` gives bytes that are no list of resource descriptors.
+pub(crate) fn tell_link<N: Notes>(
+    alloc: Global,
+    notes: &N,
+    namespace: &Namespace<'_>,
+    refused: LinkRefusal,
+) {
+    if let Ok(text) = link_text(alloc, namespace, refused) {
+        tell_lines(notes, &text);
+    }
+}
+
+/// Of a `_PRT` that cannot be followed: which element is at fault, and why.
+pub(crate) fn tell_route<N: Notes>(
+    alloc: Global,
+    notes: &N,
+    checked: &Checked<'_>,
+    names: &[&str],
+    prt: &Value,
+    links: &[(ObjectId, Vec<Item>)],
+    fault: Fault,
+) {
+    let Where::Element(element) = fault.at else {
+        return;
+    };
+    if fault.cause == FaultCause::Routes(RouteCause::BadEntry) {
+        tell(notes, entry_note(alloc, element));
+    } else if let Ok(text) = source_text(alloc, checked, names, prt, links, element) {
+        tell_lines(notes, &text);
     }
 }
 

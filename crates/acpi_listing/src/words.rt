@@ -4,8 +4,8 @@ ghost use Rattle.std.specs.Prelude.{◌≡◌, ◌⊎◌, IfOk, IfSome, Some, No
 ghost use Rattle.clap.specs.Words.{HasKind, all_of, app_of, fault_of, found_of, rows_of, rule_of, subcommand_rows_of};
 ghost use Rattle.clap.specs.declared.Command.TheViews.{out-Command as fields_of};
 ghost use Rattle.acpi_listing.specs.Steps.{Tries};
-ghost use Rattle.acpi_listing.specs.CommandLine.{acpicheck_app, commands_app, eval_app, files_app, files_rule, flag_rule, method_app, names_app, object_app, option_rule, plain_rule, resources_app, verify_app};
-ghost use Rattle.acpi_listing.specs.Words.{AsksFor, AsksNothing, HasInputs, HasObjectParts, HasParts, HasSteps, HasVerifyParts, IsRequest, has_flag};
+ghost use Rattle.acpi_listing.specs.CommandLine.{acpicheck_app, commands_app, eval_app, files_app, files_rule, flag_rule, method_app, names_app, object_app, option_rule, plain_rule, resources_app, routing_app, verify_app};
+ghost use Rattle.acpi_listing.specs.Words.{AsksFor, AsksNothing, HasInputs, HasObjectParts, HasParts, HasRoutingParts, HasSteps, HasVerifyParts, IsRequest, has_flag};
 ghost use Rattle.acpi_listing.specs.Faults.{nowhere};
 ghost use Rattle.acpi_listing.specs.declared.fault.FaultCause.TheVariants as cause;
 
@@ -29,6 +29,8 @@ pub enum Request<'a> {
     Eval(EvalRequest<'a>),
     /// To list the resource descriptors that an object gives.
     Resources(ObjectRequest<'a>),
+    /// To list where the interrupts go that a `_PRT` lists.
+    Routing(RoutingRequest<'a>),
 }
 
 /// Which methods are to be judged, and how.
@@ -72,6 +74,15 @@ pub struct ObjectRequest<'a> {
     pub regs: Option<&'a str>,
     /// The file whose text tells the kinds of arguments.
     pub kinds: Option<&'a str>,
+}
+
+/// Which `_PRT` is followed, and how.
+#[derive(Debug, Drop)]
+pub struct RoutingRequest<'a> {
+    /// The object that gives it.
+    pub asked: ObjectRequest<'a>,
+    /// The file of the MADT.
+    pub madt: Option<&'a str>,
 }
 
 /// Reads the words: a command, its options, and last its files.
@@ -120,7 +131,8 @@ fn command<'a>(alloc: Global) -> Result<Command<'a>, AllocError>
         .subcommand(names_command(alloc)?)?
         .subcommand(verify_command(alloc)?)?
         .subcommand(eval_command(alloc)?)?
-        .subcommand(resources_command(alloc)?)
+        .subcommand(resources_command(alloc)?)?
+        .subcommand(routing_command(alloc)?)
 }
 
 // The words have no program's name in front, and a command is wanted.
@@ -193,6 +205,17 @@ fn resources_command<'a>(alloc: Global) -> Result<Command<'a>, AllocError>
         .arg(files_arg(alloc))
 }
 
+// The command that lists where the interrupts go that a `_PRT` lists.
+fn routing_command<'a>(alloc: Global) -> Result<Command<'a>, AllocError>
+    ensures app { IfOk result (λ c. app_of c ≡ routing_app) }
+    ensures local { IfOk result (λ c. (fields_of c).has_globals ≡ false) }
+{
+    object_command(alloc, "routing")?
+        .arg(option_arg(alloc, "madt"))?
+        .arg(flag_arg(alloc, "dead-externals"))?
+        .arg(files_arg(alloc))
+}
+
 // A command of that name that asks for an object, without the options of its tables.
 fn object_command<'a>(alloc: Global, name: &'a str) -> Result<Command<'a>, AllocError>
     ensures app { IfOk result (λ c. app_of c ≡ object_app name.entry.now) }
@@ -256,6 +279,7 @@ fn request_of<'a>(alloc: Global, matches: &ArgMatches<'a>) -> Result<Request<'a>
         "verify" => Ok(Request::Verify(verify_of(alloc, found)?)),
         "eval" => Ok(Request::Eval(eval_of(alloc, found)?)),
         "resources" => Ok(Request::Resources(object_of(alloc, found)?)),
+        "routing" => Ok(Request::Routing(routing_of(alloc, found)?)),
         _ => Err(Fault::nowhere(FaultCause::CommandLine)),
     }
 }
@@ -355,5 +379,17 @@ fn object_of<'a>(alloc: Global, found: &ArgMatches<'a>) -> Result<ObjectRequest<
         object,
         regs: found.get_str("regs"),
         kinds: found.get_str("kinds"),
+    })
+}
+
+// Each part of the request is the value of its option.
+fn routing_of<'a>(alloc: Global, found: &ArgMatches<'a>) -> Result<RoutingRequest<'a>, Fault>
+    ensures { let rows = rows_of (found_of found.now) in
+        Tries (HasRoutingParts rows)
+        (λ f. (f ≡ nowhere cause.CommandLine) × ((r : _) → HasRoutingParts rows r → ⊥)) result }
+{
+    Ok(RoutingRequest {
+        asked: object_of(alloc, found)?,
+        madt: found.get_str("madt"),
     })
 }

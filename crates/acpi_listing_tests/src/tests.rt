@@ -14,6 +14,23 @@ use std::io;
 use std::io::Write;
 use std::test::Fail;
 
+// A field of 8 bits at bit 4 of a region, which a method writes; registers before it.
+const FIELD: &str =
+    "445344544c00000002a741435049434b524f57533030303101000000524f5753010000005b804750494f010a600a045b810d4750494f010004464c443008140d4d30303100700aab464c4430";
+
+const REGISTERS: &str = "696f20363020313532370a";
+
+// Two methods that call each other, and one that calls the first.
+const CYCLE: &str =
+    "4453445448000000021241435049434b524f57533030303101000000524f575301000000140b4141414100a442424242140b4242424200a441414141140b4343434300a441414141";
+
+// A link device with a _CRS, and a _PRT that names it; a MADT that sends its interrupt elsewhere.
+const LINK: &str =
+    "445344547d000000026e41435049434b524f57533030303101000000524f5753010000001048055c5f53425f5b82324c4e4b41142c5f43525300084255463011090a062300001879008b425546300149525157700b000249525157a4425546305b821b50434930085f505254121001120d040cffff0100004c4e4b4100";
+
+const MADT: &str =
+    "4150494336000000017041435049434b524f57533030303101000000524f5753010000000000000000000000020a0009140000000f00";
+
 const TABLE_1: &str =
     "4453445430000000021f41435049434b524f57533030303101000000524f575301000000140b4d30303001a472680100";
 
@@ -83,22 +100,43 @@ fn seal(table: &mut [u8]) -> Option<()> {
 }
 
 // What a command prints, into a writer that takes a byte at a time, and into one that fails at each
-// byte: a listing, a verdict, an outcome, a fault's line and the line of a body that cannot be read.
+// byte: each listing, a verdict, an outcome, a fault's line and the line of a body that cannot be read.
 #[test]
 fn writers(rt: HostRuntime) -> Result<(), Fail> {
     let alloc = rt.alloc();
     let torn = dsdt(alloc, 2, "14084d30303000a45c").ok_or("a table")?;
+    let torn = torn.as_str();
+    let link = "resources --object \\_SB_.LNKA._CRS @";
+    let prt = "routing --object \\_SB_.PCI0._PRT --madt @ @";
+    let own = "routing --object \\_SB_.PCI0._PRT @";
     let rows = [
-        ("verify @", TABLE_1, 0),
-        ("verify @", torn.as_str(), 3),
-        ("tables @ @", TABLE_1, 0),
-        ("eval --plain 9 --method \\M000 --args 41 @", TABLE_1, 0),
-        ("eval --plain 9 --method \\M001 @", TABLE_1, 1),
-        ("eval --plain 9 --method \\M000 @", torn.as_str(), 3),
-        ("names @", TABLE_1, 0),
+        ("verify @", TABLE_1, "", 0),
+        ("verify @", torn, "", 3),
+        ("tables @ @", TABLE_1, TABLE_1, 0),
+        ("eval --plain 9 --method \\M000 --args 41 @", TABLE_1, "", 0),
+        ("eval --plain 9 --method \\M001 @", TABLE_1, "", 1),
+        ("eval --plain 9 --method \\M000 @", torn, "", 3),
+        ("names @", TABLE_1, "", 0),
+        ("tables @ @", FIELD, CYCLE, 0),
+        ("names @", FIELD, "", 0),
+        ("verify @", FIELD, "", 0),
+        ("eval --method \\M001 --regs @ @", REGISTERS, FIELD, 0),
+        ("names @", CYCLE, "", 0),
+        ("verify @", CYCLE, "", 3),
+        ("eval --plain 128 --method \\AAAA @", CYCLE, "", 3),
+        ("tables @ @", MADT, LINK, 0),
+        ("names @", LINK, "", 0),
+        ("verify @", LINK, "", 0),
+        (link, LINK, "", 0),
+        (prt, MADT, LINK, 0),
+        (own, LINK, "", 0),
+        ("routing --object \\AAAA @", CYCLE, "", 3),
+        ("resources --object \\AAAA @", CYCLE, "", 3),
+        ("resources --object \\_SB_.PCI0._PRT @", LINK, "", 1),
+        ("routing --object \\_SB_.LNKA._CRS @", LINK, "", 1),
     ];
-    for (words, table, status) in rows {
-        let input = format!(in alloc; "{words}\n{table}\n{table}\n")?;
+    for (words, first, second, status) in rows {
+        let input = format!(in alloc; "{words}\n{first}\n{second}\n")?;
         let whole = told(alloc, input.as_str(), 4096, 4096)?;
         assert_eq!(rt; whole.ended, Ok(status), "at {words}");
         assert!(rt; !whole.text.is_empty());

@@ -1,9 +1,9 @@
 -- Which help the words of a command line ask for.
 use Rattle.std.specs.Prelude.{ℕ, ◌-◌, ◌||◌, length, List, Bool, Option, Some, None, codes, not, option_and_then, slice_get, if◌then◌else◌}
 use Rattle.std.specs.Str.{bytes_eq}
-use Rattle.acpi_notes.specs.declared.help.TheConstants.{COMMANDS, EVAL, NAMES, RESOURCES, TABLES, VERIFY, VERSION}
+use Rattle.acpi_notes.specs.declared.help.TheConstants.{COMMANDS, EVAL, NAMES, RESOURCES, ROUTING, TABLES, VERIFY, VERSION}
 use Rattle.acpi_notes.specs.declared.help.Help.{Help}
-use Rattle.acpi_notes.specs.declared.help.Help.TheVariants.{Version, Commands, Tables, Names, Verify, Eval, Resources}
+use Rattle.acpi_notes.specs.declared.help.Help.TheVariants.{Version, Commands, Tables, Names, Verify, Eval, Resources, Routing}
 
 abbrev pub asks_for_help : List ℕ → Bool
 asks_for_help word = bytes_eq word (codes "--help") || bytes_eq word (codes "-h")
@@ -18,6 +18,7 @@ help_for first asks =
     else if bytes_eq first (codes "verify") then Some Verify
     else if bytes_eq first (codes "eval") then Some Eval
     else if bytes_eq first (codes "resources") then Some Resources
+    else if bytes_eq first (codes "routing") then Some Routing
     else Some Commands
 
 -- by the first word and the last one
@@ -37,3 +38,4 @@ help_text Names = NAMES.now
 help_text Verify = VERIFY.now
 help_text Eval = EVAL.now
 help_text Resources = RESOURCES.now
+help_text Routing = ROUTING.now

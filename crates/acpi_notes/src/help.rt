@@ -18,6 +18,7 @@ pub enum Help {
     Verify,
     Eval,
     Resources,
+    Routing,
 }
 
 const COMMANDS: &str = "\
@@ -35,6 +36,8 @@ Usage: acpicheck COMMAND [OPTIONS] FILES
                     acpicheck eval --method '\\_SB_.PCI0._STA' dsdt.dat
   resources FILES what a _CRS gives: interrupts, addresses, ranges
                     acpicheck resources --object '\\_SB_.LNKA._CRS' dsdt.dat
+  routing FILES   where the interrupts go that a _PRT lists
+                    acpicheck routing --object '\\_SB_.PCI0._PRT' --madt apic.dat dsdt.dat
 
 acpicheck COMMAND --help tells the options of a command. Without words the program takes them
 from the first line of standard input; there a file is @, the hex text of the next line.
@@ -107,6 +110,24 @@ gives. A method is judged first, as verify does: a refused one is not evaluated,
                       acpicheck resources --dead-externals --object '\\_SB_.PCI0._CRS' dsdt.dat
 ";
 
+const ROUTING: &str = "\
+Usage: acpicheck routing --object PATH [OPTIONS] FILES
+
+Loads a DSDT and the SSDTs behind it, and prints a line for each element of the _PRT that an object
+gives: a data name what it holds, a method without arguments what its evaluation gives. The _CRS of
+each link device that it names is asked once, in their order. Methods are judged first, as verify
+does: a refused one is not evaluated, and has its line; a link whose _CRS is refused has no interrupt.
+  acpicheck routing --object '\\_SB_.PCI0._PRT' --madt apic.dat dsdt.dat ssdt1.dat
+
+  --object PATH       the object, as names prints it: --object '\\_SB_.PCI0._PRT'
+  --madt FILE         the MADT, which says where interrupts of the ISA bus go; without one each
+                      keeps its number: --madt apic.dat
+  --regs FILE         lines SPACE ADDRESS BYTES that set registers, as io 60 1527: --regs board.regs
+  --kinds FILE        kinds of arguments, as verify takes them: --kinds board.kinds
+  --dead-externals    reads Externals that stand in an If (Zero), as iasl writes them:
+                      acpicheck routing --dead-externals --object '\\_SB_.PCI0._PRT' dsdt.dat
+";
+
 const VERSION: &str = "acpicheck 0.1, ACPI 6.5\n";
 
 impl Help {
@@ -122,6 +143,7 @@ impl Help {
             Help::Verify => VERIFY,
             Help::Eval => EVAL,
             Help::Resources => RESOURCES,
+            Help::Routing => ROUTING,
         }
     }
 }
@@ -161,6 +183,8 @@ fn help_for(first: &str, asks: bool) -> Option<Help>
         Some(Help::Eval)
     } else if first == "resources" {
         Some(Help::Resources)
+    } else if first == "routing" {
+        Some(Help::Routing)
     } else {
         Some(Help::Commands)
     }

@@ -1,7 +1,7 @@
 use Rattle.std.proofs.Common.{Bor, List, ℕ, map, subst}
 use Rattle.acpi_listing.specs.Files.{ListsFiles}
 use Rattle.acpi_listing.specs.Steps.{Writes}
-use Rattle.acpi_listing.specs.declared.words.Request.TheVariants.{Tables, Names, Verify, Eval, Resources}
+use Rattle.acpi_listing.specs.declared.words.Request.TheVariants.{Tables, Names, Verify, Eval, Resources, Routing}
 use Rattle.acpi_listing.proofs.Telling.{obeyed}
 use Rattle.acpi_listing.proofs.program.obey.Goals as goal
 
@@ -40,3 +40,9 @@ returns-in-Resources-clause-printed g c =
     obeyed g.F.Source.answers (map g.S.AsStr.text c.args.words.now) c.args.files.now c.list_resources_of.new.files
     (g.W.Write.contents c.args.out.now) (g.W.Write.contents c.list_resources_of.new.out) (Resources c.in-Resources.request) c.list_resources_of.result
     (rw c.in-Resources.is at c.in_ok-names.ensures) c.list_resources_of.ensures.printed
+
+pub returns-in-Routing-clause-printed : goal.returns-in-Routing-clause-printed
+returns-in-Routing-clause-printed g c =
+    obeyed g.F.Source.answers (map g.S.AsStr.text c.args.words.now) c.args.files.now c.list_routes_of.new.files
+    (g.W.Write.contents c.args.out.now) (g.W.Write.contents c.list_routes_of.new.out) (Routing c.in-Routing.request) c.list_routes_of.result
+    (rw c.in-Routing.is at c.in_ok-names.ensures) c.list_routes_of.ensures.printed

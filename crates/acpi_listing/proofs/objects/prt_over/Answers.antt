@@ -1,0 +1,37 @@
+use Rattle.std.proofs.Common.{◌≡◌, [], ◌∷◌}
+use Rattle.aml_machine.specs.Views.{names_of}
+use Rattle.aml_namespace.specs.Shows.{shown}
+use Rattle.aml_regions.specs.EventViews.{events_of}
+use Rattle.aml_regions.specs.Registers.{contents}
+use Rattle.aml_registers.specs.Answers.{start_of}
+use Rattle.acpi_listing.specs.Commands.{names_first}
+use Rattle.acpi_listing.proofs.RoutesListed.{link_told}
+use Rattle.acpi_listing.proofs.Started.{answered}
+use Rattle.acpi_listing.proofs.objects.prt_over.Goals as goal
+
+pub returns-in_err-prt : goal.returns-in_err-prt
+returns-in_err-prt g c =
+    let first = c.args.registers in
+    let left = c.prt_noted.new.world in
+    let checked = c.args.checked.now in
+    let held : names_of c.in_ok-names.names ≡ names_first (shown checked.namespace.now) =
+    rw (c.in_ok-names.ensures.contents, c.in_ok-names.ensures.kinds, c.namespace.ensures) in
+    let had : start_of first.text.items ∷ events_of first.file.events.items ≡ start_of first.text.items ∷ [] = rw c.requires.fresh in
+    link_told (contents first.file) checked c.args.id.0 (names_of c.in_ok-names.names) (names_of c.prt_noted.new.names)
+    (start_of first.text.items ∷ events_of first.file.events.items) (start_of first.text.items ∷ [])
+    (start_of left.text.items ∷ events_of left.file.events.items) _ c.from_residual-in_err-prt.result c.from_residual-in_err-prt.ensures.1
+    c.in_err-prt.ensures held had (answered first left c.requires.set)
+
+-- the log began with the text, so these are the registers that it sets
+pub returns : goal.returns
+returns g c =
+    let gave = rw (c.in_ok-names.ensures.contents, c.in_ok-names.ensures.kinds, c.requires.fresh, c.namespace.ensures) at c.in_ok-prt.ensures in
+    let first = c.args.registers in
+    let left = c.prt_noted.new.world in
+    record {
+      names = _;
+      before = start_of first.text.items ∷ [];
+      log = _;
+      gives = gave;
+      answered = answered first left c.requires.set;
+    }

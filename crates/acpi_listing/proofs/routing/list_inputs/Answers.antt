@@ -1,0 +1,19 @@
+use Rattle.std.proofs.Common.{option_map}
+use Rattle.aml_namespace.specs.Shows.{shown}
+use Rattle.aml_regions.specs.Registers.{contents}
+use Rattle.aml_signatures.specs.Signed.{kinds_told}
+use Rattle.acpi_listing.specs.Inputs.{tables_of}
+use Rattle.acpi_listing.proofs.RoutesListed.{load_routed, no_load}
+use Rattle.acpi_listing.proofs.routing.list_inputs.Goals as goal
+
+pub returns-in_err-namespace-clause-printed : goal.returns-in_err-namespace-clause-printed
+returns-in_err-namespace-clause-printed g c =
+    no_load (contents c.args.registers.file) (kinds_told c.args.signatures.now) (option_map (λ m. m.now) c.args.madt)
+    c.args.request.now.asked.object.now (tables_of c.args.inputs.now)
+    _ _ c.from_residual.result c.from_residual.ensures.1 c.in_err-namespace.ensures
+
+pub returns-clause-printed : goal.returns-clause-printed
+returns-clause-printed g c =
+    load_routed (contents c.args.registers.file) (kinds_told c.args.signatures.now) (option_map (λ m. m.now) c.args.madt)
+    c.args.request.now.asked.object.now (tables_of c.args.inputs.now)
+    (shown c.in_ok-namespace.namespace) _ _ c.list_loaded.result c.in_ok-namespace.ensures c.list_loaded.ensures.printed
