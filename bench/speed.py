@@ -1,9 +1,10 @@
 #!/usr/bin/env python3
 """Times acpicheck beside ACPICA's acpiexec on loops: speed.py [ACPICHECK] [LOOP ..].
 
-`iasl` and `acpiexec` are of Debian's acpica-tools (apt-get install acpica-tools). One DSDT has a method for each loop, whose argument
-is the number of turns. Each is run at two sizes, the second twice the first, the better of three runs; what a turn costs is the
-difference of both over the difference of the turns, so that starting, loading and reading are left out. Both must give the same value.
+`iasl` and `acpiexec` are of Debian's acpica-tools (apt-get install acpica-tools). One DSDT has a method for each loop and number of
+turns. Each is run at two sizes, the second twice the first, the better of three runs; what a turn costs is the difference of both over
+the difference of the turns, so that starting, loading, reading and judging are left out. It is evaluated straight from its bytes (`eval`),
+where the verifier accepts it, then from its tree (`eval --plain`), and by acpiexec; all must give the same value.
 
 Behind `resident` stands how much memory acpicheck had resident at most, at each of its two sizes, by `/usr/bin/time` (apt-get install
 time). It should not grow with the turns, but in TEXT, whose string does.
@@ -30,7 +31,7 @@ LOOPS = {
     "PACK": (1_000_000, 10_000),
     "NEST": (1_000_000, 10_000),
     "CRCS": (300, 10),
-    "TEXT": (10_000, 10_000),
+    "TEXT": (10_000, 8_000),
 }
 
 
@@ -41,13 +42,84 @@ def crc_table():
         yield n
 
 
+# each loop's statements, which `TURNS` stands in for the number of turns
+STATEMENTS = {
+    "ARIT": """
+  Store (Zero, Local0)
+  Store (One, Local1)
+  While (LLess (Local0, TURNS)) { And (Add (Multiply (Local1, 3), 7), 0xFFFF, Local1) Increment (Local0) }
+  Return (Local1)""",
+    "BUFF": """
+  Store (Zero, Local0)
+  While (LLess (Local0, TURNS)) {
+    And (Local0, 0xFFFF, Local1)
+    Add (DerefOf (Index (BUF0, Local1)), 3, Index (BUF0, Local1))
+    Increment (Local0)
+  }
+  Return (DerefOf (Index (BUF0, 7)))""",
+    "CALL": """
+  Store (Zero, Local0)
+  Store (Zero, Local1)
+  While (LLess (Local0, TURNS)) { Store (SUM3 (Local0, Local1, 5), Local1) Increment (Local0) }
+  Return (Local1)""",
+    "DEEP": """
+  Store (Zero, Local0)
+  Store (Zero, Local1)
+  While (LLess (Local0, TURNS)) { Store (D000 (Local1), Local1) Increment (Local0) }
+  Return (Local1)""",
+    "PACK": """
+  Store (Zero, Local0)
+  Store (Zero, Local1)
+  While (LLess (Local0, TURNS)) {
+    Add (Local1, DerefOf (Index (PKG0, Mod (Local0, 1000))), Local1)
+    Increment (Local0)
+  }
+  Return (Local1)""",
+    "NEST": """
+  Store (Zero, Local0)
+  Store (Zero, Local1)
+  While (LLess (Local0, TURNS)) {
+    Add (Local1, DerefOf (Index (DerefOf (Index (PKG1, 2)), Mod (Local0, 250))), Local1)
+    Increment (Local0)
+  }
+  Return (Local1)""",
+    "CRCS": """
+  Store (Zero, Local0)
+  Store (Zero, Local1)
+  While (LLess (Local0, TURNS)) {
+    Store (0xFFFFFFFF, Local1)
+    Store (Zero, Local2)
+    While (LLess (Local2, 4096)) {
+      XOr (ShiftRight (Local1, 8), DerefOf (Index (CRC0, And (XOr (Local1, DerefOf (Index (DAT0, Local2))), 0xFF))), Local1)
+      Increment (Local2)
+    }
+    Increment (Local0)
+  }
+  Return (Local1)""",
+    "TEXT": """
+  Store (Zero, Local0)
+  Store ("", Local1)
+  While (LLess (Local0, TURNS)) { Concatenate (Local1, "ab", Local1) Increment (Local0) }
+  Return (SizeOf (Local1))""",
+}
+
+
+def method(loop, turns):
+    """The name of the method that makes so many turns of a loop, which are its own or those of acpiexec, once or twice."""
+    mine, other = LOOPS[loop]
+    return loop[:3] + str([mine, 2 * mine, other, 2 * other].index(turns) + 1)
+
+
 def source():
-    """The ASL of the loops."""
+    """The ASL of the loops, a method for each number of turns: the verifier wants the number to be a constant."""
     integers = ", ".join(str(n * 7) for n in range(1000))
     inner = ", ".join(f"Package (250) {{ {', '.join(str(n * 7) for n in range(first, first + 250))} }}" for first in range(0, 1000, 250))
     table = ", ".join(hex(n) for n in crc_table())
     deep = "".join(
         f"Method (D{n:03}, 1) {{ Return ({f'D{n + 1:03} (Arg0)' if n < 59 else 'Add (Arg0, 1)'}) }}\n" for n in reversed(range(60)))
+    loops = "".join(
+        f"Method ({method(loop, turns)}) {{{text.replace('TURNS', hex(turns))}\n}}\n"
+        for loop, text in STATEMENTS.items() for n in LOOPS[loop] for turns in (n, 2 * n))
     return f"""
 DefinitionBlock ("", "DSDT", 2, "ACPICK", "SPEED", 1) {{
 Name (BUF0, Buffer (65536) {{}})
@@ -55,72 +127,9 @@ Name (PKG0, Package (1000) {{ {integers} }})
 Name (PKG1, Package (4) {{ {inner} }})
 Name (CRC0, Package (256) {{ {table} }})
 Name (DAT0, Buffer (4096) {{ 1, 2, 3, 4, 5, 6, 7, 8 }})
-Method (ARIT, 1) {{
-  Store (Zero, Local0)
-  Store (One, Local1)
-  While (LLess (Local0, Arg0)) {{ And (Add (Multiply (Local1, 3), 7), 0xFFFF, Local1) Increment (Local0) }}
-  Return (Local1)
-}}
-Method (BUFF, 1) {{
-  Store (Zero, Local0)
-  While (LLess (Local0, Arg0)) {{
-    And (Local0, 0xFFFF, Local1)
-    Add (DerefOf (Index (BUF0, Local1)), 3, Index (BUF0, Local1))
-    Increment (Local0)
-  }}
-  Return (DerefOf (Index (BUF0, 7)))
-}}
 Method (SUM3, 3) {{ Return (And (Add (Add (Arg0, Arg1), Arg2), 0xFFFFFF)) }}
-Method (CALL, 1) {{
-  Store (Zero, Local0)
-  Store (Zero, Local1)
-  While (LLess (Local0, Arg0)) {{ Store (SUM3 (Local0, Local1, 5), Local1) Increment (Local0) }}
-  Return (Local1)
-}}
 {deep}
-Method (DEEP, 1) {{
-  Store (Zero, Local0)
-  Store (Zero, Local1)
-  While (LLess (Local0, Arg0)) {{ Store (D000 (Local1), Local1) Increment (Local0) }}
-  Return (Local1)
-}}
-Method (PACK, 1) {{
-  Store (Zero, Local0)
-  Store (Zero, Local1)
-  While (LLess (Local0, Arg0)) {{
-    Add (Local1, DerefOf (Index (PKG0, Mod (Local0, 1000))), Local1)
-    Increment (Local0)
-  }}
-  Return (Local1)
-}}
-Method (NEST, 1) {{
-  Store (Zero, Local0)
-  Store (Zero, Local1)
-  While (LLess (Local0, Arg0)) {{
-    Add (Local1, DerefOf (Index (DerefOf (Index (PKG1, And (Local0, 3))), Mod (Local0, 250))), Local1)
-    Increment (Local0)
-  }}
-  Return (Local1)
-}}
-Method (CRCS, 1) {{
-  Store (Zero, Local0)
-  While (LLess (Local0, Arg0)) {{
-    Store (0xFFFFFFFF, Local1)
-    Store (Zero, Local2)
-    While (LLess (Local2, 4096)) {{
-      XOr (ShiftRight (Local1, 8), DerefOf (Index (CRC0, And (XOr (Local1, DerefOf (Index (DAT0, Local2))), 0xFF))), Local1)
-      Increment (Local2)
-    }}
-    Increment (Local0)
-  }}
-  Return (Local1)
-}}
-Method (TEXT, 1) {{
-  Store (Zero, Local0)
-  Store ("", Local1)
-  While (LLess (Local0, Arg0)) {{ Concatenate (Local1, "ab", Local1) Increment (Local0) }}
-  Return (SizeOf (Local1))
-}}
+{loops}
 }}
 """
 
@@ -147,12 +156,18 @@ def value(said):
     return int(found[1] or found[2], 16)
 
 
-def ours(program, table, loop, turns):
-    return best([program, "eval", "--plain", STEPS, "--method", "\\" + loop, "--args", str(turns), table])
+def ours(program, table, loop, turns, words):
+    return best([program, "eval", *words, "--method", "\\" + method(loop, turns), table])
 
 
 def theirs(table, loop, turns):
-    return best(["acpiexec", "-di", "-b", f"execute {loop} {turns:#x}", table])
+    return best(["acpiexec", "-di", "-b", f"execute {method(loop, turns)}", table])
+
+
+def costs(run_at, turns):
+    """What a turn takes by two sizes, in seconds; the most memory at both; the value at the second."""
+    (first, small, _), (second, large, said) = run_at(turns), run_at(2 * turns)
+    return (second - first) / turns, (small, large), said
 
 
 def main(words):
@@ -165,17 +180,21 @@ def main(words):
         asl.write_text(source())
         subprocess.run(["iasl", "-oa", "-p", folder + "/speed", asl], capture_output=True, check=True)
         table = folder + "/speed.aml"
-        print("loop   turns      here         a turn     turns      acpiexec     a turn     times  resident")
+        print("loop   from bytes     --plain    acpiexec   times plain   times acpiexec  resident")
         for loop in words[1:] or LOOPS:
             mine, other = LOOPS[loop]
-            (first, small, _), (second, large, _) = (ours(program, table, loop, n) for n in (mine, 2 * mine))
-            (before, _, _), (behind, _, told) = (theirs(table, loop, n) for n in (other, 2 * other))
-            here, there = (second - first) / mine, (behind - before) / other
-            _, _, said = ours(program, table, loop, 2 * other)
-            same = "" if value(said) == value(told) else f"  here {value(said)}, there {value(told)}"
-            print(f"{loop} {2 * mine:9} {first:6.3f} {second:6.3f} s {here * 1e9:8.0f} ns"
-                  f" {2 * other:9} {before:6.3f} {behind:6.3f} s {there * 1e9:8.0f} ns {there / here:8.1f}"
-                  f" {small:7}, {large} KiB{same}")
+            there, _, told = costs(lambda n: theirs(table, loop, n), other)
+            plain, held, _ = costs(lambda n: ours(program, table, loop, n, ["--plain", STEPS]), mine)
+            said = [ours(program, table, loop, 2 * other, words)[2] for words in ([], ["--plain", STEPS])]
+            if said[0].startswith("\\"):
+                here, _, said = "refused", held, said[1:]
+                print(f"{loop}      {here:>8} {plain * 1e9:8.0f} ns {there * 1e9:8.0f} ns {'':13} {'':16}"
+                      f" {held[0]:7}, {held[1]} KiB", end="")
+            else:
+                here, held, _ = costs(lambda n: ours(program, table, loop, n, []), mine)
+                print(f"{loop}   {here * 1e9:8.0f} ns {plain * 1e9:8.0f} ns {there * 1e9:8.0f} ns {plain / here:13.2f} {there / here:16.1f}"
+                      f" {held[0]:7}, {held[1]} KiB", end="")
+            print("" if all(value(it) == value(told) for it in said) else f"  here {said}, there {value(told)}")
 
 
 if __name__ == "__main__":

@@ -13,3 +13,4 @@ pub mod Stated
 pub mod Arguments
 pub mod Blocks
 pub mod Operands
+pub mod QuietParts

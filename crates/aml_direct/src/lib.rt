@@ -4,7 +4,7 @@
 //! Rooms: `body` is an evaluation's beginning and end, `eval` the cycle over terms, each function one form
 //! of the meaning; `here` where a body stands and what may be called; `kept_in` what is kept of a method's
 //! body; what reads terms beside the cycle are `computed`, `data`, `define`, `index`, `mutex`, `operand`,
-//! `past`, `placed` and `standing`. What terms do once their operands are values is aml_acts.
+//! `past`, `placed`, `quiet` and `standing`. What terms do once their operands are values is aml_acts.
 #![tactic(auto)]
 
 mod body;
@@ -19,6 +19,7 @@ mod mutex;
 mod operand;
 mod past;
 mod placed;
+mod quiet;
 mod standing;
 
 pub use body::evaluate_direct;
