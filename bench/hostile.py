@@ -28,6 +28,9 @@ WORKERS = 4
 MARKS = [0x00, 0x01, 0x3F, 0x40, 0x5B, 0x5C, 0x5E, 0x2E, 0x2F, 0x10, 0x11, 0x12, 0x13, 0x14, 0x15, 0x70, 0x80, 0xA0, 0xA1,
          0xA2, 0xC0, 0xFF]
 NAMES = ["\\MAIN", "\\_SB_.PCI0._STA", "\\_OSI", "\\M000"]
+# Objects of the tables that rows of resources and of routing have.
+OBJECTS = ["\\BUF0", "\\M000", "\\M004", "\\_SB_.LNKA._CRS", "\\LNKC._CRS", "\\_SB_.PCI0.COM1._CRS"]
+PRTS = ["\\_SB_.PCI0._PRT", "\\_PRT", "\\PKG0"]
 
 
 def seeds():
@@ -66,7 +69,7 @@ def changed(chance, table, others):
 def words_of(chance, count):
     """A command over so many files."""
     files = [f"t{k}.bin" for k in range(count)]
-    name = chance.choice(NAMES)
+    name, asked, prt = chance.choice(NAMES), chance.choice(OBJECTS), chance.choice(PRTS)
     return chance.choice([
         ["tables", *files],
         ["names", *files],
@@ -76,6 +79,10 @@ def words_of(chance, count):
         ["eval", "--plain", "10000", "--method", name, *files],
         ["eval", "--plain", "10000", "--dead-externals", "--method", name, *files],
         ["eval", "--plain", "10000", "--args", "0x1,buf:00FF,str:A,pkg", "--method", name, *files],
+        ["eval", "--method", name, *files],
+        ["resources", "--object", asked, *files],
+        ["routing", "--object", prt, *files],
+        ["routing", "--object", prt, "--madt", files[-1], *files],
     ])
 
 
