@@ -9,13 +9,13 @@ accepted. In the others some dare more than is known. Beside each stands a table
 of the first are others: of that much is refused, and what is accepted was not written to be. `verify` judges all, with
 the kinds of arguments that the methods were written for. Each accepted method is evaluated three times by
 `eval --plain` with just its own steps, over registers of all zeros, of all ones and of made bytes, with arguments that
-are least, greatest and made.
+are least, greatest and made; and then by `eval` without `--plain`, which evaluates it straight from its bytes.
 
-A run is a failure where its last line is `error` or `out of steps`, or its status is not 0; a refusal in a sure table
-is one; and where `verify` itself ends otherwise than with 0 or 3. A failure is told with the seed and the number of its
-table, and kept in FOLDER, if one is given. Methods of more than 200,000 steps are judged and not run. N accepted bodies
-are wanted, 10,000 if it is not given; S is 1, and tables are numbered from 0. Behind all stands how often each operator
-stood in a method that was accepted as it was written.
+A run is a failure where its last line is `error` or `out of steps`, or its status is not 0, or where the lines without
+`--plain` are not the same; a refusal in a sure table is one; and where `verify` itself ends otherwise than with 0 or 3.
+A failure is told with the seed and the number of its table, and kept in FOLDER, if one is given. Methods of more than
+200,000 steps are judged and not run. N accepted bodies are wanted, 10,000 if it is not given; S is 1, and tables are
+numbered from 0. Behind all stands how often each operator stood in a method that was accepted as it was written.
 """
 import argparse
 import os
@@ -215,18 +215,20 @@ class Tried:
 
 
 def tried_method(program, tried, chance, room, method, steps):
-    """Runs an accepted method over each kind of registers, and gives the failures."""
+    """Runs an accepted method over each kind of registers, with its steps and by its verdict, and gives the failures."""
     found = []
     for registers in REGISTERS:
         with open(f"{room}/t.regs", "w", encoding="ascii") as it:
             it.write(registers_text(chance, registers))
-        words = ["eval", "--method", f"\\{method.name.decode()}", "--plain", str(steps), "--regs", "t.regs"]
+        words = ["eval", "--method", f"\\{method.name.decode()}", "--regs", "t.regs"]
         if method.args:
             words += ["--args", ",".join(argument_text(chance, kind, registers) for kind in method.args)]
-        status, lines = run(program, [*words, "t.bin"], room)
+        status, lines = run(program, [*words, "--plain", str(steps), "t.bin"], room)
         tried.runs += 1
         if status or not lines or not lines[-1].startswith("result "):
-            found.append(f"{' '.join(words)}: status {status}, {lines[-1:]}")
+            found.append(f"{' '.join(words)} --plain {steps}: status {status}, {lines[-1:]}")
+        elif run(program, [*words, "--kinds", "t.kinds", "t.bin"], room) != (status, lines):
+            found.append(f"{' '.join(words)}: without --plain {steps} it has other lines")
     return found
 
 

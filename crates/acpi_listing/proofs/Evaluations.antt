@@ -1,6 +1,6 @@
 -- Laws of listing names and of evaluating methods.
 use Rattle.std.proofs.Common.{◌≡◌, ◌∙◌, ℕ, List, [], map, Bool, Bor, Option, Some, None, Result, Ok, Err, ap, refl, subst, sym}
-use Rattle.std.specs.Prelude.{IsErrAnd, true}
+use Rattle.std.specs.Prelude.{IsErrAnd, false, true}
 use Rattle.aml_namespace.specs.declared.object.Method.{Method}
 use Rattle.aml_namespace.specs.Load.{Shown}
 use Rattle.aml_namespace.specs.Names.{IsBodyOf}
@@ -34,7 +34,7 @@ use Rattle.aml_verify.specs.declared.verdict.Verdict.TheVariants as verdict
 use Rattle.aml_regions.specs.Registers.{contents}
 use Rattle.aml_registers.specs.declared.registers.Registers.{Registers}
 use Rattle.acpi_listing.specs.Steps.{Step, Then, Obtains, Still, Tells, Writes}
-use Rattle.acpi_listing.specs.Commands.{Accepts, AreVerdictsOn, EvaluatesBody, EvaluatesFiles, EvaluatesFound, EvaluatesJudged, EvaluatesMethod, EvaluatesTables, Finds, Fit, IsMeant, IsMethodAt, Judges, ListsNames, ReadsArguments, ReadsBody, Takes, evaluation_text, outcome_status}
+use Rattle.acpi_listing.specs.Commands.{Accepts, AreVerdictsOn, EvaluatesBody, EvaluatesFiles, EvaluatesFound, EvaluatesJudged, EvaluatesMethod, EvaluatesTables, Finds, Fit, IsDone, IsMeant, IsMethodAt, Judges, ListsNames, ReadsArguments, ReadsBody, Takes, evaluation_text, is_accepted, outcome_status}
 use Rattle.acpi_listing.specs.declared.fault.Fault.{Fault}
 use Rattle.acpi_listing.specs.declared.fault.Stop.{Stop}
 use Rattle.acpi_listing.specs.declared.fault.Stop.TheVariants.{Fault as Faulty}
@@ -116,10 +116,26 @@ all_fit_as checked k accepted listed values answer b are said is does =
     ap (λ (vs : List held.Value). all_fit (map view vs) (kinds_of (numbered checked.shapes) accepted.args.items)) (sym are)
     ∙ ap (λ (o : Option Verdict). accepts_by (accepted_by (numbered checked.shapes) o) (map view listed)) (sym said) ∙ sym is ∙ does
 
+-- what is said of a method that is accepted, and that nothing of the sort is said of any other
+pub accepted_there : (said : Option Verdict) → is_accepted said ≡ true → (a : Accepted) × (said ≡ Some (verdict.Accepted a))
+accepted_there None is = absurd cc
+accepted_there (Some (verdict.Accepted a)) is = (a, refl)
+accepted_there (Some (verdict.Refused refusal)) is = absurd cc
+accepted_there (Some (verdict.Unreadable table refusal)) is = absurd cc
+
+pub none_accepted : (said : Option Verdict) → is_accepted said ≡ false → (a : Accepted) → said ≡ Some (verdict.Accepted a) → ⊥
+none_accepted said is a accepted = (let does : is_accepted said ≡ true = ap is_accepted accepted in absurd cc)
+
 -- a method that is judged first
 module _ (bytes : ℕ → ℕ → ℕ) (told : Told) (ns : Shown) (arguments : List Value) (found : ℕ × Method) where
   abbrev behind_verdicts : Checked → Step (Unit {0}) ℕ
   behind_verdicts checked = EvaluatesJudged bytes ns arguments found checked (said_of checked found.0)
+
+  abbrev behind_done : Outcome × List Event → Step (Unit {0}) ℕ
+  behind_done ended = Tells (evaluation_text ns.entries ended) (outcome_status ended.0)
+
+  abbrev behind_accepts : ℕ → Unit {0} → Step (Unit {0}) ℕ
+  behind_accepts bound _ = Then (Obtains (IsDone bytes ns found arguments bound)) behind_done
 
   pub no_judgement : (held : Option (List ℕ)) (f : Fault) (r : Result ℕ Stop) → IsErrAnd r (λ s. s ≡ Faulty f) → Judges told ns (Err f)
       → Writes (EvaluatesFound bytes told ns arguments None found) tt tt held held r
@@ -133,19 +149,30 @@ module _ (bytes : ℕ → ℕ → ℕ) (told : Told) (ns : Shown) (arguments : L
         given (Judges told ns) behind_verdicts tt tt held holds checked r are
         (subst (λ v. Writes (EvaluatesJudged bytes ns arguments found checked v) tt tt held holds r) (sym is) does)
 
-    -- one that is accepted, and takes the arguments or not
+    -- one that is accepted, and does not take the arguments
     pub not_taken : (accepted : Accepted) (held : Option (List ℕ)) (f : Fault) (r : Result ℕ Stop) → IsErrAnd r (λ s. s ≡ Faulty f)
         → said_of checked found.0 ≡ Some (verdict.Accepted accepted) → Accepts checked accepted arguments (Err f)
         → Writes (EvaluatesFound bytes told ns arguments None found) tt tt held held r
     not_taken accepted held f r is said refuses = after_verdicts _ held held r said
-        (given_fault (Accepts checked accepted arguments) (λ _. EvaluatesMethod bytes ns arguments accepted.bound found) tt held f r is refuses)
+        (given_fault (Accepts checked accepted arguments) (behind_accepts accepted.bound) tt held f r is refuses)
 
-    pub taken : (accepted : Accepted) (held holds : Option (List ℕ)) (r : Result ℕ Stop)
+    -- one that takes them: its evaluation wants memory, or is done
+    pub not_done : (accepted : Accepted) (held : Option (List ℕ)) (f : Fault) (r : Result ℕ Stop) → IsErrAnd r (λ s. s ≡ Faulty f)
         → said_of checked found.0 ≡ Some (verdict.Accepted accepted) → Accepts checked accepted arguments (Ok tt)
-        → Writes (EvaluatesMethod bytes ns arguments accepted.bound found) tt tt held holds r
+        → IsDone bytes ns found arguments accepted.bound (Err f)
+        → Writes (EvaluatesFound bytes told ns arguments None found) tt tt held held r
+    not_done accepted held f r is said takes wants = after_verdicts _ held held r said
+        (given (Accepts checked accepted arguments) (behind_accepts accepted.bound) tt tt held held tt r takes
+        (given_fault (IsDone bytes ns found arguments accepted.bound) behind_done tt held f r is wants))
+
+    pub done : (accepted : Accepted) (ended : Outcome × List Event) (held holds : Option (List ℕ)) (r : Result ℕ Stop)
+        → said_of checked found.0 ≡ Some (verdict.Accepted accepted) → Accepts checked accepted arguments (Ok tt)
+        → IsDone bytes ns found arguments accepted.bound (Ok ended)
+        → Writes (Tells (evaluation_text ns.entries ended) (outcome_status ended.0)) (tt {0}) (tt {0}) held holds r
         → Writes (EvaluatesFound bytes told ns arguments None found) tt tt held holds r
-    taken accepted held holds r said takes does = after_verdicts _ held holds r said
-        (given (Accepts checked accepted arguments) (λ _. EvaluatesMethod bytes ns arguments accepted.bound found) tt tt held holds tt r takes does)
+    done accepted ended held holds r said takes is does = after_verdicts _ held holds r said
+        (given (Accepts checked accepted arguments) (behind_accepts accepted.bound) tt tt held holds tt r takes
+        (given (IsDone bytes ns found arguments accepted.bound) behind_done tt tt held holds ended r is does))
 
     -- and any other
     other : (said : Option Verdict) (held holds : Option (List ℕ)) (r : Result ℕ Stop) → ((a : Accepted) → said ≡ Some (verdict.Accepted a) → ⊥)

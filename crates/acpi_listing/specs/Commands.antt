@@ -22,6 +22,7 @@ use Rattle.aml_plain.specs.Methods.{Evaluates}
 use Rattle.aml_meaning.specs.declared.outcome.Outcome.{Outcome}
 use Rattle.aml_meaning.specs.declared.outcome.Outcome.TheVariants.{Done, AmlError, OutOfSteps}
 use Rattle.aml_values.specs.Views.{view}
+use Rattle.aml_values.specs.declared.value.Value as held
 use Rattle.acpi_objects.specs.Gives.{GivesBy, gives_value}
 use Rattle.acpi_objects.specs.declared.given.Given.{Given}
 use Rattle.acpi_objects.specs.declared.given.Given.TheVariants as given
@@ -148,6 +149,19 @@ abbrev pub IsMeant : Shown → (ℕ → ℕ → ℕ) → ℕ → Method → Tree
 IsMeant ns bytes id m body arguments steps (Ok (outcome, events)) = IsOutcome ns bytes id m body arguments steps outcome events
 IsMeant ns bytes id m body arguments steps (Err f) = f ≡ nowhere cause.NoMemory
 
+-- an accepted method's outcome and the events until then: it is done, and both are those of the statements that the grammar ties to its bytes
+pub record IsDoneOver (bytes : ℕ → ℕ → ℕ) (ns : Shown) (id : ℕ) (m : Method) (arguments : List Value) (steps : ℕ) (outcome : Outcome) (events : List Event) : Type 0 where
+  pub value : Option held.Value
+  pub done : outcome ≡ Done value
+  pub body : List Tree
+  pub read : IsBodyOf ns id m body
+  pub meant : IsOutcome ns bytes id m (trees body) arguments steps outcome events
+
+-- the same; or memory is wanted
+abbrev pub IsDone : (ℕ → ℕ → ℕ) → Shown → ℕ × Method → List Value → ℕ → Result (Outcome × List Event) Fault → Type 0
+IsDone bytes ns (id, m) arguments steps (Ok (outcome, events)) = IsDoneOver bytes ns id m arguments steps outcome events
+IsDone bytes ns found arguments steps (Err f) = f ≡ nowhere cause.NoMemory
+
 -- the lines of the events of an evaluation, and behind them that of its outcome
 abbrev pub evaluation_text : Entries → Outcome × List Event → List ℕ
 evaluation_text entries (outcome, events) = events_text entries events ++ outcome_line entries outcome
@@ -212,17 +226,28 @@ abbrev pub EvaluatesMethod : (ℕ → ℕ → ℕ) → Shown → List Value → 
 EvaluatesMethod bytes ns arguments steps found =
     Then (Obtains (ReadsBody ns found.0 found.1)) (EvaluatesBody bytes ns found arguments steps)
 
+-- a method is accepted
+abbrev pub is_accepted : Option Verdict → Bool
+is_accepted (Some (verdict.Accepted a)) = true
+is_accepted said = false
+
 -- an accepted method takes arguments: as many as it has, each of its kind
 abbrev pub Accepts : Checked → Accepted → List Value → Result (Unit {0}) Fault → Type 0
 Accepts checked accepted arguments (Ok _) = all_fit arguments (kinds_of (numbered checked.shapes) accepted.args.items) ≡ true
 Accepts checked accepted arguments (Err f) =
     (all_fit arguments (kinds_of (numbered checked.shapes) accepted.args.items) ≡ false) × (f ≡ nowhere cause.ArgsDontFit)
 
--- `eval` of a method by what is said of it: an accepted one takes arguments of its kinds, and is evaluated with as many steps as its
--- verdict says; what is said of any other has its line
+-- `eval` of an accepted method, with as many steps as its verdict says: the arguments must be of its kinds, and the events and the value
+-- or none have their lines
+abbrev pub EvaluatesAccepted : (ℕ → ℕ → ℕ) → Shown → List Value → ℕ × Method → Checked → Accepted → Step (Unit {0}) ℕ
+EvaluatesAccepted bytes ns arguments found checked accepted =
+    Then (Obtains (Accepts checked accepted arguments)) (λ _.
+    Then (Obtains (IsDone bytes ns found arguments accepted.bound)) (λ ended.
+    Tells (evaluation_text ns.entries ended) (outcome_status ended.0)))
+
+-- `eval` of a method by what is said of it: an accepted one is evaluated; what is said of any other has its line
 abbrev pub EvaluatesJudged : (ℕ → ℕ → ℕ) → Shown → List Value → ℕ × Method → Checked → Option Verdict → Step (Unit {0}) ℕ
-EvaluatesJudged bytes ns arguments found checked (Some (verdict.Accepted accepted)) =
-    Then (Obtains (Accepts checked accepted arguments)) (λ _. EvaluatesMethod bytes ns arguments accepted.bound found)
+EvaluatesJudged bytes ns arguments found checked (Some (verdict.Accepted accepted)) = EvaluatesAccepted bytes ns arguments found checked accepted
 EvaluatesJudged bytes ns arguments found checked said = Tells (said_text checked (record { 0 = found.0 })) 3
 
 -- `eval` of a method with so many steps, or, without a number, by its verdict, where these kinds are told
@@ -293,12 +318,11 @@ abbrev pub ListsItems : Option (List ℕ) → Step (Unit {0}) ℕ
 ListsItems (Some octets) = Then (Obtains (ReadsItems octets)) (λ items. Tells (items_text items) 0)
 ListsItems None = Obtains (λ r. r ≡ Err (nowhere cause.NotBuffer))
 
--- `resources` by what the object gives; a method that is not accepted, or whose evaluation ended otherwise, has its line
+-- `resources` by what the object gives; a method that is not accepted has its line
 abbrev pub ListsGiven : Checked → ℕ → Given → Step (Unit {0}) ℕ
 ListsGiven checked id (given.Value v) = ListsItems (octets_of (view v))
 ListsGiven checked id given.Nothing = ListsItems None
 ListsGiven checked id given.Refused = Tells (said_text checked (record { 0 = id })) 3
-ListsGiven checked id (given.Ended outcome) = Tells (outcome_line (shown checked.namespace.now).entries outcome) 3
 
 -- `resources` of a namespace, over registers of these bytes, where these kinds are told: the object of that path, the verdicts on all
 -- methods, what the object gives
@@ -364,13 +388,11 @@ abbrev pub ListsValue : Option Madt → Links → Value → Step (Unit {0}) ℕ
 ListsValue madt links (Pkg elements) = Then (Obtains (Follows madt links (Pkg elements))) (λ routes. Tells (routes_text routes) 0)
 ListsValue madt links v = Obtains (λ r. r ≡ Err (nowhere cause.NotPackage))
 
--- `routing` by what the object gives, and the items of the links that it names; a method that is not accepted, or whose evaluation
--- ended otherwise, has its line
+-- `routing` by what the object gives, and the items of the links that it names; a method that is not accepted has its line
 abbrev pub ListsPrt : Option Madt → Checked → ℕ → Given → Links → Step (Unit {0}) ℕ
 ListsPrt madt checked id (given.Value v) links = ListsValue madt links (view v)
 ListsPrt madt checked id given.Nothing links = Obtains (λ r. r ≡ Err (nowhere cause.NotPackage))
 ListsPrt madt checked id given.Refused links = Tells (said_text checked (record { 0 = id })) 3
-ListsPrt madt checked id (given.Ended outcome) links = Tells (outcome_line (shown checked.namespace.now).entries outcome) 3
 
 -- `routing` of a namespace, over registers of these bytes, where these kinds are told, with a MADT or none: the object of that path, the
 -- verdicts on all methods, what the object gives and then its links, where their interrupts go

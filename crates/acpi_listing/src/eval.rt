@@ -1,13 +1,13 @@
 // The command `eval`.
 
 ghost use Rattle.std.specs.Prelude.{◌≡◌, ◌≤◌, ◌↔◌, [], IsSome, None, Some, true};
-ghost use Rattle.std.specs.Prelude.{IfOk, IfErr, IfSome, map, option_map, vec_items};
+ghost use Rattle.std.specs.Prelude.{IfOk, IfErr, map, option_map, vec_items};
 ghost use Rattle.acpi_listing.specs.Arguments.{ListsArguments, ListsBadArguments};
 ghost use Rattle.aml_values.specs.Views.{view};
 ghost use Rattle.aml_namespace.specs.Names.{method_at};
 ghost use Rattle.aml_namespace.specs.Shows.{bytes_in, shown};
 ghost use Rattle.acpi_listing.specs.Commands.{EvaluatesFiles, EvaluatesFound, EvaluatesMethod, EvaluatesTables, IsMethodAt, IsNoMethodAt, printed_path};
-ghost use Rattle.acpi_listing.specs.Commands.{IsMeant, Takes, are_taken, evaluation_text, is_taken, outcome_status, with_events};
+ghost use Rattle.acpi_listing.specs.Commands.{IsDone, IsMeant, Takes, are_taken, evaluation_text, is_accepted, is_taken, outcome_status, with_events};
 ghost use Rattle.aml_operators.specs.Tree as terms;
 ghost use Rattle.aml_operators.specs.Tree.{views};
 ghost use Rattle.aml_bodies.specs.Methods.{AreStatementsOf};
@@ -19,7 +19,9 @@ ghost use Rattle.acpi_listing.specs.Inputs.{tables_of};
 ghost use Rattle.acpi_listing.specs.Loading.{interfaces_of};
 ghost use Rattle.acpi_text.specs.Lists.{Lists};
 ghost use Rattle.acpi_verdicts.specs.Verdicts.{said_of, said_text};
+ghost use Rattle.aml_interp.specs.Answers.{WereChecked};
 ghost use Rattle.aml_known.specs.declared.accepted.Accepted.{Accepted};
+ghost use Rattle.aml_verify.specs.Accepts.{takes};
 ghost use Rattle.aml_verify.specs.declared.verdict.Verdict.TheVariants as verdict;
 ghost use Rattle.aml_signatures.specs.Signed.{kinds_told};
 ghost use Rattle.acpi_text.specs.Outcome.{refusal_line};
@@ -40,7 +42,7 @@ use crate::words::EvalRequest;
 use acpi_text::{RunFault, list_evaluation, list_events, list_refusal};
 use acpi_verdicts::list_said;
 use aml_contents::Names;
-use aml_known::Accepted;
+use aml_interp::evaluate as value_of;
 use aml_meaning::Outcome;
 use aml_namespace::{Method, Namespace, Width};
 use aml_operators::Term;
@@ -172,8 +174,7 @@ fn evaluate_inputs<N: Notes, W: Write>(
     }
 }
 
-// Evaluates a method that is judged first, with as many steps as its verdict says. A method that is not
-// accepted has its line.
+// Evaluates a method that is judged first. A method that is not accepted has its line.
 fn evaluate_judged<N: Notes, W: Write>(
     alloc: Global,
     word: &str,
@@ -194,28 +195,50 @@ fn evaluate_judged<N: Notes, W: Write>(
         tt tt (W.contents out.old) (W.contents out.new) result }
 {
     let checked = verdicts_on(alloc, namespace, signatures)?;
-    let Some(accepted) = accepted_in(&checked, id) else {
+    if !is_accepted(&checked, id) {
         return tell_said(alloc, out, &checked, id);
-    };
+    }
     if !checked.accepts(id, &given.arguments) {
         tell_misfit(alloc, notes, namespace, word, method, &given.arguments);
         return Err(Stop::Fault(Fault::nowhere(FaultCause::ArgsDontFit)));
     }
-    let steps = accepted.bound;
-    evaluate_method(alloc, word, namespace, id, method, given, steps, notes, out)
+    let mut registers = given.registers;
+    let outcome = done_over(alloc, &checked, id, given.arguments, &mut registers)?;
+    tell_outcome(alloc, out, namespace, &outcome, registers.events())
 }
 
-// What is known of the method with a number, where it is accepted.
-fn accepted_in<'a>(checked: &'a Checked<'_>, id: ObjectId) -> Option<&'a Accepted>
-    ensures some { IfSome result (λ a. said_of checked.now id.0 ≡ Some (verdict.Accepted a.now)) }
-    ensures none { (a : Accepted) → result ≡ None →
-        said_of checked.now id.0 ≡ Some (verdict.Accepted a) → ⊥ }
+// How an accepted method's evaluation ends, from what the names of the tables hold first, over registers.
+fn done_over(
+    alloc: Global,
+    checked: &Checked<'_>,
+    id: ObjectId,
+    arguments: Vec<Value>,
+    world: &mut Registers,
+) -> Result<Outcome, Fault>
+    requires checked { WereChecked checked.now }
+    requires accepted { takes (said_of checked.now id.0) (map view arguments.items) ≡ true }
+    requires set { TextSets world.old.text.items (contents world.old.file) }
+    requires fresh { world.old.file.events.items ≡ [] }
+    ensures { (a : Accepted) → said_of checked.now id.0 ≡ Some (verdict.Accepted a) →
+        (m : _) → method_at (shown checked.now.namespace.now) id.0 ≡ Some m →
+        IsDone (contents world.old.file) (shown checked.now.namespace.now) (id.0, m)
+        (map view (vec_items arguments)) a.bound
+        (with_events result (events_of world.new.file.events.items)) }
+{
+    let mut names = Names::initial(alloc, checked.namespace())?;
+    let value = value_of(alloc, checked, &mut names, id, arguments, world)?;
+    Ok(Outcome::Done(value))
+}
+
+// Whether the method with a number is accepted.
+fn is_accepted(checked: &Checked<'_>, id: ObjectId) -> bool
+    ensures { result ≡ is_accepted (said_of checked.now id.0) }
 {
     match checked.verdict(id) {
-        Some(Verdict::Accepted(accepted)) => Some(accepted),
-        Some(Verdict::Refused(_)) => None,
-        Some(Verdict::Unreadable { .. }) => None,
-        None => None,
+        Some(Verdict::Accepted(_)) => true,
+        Some(Verdict::Refused(_)) => false,
+        Some(Verdict::Unreadable { .. }) => false,
+        None => false,
     }
 }
 

@@ -1,12 +1,17 @@
 // The object that a command asks for, and what it gives.
 
-ghost use Rattle.std.specs.Prelude.{◌≡◌, [], IfErr, IfOk};
+ghost use Rattle.std.specs.Prelude.{◌≡◌, [], IfErr, IfOk, true};
 ghost use Rattle.acpi_listing.specs.Commands.{IsGivenOver, IsObjectAt, IsPrtOver};
 ghost use Rattle.acpi_listing.specs.Faults.{nowhere};
 ghost use Rattle.acpi_listing.specs.declared.fault.FaultCause.TheVariants as cause;
+ghost use Rattle.acpi_objects.specs.Gives.{gives_value};
 ghost use Rattle.acpi_routing.specs.Faults.{Answers};
 ghost use Rattle.acpi_routing.specs.Prt.{GivesPrt};
+ghost use Rattle.aml_contents.specs.Belongs.{Belong};
+ghost use Rattle.aml_contents.specs.Held.{content_kinds};
+ghost use Rattle.aml_interp.specs.Answers.{WereChecked};
 ghost use Rattle.aml_machine.specs.Views.{names_of};
+ghost use Rattle.aml_namespace.specs.Entries.{object_at};
 ghost use Rattle.aml_namespace.specs.Shows.{shown};
 ghost use Rattle.aml_regions.specs.Registers.{contents};
 ghost use Rattle.aml_regions.specs.Text.{TextSets};
@@ -46,13 +51,15 @@ pub fn find_object<N: Notes>(
     Ok(id)
 }
 
-/// What an object gives, from what the names of the tables hold first, over registers.
+/// What an object that gives a value gives, from what the names of the tables hold first, over registers.
 pub fn given_over(
     alloc: Global,
     checked: &Checked<'_>,
     id: ObjectId,
     registers: Registers,
 ) -> Result<Given, Fault>
+    requires checked { WereChecked checked.now }
+    requires gives { gives_value (object_at (shown checked.now.namespace.now).entries id.0) ≡ true }
     requires set { TextSets registers.text.items (contents registers.file) }
     requires fresh { registers.file.events.items ≡ [] }
     ensures { IsGivenOver (contents registers.file) checked.now id.0 result }
@@ -63,8 +70,8 @@ pub fn given_over(
     Ok(given)
 }
 
-/// What an object gives, and the items of the links that it names, from what the names of the tables hold
-/// first, over registers. People are told which link is at fault.
+/// What an object that gives a value gives, and the items of the links that it names, from what the names
+/// of the tables hold first, over registers. People are told which link is at fault.
 pub fn prt_over<N: Notes>(
     alloc: Global,
     checked: &Checked<'_>,
@@ -72,6 +79,8 @@ pub fn prt_over<N: Notes>(
     registers: Registers,
     notes: &N,
 ) -> Result<Prt, Fault>
+    requires checked { WereChecked checked.now }
+    requires gives { gives_value (object_at (shown checked.now.namespace.now).entries id.0) ≡ true }
     requires set { TextSets registers.text.items (contents registers.file) }
     requires fresh { registers.file.events.items ≡ [] }
     ensures { IsPrtOver (contents registers.file) checked.now id.0 result }
@@ -91,6 +100,9 @@ fn prt_noted<W: World, N: Notes>(
     world: &mut W,
     notes: &N,
 ) -> Result<Prt, LinkFault>
+    requires checked { WereChecked checked.now }
+    requires gives { gives_value (object_at (shown checked.now.namespace.now).entries id.0) ≡ true }
+    requires names { Belong (shown checked.now.namespace.now) (content_kinds names.old) }
     ensures { Answers (λ prt. prt)
         (λ r. GivesPrt checked.now id.0 r (names_of names.old) (W.log world.old)
         (names_of names.new) (W.log world.new)) result }

@@ -6,7 +6,6 @@ ghost use Rattle.acpi_listing.specs.Inputs.{tables_of};
 ghost use Rattle.acpi_listing.specs.Steps.{Tells, Tries, Writes};
 ghost use Rattle.acpi_resource_text.specs.Lines.{items_text};
 ghost use Rattle.acpi_resources.specs.Items.{items_of};
-ghost use Rattle.acpi_text.specs.Outcome.{outcome_line};
 ghost use Rattle.aml_namespace.specs.Shows.{shown};
 ghost use Rattle.aml_regions.specs.Registers.{contents};
 ghost use Rattle.aml_regions.specs.Text.{TextSets};
@@ -27,8 +26,6 @@ use crate::words::ObjectRequest;
 use acpi_objects::Given;
 use acpi_resource_text::list_resources;
 use acpi_resources::{Item, items};
-use acpi_text::list_evaluation;
-use aml_meaning::Outcome;
 use aml_namespace::Namespace;
 use aml_paths::ObjectId;
 use aml_registers::Registers;
@@ -127,7 +124,6 @@ fn list_given<W: Write>(
         Given::Value(value) => list_items(alloc, out, octets_of(value)),
         Given::Nothing => list_items(alloc, out, None),
         Given::Refused => tell_said(alloc, out, checked, id),
-        Given::Ended(outcome) => tell_ended(alloc, out, checked.namespace(), outcome),
     }
 }
 
@@ -180,19 +176,4 @@ fn tell_items<W: Write>(alloc: Global, out: &mut W, items: &[Item]) -> Result<u8
 {
     list_resources(alloc, out, items)?;
     Ok(0)
-}
-
-/// Prints how an evaluation ended that gave no value, and answers the status of that.
-pub(crate) fn tell_ended<W: Write>(
-    alloc: Global,
-    out: &mut W,
-    namespace: &Namespace<'_>,
-    outcome: &Outcome,
-) -> Result<u8, Stop>
-    ensures status { IfOk result (λ status. status ≤ 3) }
-    ensures printed { let line = outcome_line (shown namespace.now).entries outcome.now in
-        Writes (Tells line 3) (tt {0}) (tt {0}) (W.contents out.old) (W.contents out.new) result }
-{
-    list_evaluation(alloc, out, namespace, outcome)?;
-    Ok(3)
 }

@@ -22,7 +22,6 @@ use crate::madt::{madt_of, read_controllers};
 use crate::notes::Notes;
 use crate::objects::{find_object, prt_over};
 use crate::regs::read_registers;
-use crate::resources::tell_ended;
 use crate::signed::read_signatures;
 use crate::source::Source;
 use crate::tell::tell_route;
@@ -149,7 +148,6 @@ fn list_prt<N: Notes, W: Write>(
         }
         Given::Nothing => Err(Stop::Fault(no_package(notes))),
         Given::Refused => tell_said(alloc, out, checked, id),
-        Given::Ended(outcome) => tell_ended(alloc, out, checked.namespace(), outcome),
     }
 }
 

@@ -1,18 +1,22 @@
 // What one object gives.
 
-ghost use Rattle.std.specs.Prelude.{◌≡◌, [], IfOk};
+ghost use Rattle.std.specs.Prelude.{◌≡◌, [], IfOk, true};
 ghost use Rattle.acpi_objects.specs.Gives.{Gives, Holds, IsEvaluated, IsGiven, gives_value};
+ghost use Rattle.aml_contents.specs.Belongs.{Belong};
 ghost use Rattle.aml_contents.specs.Contents.{content_at};
-ghost use Rattle.aml_contents.specs.Held.{contents};
+ghost use Rattle.aml_contents.specs.Held.{content_kinds, contents};
+ghost use Rattle.aml_interp.specs.Answers.{WereChecked};
 ghost use Rattle.aml_machine.specs.Views.{names_of};
+ghost use Rattle.aml_namespace.specs.Entries.{object_at};
+ghost use Rattle.aml_namespace.specs.Shows.{shown};
+ghost use Rattle.aml_verify.specs.Accepts.{takes};
+ghost use Rattle.aml_verify.specs.Said.{verdict_at};
 
 use aml_contents::Names;
-use aml_meaning::Outcome;
+use aml_interp::evaluate;
 use aml_namespace::Object;
 use aml_paths::{NoMemory, ObjectId};
-use aml_plain::evaluate_tree;
 use aml_regions::World;
-use aml_tree::TreeFault;
 use aml_values::{Value, copy};
 use aml_verify::{Checked, Verdict};
 use std::alloc::Global;
@@ -26,8 +30,6 @@ pub enum Given {
     Nothing,
     /// Nothing, since it is a method that is not accepted.
     Refused,
-    /// Nothing, since its evaluation ended otherwise.
-    Ended(Outcome),
 }
 
 /// Whether an object gives a value: a data name, or a method without arguments.
@@ -41,8 +43,8 @@ pub fn gives_value(object: Option<Object>) -> bool
     }
 }
 
-/// What the object with a number gives: a data name what it holds, a method that is accepted what its
-/// evaluation gives, over these names and this world, with as many steps as its verdict says.
+/// What the object with a number gives, which gives a value: a data name what it holds, a method that is
+/// accepted what its evaluation gives, over these names and this world.
 ///
 /// # Errors
 ///
@@ -54,14 +56,16 @@ pub fn value_of<W: World>(
     names: &mut Names,
     world: &mut W,
 ) -> Result<Given, NoMemory>
-    ensures { Gives checked.now id.0 result (names_of names.old) (W.log world.old)
+    requires checked { WereChecked checked.now }
+    requires gives { gives_value (object_at (shown checked.now.namespace.now).entries id.0) ≡ true }
+    requires names { Belong (shown checked.now.namespace.now) (content_kinds names.old) }
+    ensures given { Gives checked.now id.0 result (names_of names.old) (W.log world.old)
         (names_of names.new) (W.log world.new) }
+    ensures names { Belong (shown checked.now.namespace.now) (content_kinds names.new) }
 {
     match checked.verdict(id) {
         None => held(alloc, names, id),
-        Some(Verdict::Accepted(accepted)) => {
-            evaluated(alloc, checked, id, accepted.bound, names, world)
-        }
+        Some(Verdict::Accepted(_)) => evaluated(alloc, checked, id, names, world),
         Some(Verdict::Refused(_) | Verdict::Unreadable { .. }) => Ok(Given::Refused),
     }
 }
@@ -79,40 +83,32 @@ fn held(alloc: Global, names: &Names, id: ObjectId) -> Result<Given, NoMemory>
     }
 }
 
-// What the evaluation of a method gives, with at most so many steps and without arguments.
+// What the evaluation of an accepted method gives, without arguments.
 fn evaluated<W: World>(
     alloc: Global,
     checked: &Checked<'_>,
     id: ObjectId,
-    bound: u64,
     names: &mut Names,
     world: &mut W,
 ) -> Result<Given, NoMemory>
-    ensures { IfOk result (λ g. IsEvaluated checked.now id.0 bound g (names_of names.old)
+    requires checked { WereChecked checked.now }
+    requires accepted { takes (verdict_at checked.now.verdicts.items id.0) [] ≡ true }
+    requires names { Belong (shown checked.now.namespace.now) (content_kinds names.old) }
+    ensures given { IfOk result (λ g. IsEvaluated checked.now id.0 g (names_of names.old)
         (W.log world.old) (names_of names.new) (W.log world.new)) }
+    ensures names { Belong (shown checked.now.namespace.now) (content_kinds names.new) }
 {
-    let namespace = checked.namespace();
-    if namespace.method(id).is_none() {
-        return Ok(Given::Nothing);
-    }
-    let body = match namespace.tree(alloc, id) {
-        Ok(body) => body,
-        Err(TreeFault::NoMemory) => return Err(NoMemory),
-        Err(TreeFault::Refused(_)) => return Ok(Given::Nothing),
-    };
     let none = Vec::new(alloc);
-    let outcome = evaluate_tree(alloc, namespace, names, id, body, none, world, bound)?;
-    Ok(given_by(outcome))
+    let value = evaluate(alloc, checked, names, id, none, world)?;
+    Ok(given_by(value))
 }
 
-// What an evaluation gives, by how it ended.
-fn given_by(outcome: Outcome) -> Given
-    ensures { IsGiven outcome result }
+// What an evaluation gives, by its value or none.
+fn given_by(value: Option<Value>) -> Given
+    ensures { IsGiven value result }
 {
-    match outcome {
-        Outcome::Done(Some(value)) => Given::Value(value),
-        Outcome::Done(None) => Given::Nothing,
-        Outcome::AmlError(error) => Given::Ended(Outcome::AmlError(error)),
-        Outcome::OutOfSteps => Given::Ended(Outcome::OutOfSteps),
+    match value {
+        Some(value) => Given::Value(value),
+        None => Given::Nothing,
     }
 }

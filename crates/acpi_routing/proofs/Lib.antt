@@ -1,3 +1,4 @@
 pub mod Numbered
 pub mod Kept
 pub mod Asked
+pub mod Giving

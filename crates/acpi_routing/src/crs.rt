@@ -1,9 +1,14 @@
 // The resource descriptors of a link device.
 
-ghost use Rattle.std.specs.Prelude.{◌≡◌, IfOk, Some, option_map};
+ghost use Rattle.std.specs.Prelude.{◌≡◌, IfOk, Some, option_map, true};
+ghost use Rattle.acpi_objects.specs.Gives as objects;
 ghost use Rattle.acpi_routing.specs.Crs.{HasItems, HasItemsBy, crs_of, items_given, octets_given, value_under};
 ghost use Rattle.acpi_routing.specs.Faults.{Answers};
+ghost use Rattle.aml_contents.specs.Belongs.{Belong};
+ghost use Rattle.aml_contents.specs.Held.{content_kinds};
+ghost use Rattle.aml_interp.specs.Answers.{WereChecked};
 ghost use Rattle.aml_machine.specs.Views.{names_of};
+ghost use Rattle.aml_namespace.specs.Entries.{object_at};
 ghost use Rattle.aml_namespace.specs.Shows.{shown};
 ghost use Rattle.aml_values.specs.Views.{view};
 
@@ -67,9 +72,12 @@ pub fn items_of_device<W: World>(
     names: &mut Names,
     world: &mut W,
 ) -> Result<Option<Vec<Item>>, LinkFault>
-    ensures { Answers (option_map (λ found. found.items))
+    requires checked { WereChecked checked.now }
+    requires names { Belong (shown checked.now.namespace.now) (content_kinds names.old) }
+    ensures items { Answers (option_map (λ found. found.items))
         (λ r. HasItems checked.now device r (names_of names.old) (W.log world.old)
         (names_of names.new) (W.log world.new)) result }
+    ensures names { Belong (shown checked.now.namespace.now) (content_kinds names.new) }
 {
     let crs = crs_of(alloc, checked.namespace(), device)?;
     match crs {
@@ -87,9 +95,13 @@ fn items_of_crs<W: World>(
     names: &mut Names,
     world: &mut W,
 ) -> Result<Option<Vec<Item>>, LinkFault>
-    ensures { Answers (option_map (λ found. found.items))
+    requires checked { WereChecked checked.now }
+    requires gives { objects.gives_value (object_at (shown checked.now.namespace.now).entries crs.0) ≡ true }
+    requires names { Belong (shown checked.now.namespace.now) (content_kinds names.old) }
+    ensures items { Answers (option_map (λ found. found.items))
         (λ r. HasItemsBy checked.now device (Some crs.0) r (names_of names.old) (W.log world.old)
         (names_of names.new) (W.log world.new)) result }
+    ensures names { Belong (shown checked.now.namespace.now) (content_kinds names.new) }
 {
     let given = value_of(alloc, checked, crs, names, world)?;
     items_given(alloc, device, &given)

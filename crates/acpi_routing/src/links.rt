@@ -4,7 +4,11 @@ ghost use Rattle.std.specs.Prelude.{◌≡◌, ◌++◌, OnOk, option_map};
 ghost use Rattle.acpi_resources.specs.Interrupts.{crs_of_links};
 ghost use Rattle.acpi_routing.specs.Faults.{Answers};
 ghost use Rattle.acpi_routing.specs.Links.{HaveItems, link_with};
+ghost use Rattle.aml_contents.specs.Belongs.{Belong};
+ghost use Rattle.aml_contents.specs.Held.{content_kinds};
+ghost use Rattle.aml_interp.specs.Answers.{WereChecked};
 ghost use Rattle.aml_machine.specs.Views.{names_of};
+ghost use Rattle.aml_namespace.specs.Shows.{shown};
 
 use crate::crs::items_of_device;
 use crate::fault::LinkFault;
@@ -29,9 +33,12 @@ pub fn items_of_links<W: World>(
     names: &mut Names,
     world: &mut W,
 ) -> Result<Vec<(ObjectId, Vec<Item>)>, LinkFault>
-    ensures { Answers (λ links. crs_of_links links.items)
+    requires checked { WereChecked checked.now }
+    requires names { Belong (shown checked.now.namespace.now) (content_kinds names.old) }
+    ensures items { Answers (λ links. crs_of_links links.items)
         (λ r. HaveItems checked.now devices.now r (names_of names.old) (W.log world.old)
         (names_of names.new) (W.log world.new)) result }
+    ensures names { Belong (shown checked.now.namespace.now) (content_kinds names.new) }
 {
     let mut links = Vec::new(alloc);
     for device in devices {

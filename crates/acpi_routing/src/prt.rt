@@ -1,9 +1,15 @@
 // What an object gives whose value is taken as a `_PRT`, and the items of the links that it names.
 
-ghost use Rattle.std.specs.Prelude.{◌≡◌, IfOk};
+ghost use Rattle.std.specs.Prelude.{◌≡◌, IfOk, true};
+ghost use Rattle.acpi_objects.specs.Gives.{gives_value};
 ghost use Rattle.acpi_routing.specs.Faults.{Answers};
 ghost use Rattle.acpi_routing.specs.Prt.{GivesPrt, devices_given};
+ghost use Rattle.aml_contents.specs.Belongs.{Belong};
+ghost use Rattle.aml_contents.specs.Held.{content_kinds};
+ghost use Rattle.aml_interp.specs.Answers.{WereChecked};
 ghost use Rattle.aml_machine.specs.Views.{names_of};
+ghost use Rattle.aml_namespace.specs.Entries.{object_at};
+ghost use Rattle.aml_namespace.specs.Shows.{shown};
 
 use crate::devices::devices_in;
 use crate::fault::LinkFault;
@@ -23,7 +29,7 @@ pub struct Prt {
     pub links: Vec<(ObjectId, Vec<Item>)>,
 }
 
-/// What the object with a number gives; and, where that is a package, the resource descriptors of the
+/// What the object with a number gives, which gives a value; and, where that is a package, the resource descriptors of the
 /// links that its elements name: of each the first time that it is named, over what the object itself,
 /// and then each `_CRS` before, left of the names and the world.
 ///
@@ -38,9 +44,13 @@ pub fn prt_of<W: World>(
     names: &mut Names,
     world: &mut W,
 ) -> Result<Prt, LinkFault>
-    ensures { Answers (λ prt. prt)
+    requires checked { WereChecked checked.now }
+    requires gives { gives_value (object_at (shown checked.now.namespace.now).entries id.0) ≡ true }
+    requires names { Belong (shown checked.now.namespace.now) (content_kinds names.old) }
+    ensures prt { Answers (λ prt. prt)
         (λ r. GivesPrt checked.now id.0 r (names_of names.old) (W.log world.old)
         (names_of names.new) (W.log world.new)) result }
+    ensures names { Belong (shown checked.now.namespace.now) (content_kinds names.new) }
 {
     let given = value_of(alloc, checked, id, names, world)?;
     let devices = devices_given(alloc, &given)?;

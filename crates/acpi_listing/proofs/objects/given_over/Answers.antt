@@ -6,10 +6,14 @@ use Rattle.aml_registers.specs.Answers.{AnswerReads, start_of}
 use Rattle.acpi_listing.proofs.Started.{same_text}
 use Rattle.acpi_listing.proofs.objects.given_over.Goals as goal
 
+-- the names are the namespace's
+pub value_of-requires-clause-names : goal.value_of-requires-clause-names
+value_of-requires-clause-names c = rw c.namespace.ensures at c.in_ok-names.ensures.belong
+
 -- the log began with the text, so these are the registers that it sets
 pub returns : goal.returns
 returns c =
-    let gave = rw (c.in_ok-names.ensures.contents, c.in_ok-names.ensures.kinds, c.requires.fresh, c.namespace.ensures) at c.in_ok-given.ensures in
+    let gave = rw (c.in_ok-names.ensures.contents, c.in_ok-names.ensures.kinds, c.requires.fresh, c.namespace.ensures) at c.in_ok-given.ensures.given in
     let first = c.args.registers in
     let left = c.value_of.new.world in
     record {

@@ -9,6 +9,10 @@ use Rattle.acpi_listing.proofs.RoutesListed.{link_told}
 use Rattle.acpi_listing.proofs.Started.{answered}
 use Rattle.acpi_listing.proofs.objects.prt_over.Goals as goal
 
+-- the names are the namespace's
+pub prt_noted-requires-clause-names : goal.prt_noted-requires-clause-names
+prt_noted-requires-clause-names g c = rw c.namespace.ensures at c.in_ok-names.ensures.belong
+
 pub returns-in_err-prt : goal.returns-in_err-prt
 returns-in_err-prt g c =
     let first = c.args.registers in

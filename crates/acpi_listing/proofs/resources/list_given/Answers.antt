@@ -8,6 +8,3 @@ returns-in-Nothing-clause-printed g c = rw c.in-Nothing.is c.list_items-in-Nothi
 
 pub returns-in-Refused-clause-printed : goal.returns-in-Refused-clause-printed
 returns-in-Refused-clause-printed g c = rw c.in-Refused.is c.tell_said.ensures.printed
-
-pub returns-in-Ended-clause-printed : goal.returns-in-Ended-clause-printed
-returns-in-Ended-clause-printed g c = rw c.in-Ended.is (rw c.namespace.ensures at c.tell_ended.ensures.printed)

@@ -1,4 +1,7 @@
-use Rattle.std.proofs.Common.{Err}
+use Rattle.std.proofs.Common.{◌≡◌, subst, sym, true}
+use Rattle.acpi_objects.specs.Gives.{gives_value}
+use Rattle.aml_namespace.specs.Entries.{object_at}
+use Rattle.aml_namespace.specs.Load.{Shown}
 use Rattle.aml_namespace.specs.Shows.{shown}
 use Rattle.aml_regions.specs.Registers.{contents}
 use Rattle.aml_signatures.specs.Signed.{kinds_told}
@@ -15,6 +18,14 @@ returns-in_err-checked-clause-printed g c =
     no_verdicts (contents c.args.registers.file) (kinds_told c.args.signatures.now) c.args.word.now (shown c.args.namespace.now)
     c.in_ok-id.id.0 c.in_ok-id.ensures.found
     _ _ c.from_residual-in_err-checked.result c.from_residual-in_err-checked.ensures.1 c.in_err-checked.ensures.fault
+
+-- the verdicts are the verifier's, and the object gives a value
+pub given_over-requires-clause-checked : goal.given_over-requires-clause-checked
+given_over-requires-clause-checked g c = record { told = kinds_told c.args.signatures.now; checked = c.in_ok-checked.ensures.verdicts.0 }
+
+pub given_over-requires-clause-gives : goal.given_over-requires-clause-gives
+given_over-requires-clause-gives g c =
+    subst (λ (n : Shown). gives_value (object_at n.entries c.in_ok-id.id.0) ≡ true) (sym c.in_ok-checked.ensures.verdicts.1) c.in_ok-id.ensures.found.1
 
 pub returns-in_err-given-clause-printed : goal.returns-in_err-given-clause-printed
 returns-in_err-given-clause-printed g c =

@@ -10,20 +10,31 @@ use Rattle.acpi_routing.proofs.Asked.{asked_end, asked_none, asked_step, stops_h
 use Rattle.acpi_routing.proofs.links.items_of_links.Goals as goal
 
 pub loop-device-init : goal.loop-device-init
-loop-device-init g c = rw c.new-links.ensures.items (asked_none c.args.checked.now c.args.devices.now _ _)
+loop-device-init g c = record {
+  asked = rw c.new-links.ensures.items (asked_none c.args.checked.now c.args.devices.now _ _);
+  belong = c.requires.names;
+}
 
 pub loop-device-preserved : goal.loop-device-preserved
-loop-device-preserved g c =
-    asked_step c.args.checked.now c.args.devices.now c.loop-device.device-index _ _ _ _ _ _ c.loop-device.invariant _ _ _ _ c.loop-device-test.true
-    c.in_ok-found.ensures c.in_ok-add_link.ensures
+loop-device-preserved g c = record {
+  asked = asked_step c.args.checked.now c.args.devices.now c.loop-device.device-index _ _ _ _ _ _ c.loop-device.invariant.asked _ _ _ _ c.loop-device-test.true
+      c.in_ok-found.ensures.items c.in_ok-add_link.ensures;
+  belong = c.in_ok-found.ensures.names;
+}
 
 pub returns : goal.returns
-returns g c =
-    asked_end c.args.checked.now c.args.devices.now c.loop-device.device-index (record { 0 = 0 }) _ _ _ _ _ c.loop-device.invariant (omega (arith, c.loop-device-test.false))
+returns g c = record {
+  items = asked_end c.args.checked.now c.args.devices.now c.loop-device.device-index (record { 0 = 0 }) _ _ _ _ _ c.loop-device.invariant.asked
+      (omega (arith, c.loop-device-test.false));
+  names = c.loop-device.invariant.belong;
+}
 
 pub returns-in_err-found : goal.returns-in_err-found
-returns-in_err-found g c =
-    stops_here c.args.checked.now c.args.devices.now c.loop-device.device-index _ _ _ _ _ _ c.loop-device.invariant
-    (option_map (λ (found : Vec Item Global). found.items)) (λ (links : Vec (ObjectId × Vec Item Global) Global). crs_of_links links.items)
-    (names_of c.items_of_device.new.names) (g.W.World.log c.items_of_device.new.world) c.in_err-found.field-0.0 c.loop-device-test.true
-    c.in_err-found.ensures c.from_residual.result c.from_residual.ensures.1
+returns-in_err-found g c = record {
+  items =
+      stops_here c.args.checked.now c.args.devices.now c.loop-device.device-index _ _ _ _ _ _ c.loop-device.invariant.asked
+      (option_map (λ (found : Vec Item Global). found.items)) (λ (links : Vec (ObjectId × Vec Item Global) Global). crs_of_links links.items)
+      (names_of c.items_of_device.new.names) (g.W.World.log c.items_of_device.new.world) c.in_err-found.field-0.0 c.loop-device-test.true
+      c.in_err-found.ensures.items c.from_residual.result c.from_residual.ensures.1;
+  names = c.in_err-found.ensures.names;
+}
