@@ -7,7 +7,8 @@ the difference of the turns, so that starting, loading, reading and judging are 
 where the verifier accepts it, then from its tree (`eval --plain`), and by acpiexec; all must give the same value.
 
 Behind `resident` stands how much memory acpicheck had resident at most, at each of its two sizes, by `/usr/bin/time` (apt-get install
-time). It should not grow with the turns, but in TEXT, whose string does.
+time). It should not grow with the turns, but in TEXT, whose string does, and in KEEP and INDX, fields of regions, each access of which is an
+event that is kept to be printed.
 """
 import re
 import shutil
@@ -32,6 +33,8 @@ LOOPS = {
     "NEST": (1_000_000, 10_000),
     "CRCS": (300, 10),
     "TEXT": (10_000, 8_000),
+    "KEEP": (100_000, 10_000),
+    "INDX": (100_000, 10_000),
 }
 
 
@@ -101,6 +104,14 @@ STATEMENTS = {
   Store ("", Local1)
   While (LLess (Local0, TURNS)) { Concatenate (Local1, "ab", Local1) Increment (Local0) }
   Return (SizeOf (Local1))""",
+    "KEEP": """
+  Store (Zero, Local0)
+  While (LLess (Local0, TURNS)) { Add (FLD0, One, FLD0) Increment (Local0) }
+  Return (FLD0)""",
+    "INDX": """
+  Store (Zero, Local0)
+  While (LLess (Local0, TURNS)) { Add (IXF0, One, IXF0) Increment (Local0) }
+  Return (IXF0)""",
 }
 
 
@@ -127,6 +138,11 @@ Name (PKG0, Package (1000) {{ {integers} }})
 Name (PKG1, Package (4) {{ {inner} }})
 Name (CRC0, Package (256) {{ {table} }})
 Name (DAT0, Buffer (4096) {{ 1, 2, 3, 4, 5, 6, 7, 8 }})
+OperationRegion (REG0, SystemMemory, 0x1000, 4)
+Field (REG0, WordAcc, NoLock, Preserve) {{ FLD0, 8, , 8 }}
+OperationRegion (REG1, SystemIO, 0x70, 2)
+Field (REG1, ByteAcc, NoLock, Preserve) {{ IDX0, 8, DAT1, 8 }}
+IndexField (IDX0, DAT1, ByteAcc, NoLock, Preserve) {{ IXF0, 8 }}
 Method (SUM3, 3) {{ Return (And (Add (Add (Arg0, Arg1), Arg2), 0xFFFFFF)) }}
 {deep}
 {loops}

@@ -3,7 +3,7 @@
 
 For each form of term a DSDT is made of 64 methods, or as many as may be active, each of which calls the next within as many terms of
 the form, one within the other, as may be. What is printed is the least stack, in KiB, with which the program ends its evaluation, to
-16 KiB, by trying.
+16 KiB, by trying: straight from the bytes, where the verifier accepts the method, and from its tree (`--plain`).
 
 The next term of a form is its first operand, or its second where the name of the form says so; of `Store`, whose target is a local,
 it is the source, and of `DerefOf`, which is of an Index, the index, or what that is of: a package in packages, down to its integer. Of `Add into an Index` it is the index of the target, as in
@@ -21,6 +21,7 @@ ACPICHECK = Path(__file__).resolve().parent.parent / "crates/acpicheck/out/acpic
 METHODS = 64
 DEPTH = 64
 MOST = 64 * 1024
+PLAIN = ["--plain", "1000000"]
 
 # what stands round a term of the form, and how many terms deep that is
 AROUND = {
@@ -77,24 +78,23 @@ def table(form):
     return dsdt(names_first + package(b"\x14", b"PASS\x01\xa4\x68") + calls)
 
 
-def ends(program, file, kib):
+def ends(program, words, file, kib):
     """Whether the program ends its evaluation with so much stack."""
     limit = (kib * 1024, kib * 1024)
-    words = [program, "eval", "--method", "\\MAIN", "--plain", "1000000", file]
+    words = [program, "eval", "--method", "\\MAIN", *words, file]
     return subprocess.run(words, stdin=subprocess.DEVNULL, stdout=subprocess.PIPE, stderr=subprocess.DEVNULL,
                           preexec_fn=lambda: resource.setrlimit(resource.RLIMIT_STACK, limit))
 
 
-def least(program, form, room):
-    file = f"{room}/dsdt.aml"
-    Path(file).write_bytes(table(form))
-    whole = ends(program, file, MOST)
+def least(program, words, file):
+    """The least stack with which the program ends, or what it says where it gives no result."""
+    whole = ends(program, words, file, MOST)
     if whole.returncode != 0 or not whole.stdout.startswith(b"result"):
         return whole.stdout.decode().strip()
     low, high = 64, MOST
     while high - low > 16:
         middle = (low + high) // 2
-        low, high = (low, middle) if ends(program, file, middle).returncode == 0 else (middle, high)
+        low, high = (low, middle) if ends(program, words, file, middle).returncode == 0 else (middle, high)
     return f"{high} KiB"
 
 
@@ -102,7 +102,9 @@ def main(words):
     program = words.pop(0) if words and "/" in words[0] else str(ACPICHECK)
     with tempfile.TemporaryDirectory() as room:
         for form in words or [*AROUND, *BLOCKS]:
-            print(f"{form}: {least(program, form, room)}", flush=True)
+            file = f"{room}/dsdt.aml"
+            Path(file).write_bytes(table(form))
+            print(f"{form}: {least(program, [], file)}, --plain {least(program, PLAIN, file)}", flush=True)
 
 
 if __name__ == "__main__":
