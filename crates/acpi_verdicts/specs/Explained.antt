@@ -6,6 +6,7 @@ use Rattle.acpi_notes.specs.Label.{line_label}
 use Rattle.acpi_notes.specs.Tree.{tree_note}
 use Rattle.acpi_text.specs.Text.{joined}
 use Rattle.acpi_text.specs.Verdicts.{cause_text}
+use Rattle.acpi_verdicts.specs.Standing.{standing_text}
 use Rattle.acpi_verdicts.specs.Verdicts.{said_of}
 use Rattle.acpi_verdicts.specs.Words.{cause_words}
 use Rattle.aml_causes.specs.declared.cause.Cause.{Cause}
@@ -51,15 +52,20 @@ asks_callee _ = false
 abbrev pub callee_told : Shown → ObjectId → Refusal → Option ObjectId
 callee_told ns id refusal = if asks_callee refusal.why then called_at ns id refusal else None
 
--- what stands behind the path of a method that is refused for a cause
-unfoldable pub refused_part : List ℕ → Refusal → List ℕ
-refused_part label refusal =
-    joined (codes ": " ∷ cause_text refusal.why ∷ codes ": " ∷ label ∷ codes ", byte " ∷ decimal refusal.at ∷ codes ": " ∷ cause_words refusal.why ∷ [])
+-- a cause and its place
+unfoldable pub refused_place : List ℕ → Refusal → List ℕ
+refused_place label refusal = joined (codes ": " ∷ cause_text refusal.why ∷ codes ": " ∷ label ∷ codes ", byte " ∷ decimal refusal.at ∷ [])
+
+-- what stands behind the path of a method that is refused for a cause: that, what stands at the place, and what the cause means
+abbrev pub refused_part : Shown → List ℕ → Refusal → List ℕ
+refused_part ns label refusal =
+    refused_place label refusal
+    ++ (standing_text (bytes_of ns.tables refusal.table) refusal.at ++ (codes ": " ++ cause_words refusal.why))
 
 -- the line of a method that is refused for a cause
 abbrev pub refused_text : Shown → List ℕ → ObjectId → Refusal → List ℕ
 refused_text ns label id refusal =
-    path_text (path_of ns.entries id.0) ++ refused_part label refusal
+    path_text (path_of ns.entries id.0) ++ refused_part ns label refusal
     ++ option_map_or (λ (callee : ObjectId). codes ": " ++ path_text (path_of ns.entries callee.0)) (callee_told ns id refusal) []
     ++ codes "\n"
 

@@ -1,3 +1,5 @@
 pub mod Verdicts
 pub mod Words
+pub mod Operators
+pub mod Standing
 pub mod Explained

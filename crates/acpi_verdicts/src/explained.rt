@@ -1,9 +1,10 @@
 // What people are told of why a method is refused.
 
 ghost use Rattle.std.specs.Prelude.{◌≡◌, ◌++◌, IfOk, OnOk, map, string_bytes};
-ghost use Rattle.acpi_verdicts.specs.Explained.{asks_callee, called_at, callee_told, chain_text, label_of, next_of, reason_text, refused_part, refused_text, rest_text, unreadable_label, unreadable_text};
+ghost use Rattle.acpi_verdicts.specs.Explained.{asks_callee, called_at, callee_told, chain_text, label_of, next_of, reason_text, refused_part, refused_place, refused_text, rest_text, unreadable_label, unreadable_text};
 ghost use Rattle.aml_namespace.specs.Shows.{shown};
 
+use crate::standing::push_standing;
 use crate::words::cause_words;
 use acpi_notes::{TreePlace, file_label, tree_note};
 use acpi_text::{RunFault, cause_text};
@@ -147,8 +148,7 @@ fn push_refused(
         ++ refused_text (shown namespace.now) label.now id refusal) }
 {
     push_path(alloc, text, namespace, id)?;
-    let part = refused_part(alloc, label, refusal)?;
-    text.extend_from_slice(part.as_bytes())?;
+    push_cause(alloc, text, namespace, label, refusal)?;
     if let Some(callee) = callee_told(namespace, id, refusal) {
         text.extend_from_slice(b": ")?;
         push_path(alloc, text, namespace, callee)?;
@@ -157,15 +157,33 @@ fn push_refused(
     Ok(())
 }
 
-// What stands behind the path of a method that is refused for a cause.
-#[tactic(auto, unfolding(crate::specs::Explained::refused_part))]
-fn refused_part(alloc: Global, label: &str, refusal: Refusal) -> Result<String, AllocError>
-    ensures { IfOk result (λ part. string_bytes part ≡ refused_part label.now refusal) }
+// Adds what stands behind the path of a method that is refused for a cause.
+fn push_cause(
+    alloc: Global,
+    text: &mut Vec<u8>,
+    namespace: &Namespace<'_>,
+    label: &str,
+    refusal: Refusal,
+) -> Result<(), RunFault>
+    ensures { OnOk result (text.new.items ≡ text.old.items
+        ++ refused_part (shown namespace.now) label.now refusal) }
+{
+    let place = refused_place(alloc, label, refusal)?;
+    text.extend_from_slice(place.as_bytes())?;
+    push_standing(text, namespace.table_bytes(refusal.table), refusal.at)?;
+    text.extend_from_slice(b": ")?;
+    text.extend_from_slice(cause_words(refusal.why).as_bytes())?;
+    Ok(())
+}
+
+// A cause and its place.
+#[tactic(auto, unfolding(crate::specs::Explained::refused_place))]
+fn refused_place(alloc: Global, label: &str, refusal: Refusal) -> Result<String, AllocError>
+    ensures { IfOk result (λ part. string_bytes part ≡ refused_place label.now refusal) }
 {
     let cause = cause_text(refusal.why);
-    let words = cause_words(refusal.why);
     let at = refusal.at;
-    format!(in alloc; ": {cause}: {label}, byte {at}: {words}")
+    format!(in alloc; ": {cause}: {label}, byte {at}")
 }
 
 // How the place of a body that cannot be read is called, behind the method's path.
