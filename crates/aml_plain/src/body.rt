@@ -9,7 +9,7 @@ ghost use Rattle.aml_machine.specs.Views.{names_of};
 ghost use Rattle.aml_acts.specs.Outcomes.{EvaluatesBody, outcome_of};
 ghost use Rattle.aml_plain.specs.Tells.{setting_of};
 
-use crate::eval::eval_body;
+use crate::eval::calls::eval_body;
 use crate::setting::Setting;
 use aml_acts::halt::outcome_of;
 use aml_contents::Names;
