@@ -6,7 +6,6 @@ use Rattle.acpi_notes.specs.Label.{line_label}
 use Rattle.acpi_notes.specs.Tree.{tree_note}
 use Rattle.acpi_text.specs.Text.{joined}
 use Rattle.acpi_text.specs.Verdicts.{cause_text}
-use Rattle.acpi_verdicts.specs.Standing.{standing_text}
 use Rattle.acpi_verdicts.specs.Verdicts.{said_of}
 use Rattle.acpi_verdicts.specs.Words.{cause_words}
 use Rattle.aml_causes.specs.declared.cause.Cause.{Cause}
@@ -19,6 +18,7 @@ use Rattle.aml_namespace.specs.Shows.{shown}
 use Rattle.aml_namespace.specs.declared.link.Link.{Link}
 use Rattle.aml_namespace.specs.declared.link.Link.TheVariants as link
 use Rattle.aml_path_text.specs.Paths.{path_of}
+use Rattle.aml_place_text.specs.Place.{standing_text}
 use Rattle.aml_paths.specs.Printed.{path_text}
 use Rattle.aml_paths.specs.declared.scope.ObjectId.{ObjectId}
 use Rattle.aml_tree.specs.Causes.{tree_cause_text}

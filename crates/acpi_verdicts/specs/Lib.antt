@@ -1,5 +1,3 @@
 pub mod Verdicts
 pub mod Words
-pub mod Operators
-pub mod Standing
 pub mod Explained

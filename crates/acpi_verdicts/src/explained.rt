@@ -4,7 +4,6 @@ ghost use Rattle.std.specs.Prelude.{◌≡◌, ◌++◌, IfOk, OnOk, map, string
 ghost use Rattle.acpi_verdicts.specs.Explained.{asks_callee, called_at, callee_told, chain_text, label_of, next_of, reason_text, refused_part, refused_place, refused_text, rest_text, unreadable_label, unreadable_text};
 ghost use Rattle.aml_namespace.specs.Shows.{shown};
 
-use crate::standing::push_standing;
 use crate::words::cause_words;
 use acpi_notes::{TreePlace, file_label, tree_note};
 use acpi_text::{RunFault, cause_text};
@@ -12,6 +11,7 @@ use aml_causes::{Cause, Refusal};
 use aml_namespace::{Link, Namespace};
 use aml_path_text::push_path;
 use aml_paths::ObjectId;
+use aml_place_text::push_standing;
 use aml_tree::Refusal as Unread;
 use aml_verify::{Checked, Verdict};
 use std::alloc::{AllocError, Global};

@@ -2,14 +2,11 @@
 //! method is refused.
 //!
 //! Rooms: `listed` prints the verdicts and answers whether a method is refused, `words` has what causes
-//! mean, `operators` how operators are called, `standing` what stands at a place, `explained` what is told
-//! of a refused method and of those that it calls.
+//! mean, `explained` what is told of a refused method and of those that it calls.
 #![tactic(auto)]
 
 mod explained;
 mod listed;
-mod operators;
-mod standing;
 mod words;
 
 pub use explained::explain;

@@ -1,9 +1,9 @@
 // What stands at a place of a body, in words: an operator by its word of ASL, or a name as it is spelled.
 
-ghost use Rattle.std.specs.Prelude.{◌≡◌, ◌++◌, OnOk, List, ℕ};
+ghost use Rattle.std.specs.Prelude.{◌≡◌, ◌++◌, OnOk, replicate};
 ghost use Rattle.aml_lex.specs.Names.{name_of};
 ghost use Rattle.aml_paths.specs.Printed.{segments_text};
-ghost use Rattle.acpi_verdicts.specs.Standing.{bracketed, name_text, prefix_text, standing_text};
+ghost use Rattle.aml_place_text.specs.Place.{bracketed, name_text, prefix_text, standing_text};
 
 use crate::operators::operator_name;
 use aml_lex::{NameRef, name_there};
@@ -60,7 +60,14 @@ fn push_prefix(text: &mut Vec<u8>, name: &NameRef<'_>) -> Result<(), AllocError>
     if name.rooted() {
         text.push(b'\\')?;
     }
-    for _ in 0..name.parents() {
+    push_parents(text, name.parents())
+}
+
+// Adds so many `^`.
+fn push_parents(text: &mut Vec<u8>, count: usize) -> Result<(), AllocError>
+    ensures { OnOk result (text.new.items ≡ text.old.items ++ replicate count 94) }
+{
+    for _ in 0..count {
         text.push(b'^')?;
     }
     Ok(())

@@ -1,7 +1,7 @@
 // How operators are called.
 
 ghost use Rattle.std.specs.Prelude.{◌≡◌};
-ghost use Rattle.acpi_verdicts.specs.Operators as spec;
+ghost use Rattle.aml_place_text.specs.Operators as spec;
 
 use aml_operators::Op;
 

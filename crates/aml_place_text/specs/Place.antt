@@ -1,7 +1,6 @@
 -- What stands at a place of a body, in words.
-use Rattle.std.specs.Prelude.{ℕ, List, [], ◌∷◌, ◌++◌, Bool, Option, Some, None, codes, replicate, if◌then◌else◌}
-use Rattle.std.specs.Option.{option_map_or}
-use Rattle.acpi_verdicts.specs.Operators.{operator_name}
+use Rattle.std.specs.Prelude.{ℕ, List, [], ◌++◌, Bool, Option, Some, None, codes, replicate, if◌then◌else◌}
+use Rattle.aml_place_text.specs.Operators.{operator_name}
 use Rattle.aml_lex.specs.NameStrings.{NameString}
 use Rattle.aml_lex.specs.Standing.{name_there}
 use Rattle.aml_operators.specs.declared.op.Op.{Op}
