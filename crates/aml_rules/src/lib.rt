@@ -20,6 +20,6 @@ pub use buffers::{append, concatenated, size_of};
 pub use conversions::{to_buffer, to_integer};
 pub use elements::{ByteStore, byte_stored, element_at};
 pub use equality::equal;
-pub use integers::truth;
+pub use integers::{holds, joined, transformed_bits, truth};
 pub use law::integers_are_given_back;
 pub use place::{Place, RuleFault};
