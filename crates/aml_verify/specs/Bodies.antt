@@ -60,9 +60,9 @@ module _ (ns : Shown) (shapes : List Shape) (shared : List (Option Known)) (call
   }
 
 abbrev pub around_body : Body → Around
-around_body b = around_by (shown b.namespace.now) b.shapes.now b.shared.now
-    (callee_by b.shapes.now b.heights.now b.components.now b.verdicts.now b.method.0)
-    b.method.0 b.table b.bytes.now (owns_seen b.owns.now) b.held.items b.fields.items
+around_body b = around_by (shown b.names.namespace.now) b.shapes.now b.shared.now
+    (callee_by b.shapes.now b.heights.now b.components.now b.verdicts.now b.names.method.0)
+    b.names.method.0 b.table b.names.bytes.now (owns_seen b.names.owns.now) b.held.items b.fields.items
 
 -- with one own name more, which holds what is of a kind, or is a field; and all else the same
 pub record IsGrown (old new : Body) (kind : Option Known) (part : Option BufferPart) : Type 0 where

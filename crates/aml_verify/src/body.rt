@@ -4,6 +4,7 @@ ghost use Rattle.std.specs.Prelude.{◌≡◌, None, OnOk, slice_get, unwrap_or}
 ghost use Rattle.aml_shapes.specs.Numbers.{numbered};
 ghost use Rattle.aml_verify.specs.Bodies.{around_body, IsGrown};
 
+use crate::named::Named;
 use crate::verdict::{Verdict, accepted_at};
 use aml_components::{Components, Heights};
 use aml_fields::{field_in, part_numbered, read_count, write_count};
@@ -11,23 +12,20 @@ use aml_judging::{Around, FieldCosts, Made, Seen};
 use aml_known::{ElementKnown, Known, ShapeNumber, Shapes};
 use aml_lex::name_there;
 use aml_meaning::BufferPart;
-use aml_namespace::{Link, Namespace, Object, Width};
+use aml_namespace::{Link, Object, Width};
 use aml_operators::{Op, Term};
-use aml_own_names::OwnNames;
 use aml_paths::{NoMemory, ObjectId};
 use aml_shapes::ShapeTable;
 use std::alloc::{AllocError, Global};
 
 /// What is known around a method's body, and the own names that it made so far.
 #[derive(Drop)]
-pub(crate) struct Body<'b> {
+pub(crate) struct Body<'n, 'k, 'b> {
     pub alloc: Global,
-    pub namespace: &'b Namespace<'b>,
-    pub method: ObjectId,
+    /// Whose body it is, with what its names mean.
+    pub names: Named<'n, 'k>,
     /// The number of its table.
     pub table: usize,
-    pub bytes: &'b [u8],
-    pub owns: &'b OwnNames,
     pub shapes: &'b ShapeTable,
     /// The kinds of data names, by the numbers of their objects.
     pub shared: &'b [Option<Known>],
@@ -50,7 +48,7 @@ fn at<T: Copy>(places: &[Option<T>], number: usize) -> Option<T>
     }
 }
 
-impl Body<'_> {
+impl Body<'_, '_, '_> {
     /// Makes an own name more.
     fn grow(&mut self, kind: Option<Known>, part: Option<BufferPart>) -> Result<(), NoMemory>
         ensures grown { OnOk result (IsGrown self.old self.new kind part) }
@@ -73,7 +71,7 @@ impl Body<'_> {
     }
 }
 
-impl Shapes for Body<'_> {
+impl Shapes for Body<'_, '_, '_> {
     ghost numbered = { λ b. numbered b.shapes.now };
 
     fn places(&self, shape: ShapeNumber) -> Result<u64, NoMemory> {
@@ -89,7 +87,7 @@ impl Shapes for Body<'_> {
     }
 }
 
-impl Around for Body<'_> {
+impl Around for Body<'_, '_, '_> {
     ghost around = { around_body };
 
     fn table(&self) -> usize {
@@ -97,30 +95,29 @@ impl Around for Body<'_> {
     }
 
     fn width(&self) -> Width {
-        self.namespace.width()
+        self.names.namespace.width()
     }
 
     fn link(&self, at: usize) -> Link {
-        self.namespace
-            .link_with_owns(self.method, self.bytes, self.owns, at)
+        self.names.link(at)
     }
 
     fn lone(&self, at: usize) -> bool {
-        match name_there(self.bytes, at) {
+        match name_there(self.names.bytes, at) {
             Some(name) => name.lone_segment().is_some(),
             None => false,
         }
     }
 
     fn object(&self, id: ObjectId) -> Option<Object> {
-        self.namespace.object(id)
+        self.names.namespace.object(id)
     }
 
     fn field(&self, id: ObjectId) -> Option<FieldCosts> {
-        let Some(Object::Field(field)) = self.namespace.object(id) else {
+        let Some(Object::Field(field)) = self.names.namespace.object(id) else {
             return None;
         };
-        let any = field_in(self.namespace, &field)?;
+        let any = field_in(self.names.namespace, &field)?;
         Some(FieldCosts {
             bits: any.layout().bits,
             reads: read_count(&any),
@@ -129,12 +126,12 @@ impl Around for Body<'_> {
     }
 
     fn buffer_field(&self, id: ObjectId) -> Option<BufferPart> {
-        part_numbered(self.namespace, id)
+        part_numbered(self.names.namespace, id)
     }
 
     fn literal(&self, op: Op, parts: &[Term]) -> Result<Known, NoMemory> {
         self.shapes
-            .find(self.alloc, self.namespace.width(), op, parts)
+            .find(self.alloc, self.names.namespace.width(), op, parts)
     }
 
     fn shared(&self, id: ObjectId) -> Option<Known> {
@@ -143,7 +140,7 @@ impl Around for Body<'_> {
 
     fn callee(&self, id: ObjectId) -> Seen<'_> {
         Seen {
-            reaches: self.components.reach_each_other(id, self.method),
+            reaches: self.components.reach_each_other(id, self.names.method),
             deep: !self.heights.is_short(id, 63),
             accepted: accepted_at(self.verdicts, id.0),
         }

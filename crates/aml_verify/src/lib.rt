@@ -2,13 +2,14 @@
 //! project's own; `docs/VERDICTS.md` tells them).
 //!
 //! Rooms: `verifier` judges one body at a time, each behind those that it calls; `body` has what is known
-//! around a body, `verdict` what is said of a method, `checked` what is said of all and what is kept of their
+//! around a body, `named` what its names mean, `verdict` what is said of a method, `checked` what is said of all and what is kept of their
 //! bodies, `accepts` whether values are of the kinds of arguments.
 #![tactic(auto)]
 
 mod accepts;
 mod body;
 mod checked;
+mod named;
 mod verdict;
 mod verifier;
 

@@ -1,7 +1,7 @@
 // Judging the methods of a namespace, one body at a time.
 
 ghost use Rattle.std.specs.Prelude.{◌≡◌, ◌++◌, ℕ, IfOk, OnErr, None, Some, false, length, map, slice_get, slice_set};
-ghost use Rattle.aml_bodies.specs.Kept.{AreOwnsOf, kept_at};
+ghost use Rattle.aml_bodies.specs.Kept.{IsKept, kept_at};
 ghost use Rattle.aml_bounds.specs.Pairs.{numbers};
 ghost use Rattle.aml_integers.specs.Known.{marked};
 ghost use Rattle.aml_namespace.specs.Names.{method_at};
@@ -13,6 +13,7 @@ ghost use Rattle.aml_verify.specs.Verdicts.{FoundOf, IsChecked, IsOfSame, IsRead
 
 use crate::body::Body;
 use crate::checked::Checked;
+use crate::named::Named;
 use crate::verdict::Verdict;
 use aml_bodies::{Kept, keep_with};
 use aml_bounds::call_order;
@@ -262,8 +263,8 @@ impl<'a, 's> Verifier<'a, 's> {
     {
         let bytes = self.namespace.body_bytes(id);
         let owns = OwnNames::of(self.alloc, bytes, body)?;
-        let (verdict, integers) = self.judge_with(id, method, &owns, body)?;
         let kept = keep_with(self.alloc, self.namespace, id, owns, body)?;
+        let (verdict, integers) = self.judge_with(id, method, &kept, body)?;
         Ok(Found {
             verdict: Some(verdict),
             kept: Some(kept),
@@ -271,30 +272,35 @@ impl<'a, 's> Verifier<'a, 's> {
         })
     }
 
-    /// Its verdict, and whether it is accepted and evaluates integers alone.
+    /// Its verdict, and whether it is accepted and evaluates integers alone. What its names mean is taken
+    /// from what is kept of its body.
     fn judge_with(
         &self,
         id: ObjectId,
         method: Method,
-        owns: &OwnNames,
+        kept: &Kept,
         body: &[Term],
     ) -> Result<(Verdict, bool), NoMemory>
         requires next { slice_get (numbers self.now.order.items) self.now.judged ≡ Some id.0 }
         requires there { method_at (shown self.now.namespace.now) id.0 ≡ Some method }
         requires read { IsRead (shown self.now.namespace.now) id.0 method (map view body.now) }
-        requires made { AreOwnsOf (shown self.now.namespace.now) id.0 (map view body.now) owns.now }
+        requires kept { IsKept (shown self.now.namespace.now) id.0 kept.now }
         ensures said { IfOk result (λ f. IsVerifier self.now → SaysNext self.now id.0 method f.0) }
         ensures marks { IfOk result (λ f. IsVerifier self.now → MarksNext self.now id.0 f.1) }
     {
         let bytes = self.namespace.body_bytes(id);
         let args = arguments(self.alloc, self.namespace, self.signatures, id, method.args)?;
-        let mut around = Body {
-            alloc: self.alloc,
+        let names = Named {
             namespace: self.namespace,
             method: id,
-            table: method.table,
             bytes,
-            owns,
+            owns: &kept.owns,
+            links: &kept.links,
+        };
+        let mut around = Body {
+            alloc: self.alloc,
+            names,
+            table: method.table,
             shapes: &self.shapes,
             shared: &self.shared,
             verdicts: &self.verdicts,
