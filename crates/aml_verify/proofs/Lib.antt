@@ -5,6 +5,7 @@ pub mod Stepping
 pub mod Judged
 pub mod Beginning
 pub mod Keeping
+pub mod Linked
 pub mod Marking
 pub mod Accepting
 pub mod Finding

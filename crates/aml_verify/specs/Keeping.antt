@@ -10,10 +10,12 @@ use Rattle.aml_judged.specs.Integers.{AreIntegerOnly}
 use Rattle.aml_judged.specs.Judged.{Accepted}
 use Rattle.aml_judged.specs.Verdicts.{AreAccepted, Judging}
 use Rattle.aml_methods.specs.Judgings.{IsJudging, Told}
+use Rattle.aml_namespace.specs.declared.link.Link.{Link}
 use Rattle.aml_namespace.specs.declared.object.Method.{Method}
 use Rattle.aml_namespace.specs.Load.{Shown}
-use Rattle.aml_namespace.specs.Names.{IsBodyOf, body_bytes, method_at}
+use Rattle.aml_namespace.specs.Names.{IsBodyOf, body_bytes, link_with_owns, method_at}
 use Rattle.aml_operators.specs.Tree.{Tree}
+use Rattle.aml_own_names.specs.OwnNames.{own_names}
 
 -- of the bodies of those methods that are judged each that has a tree is kept
 pub record KeepsSoFar (ns : Shown) (order : List ℕ) (judged : ℕ) (kept : List (Option Kept)) : Type 0 where
@@ -42,3 +44,8 @@ place_of ns m = (m.table, m.body.at, body_bytes ns m)
 abbrev pub body_of : Shown → ℕ → Option Accepted → Option (ℕ × ℕ × List ℕ)
 body_of ns k None = None
 body_of ns k (Some a) = option_map (place_of ns) (method_at ns k)
+
+-- what a name at a place means in the body of the method with a number, its own names among it
+abbrev pub Means : Shown → ℕ → ℕ → Link → Type 0
+Means ns k at l = (m : Method) → method_at ns k ≡ Some m → (ts : List Tree) → IsBodyOf ns k m ts →
+    l ≡ link_with_owns ns.entries k (body_bytes ns m) (own_names (body_bytes ns m) ts) at

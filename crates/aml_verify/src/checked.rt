@@ -1,8 +1,9 @@
 // What is said of all methods of a namespace.
 
-ghost use Rattle.std.specs.Prelude.{◌≡◌, ◌↔◌, ℕ, IsTrue, map};
+ghost use Rattle.std.specs.Prelude.{◌≡◌, ◌↔◌, ℕ, IfSome, IsSome, IsTrue, Some, map};
 ghost use Rattle.std.specs.Option.{option_and_then, option_map};
 ghost use Rattle.aml_bodies.specs.Kept.{kept_at};
+ghost use Rattle.aml_bodies.specs.Links.{AreLinks, IsLinked};
 ghost use Rattle.aml_contents.specs.Belongs.{Belong};
 ghost use Rattle.aml_contents.specs.Held.{content_kinds};
 ghost use Rattle.aml_integers.specs.Known.{marked};
@@ -11,7 +12,7 @@ ghost use Rattle.aml_namespace.specs.Shows.{shown};
 ghost use Rattle.aml_shapes.specs.Numbers.{numbered};
 ghost use Rattle.aml_values.specs.Views.{view};
 ghost use Rattle.aml_verify.specs.Accepts.{accepts_by, takes};
-ghost use Rattle.aml_verify.specs.Keeping.{body_of};
+ghost use Rattle.aml_verify.specs.Keeping.{Means, body_of};
 ghost use Rattle.aml_verify.specs.Said.{accepted_by, verdict_at};
 ghost use Rattle.aml_verify.specs.Verdicts.{IsChecked};
 
@@ -20,7 +21,7 @@ use crate::verdict::{Verdict, accepted_at};
 use aml_bodies::Kept;
 use aml_contents::Names;
 use aml_known::Known;
-use aml_namespace::Namespace;
+use aml_namespace::{Link, Namespace};
 use aml_paths::ObjectId;
 use aml_shapes::ShapeTable;
 use aml_values::Value;
@@ -38,6 +39,18 @@ pub struct Checked<'a> {
     pub(crate) kept: Vec<Option<Kept>>,
     /// Which methods evaluate integers alone, by the same numbers.
     pub(crate) integers: Vec<bool>,
+}
+
+/// What the name at a place means, by what is kept of its body.
+fn linked(kept: &Kept, at: usize) -> Option<Link>
+    ensures means { (means : ℕ → Link) → AreLinks means kept.now.links →
+        IfSome result (λ l. l ≡ means at) }
+    ensures all { (stop : ℕ) → IsLinked kept.now.links at stop → IsSome result }
+{
+    match kept.links.find(at) {
+        Some(name) => Some(name.link),
+        None => None,
+    }
 }
 
 impl<'a> Checked<'a> {
@@ -78,6 +91,21 @@ impl<'a> Checked<'a> {
         ensures { result.now ≡ self.now.kept.items }
     {
         &self.kept
+    }
+
+    /// What the name at a place means in the body of the method with a number, by the place of its first byte; None where no name is
+    /// kept there. It takes no memory.
+    #[must_use]
+    pub fn link(&self, method: ObjectId, at: usize) -> Option<Link>
+        ensures means { (told : Told) → IsChecked told self.now →
+            IfSome result (Means (shown self.now.namespace.now) method.0 at) }
+        ensures all { (one : Kept) → kept_at self.now.kept.items method.0 ≡ Some one →
+            (stop : ℕ) → IsLinked one.links at stop → IsSome result }
+    {
+        match self.kept(method) {
+            Some(kept) => linked(kept, at),
+            None => None,
+        }
     }
 
     /// Where the body of an accepted method stands: its table, the place there of its first byte, and the table's bytes up to its end.
