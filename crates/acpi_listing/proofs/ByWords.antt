@@ -3,9 +3,9 @@ use Rattle.std.proofs.Common.{◌≡◌, ℕ, List, [], ◌∷◌, Option, Resul
 use Rattle.std.specs.Prelude.{Vec, String, string_bytes, vec_items}
 use Rattle.acpi_text.specs.declared.writing.RunFault.{RunFault}
 use Rattle.acpi_listing.specs.Commands.{RunsWords}
-use Rattle.acpi_listing.specs.Files.{Answers}
+use Rattle.acpi_sources.specs.Files.{Answers}
 use Rattle.acpi_listing.specs.Program.{RunsByWords, RunsEither}
-use Rattle.acpi_listing.specs.declared.fault.Fault.{Fault}
+use Rattle.acpi_sources.specs.declared.fault.Fault.{Fault}
 
 by_words : {F X : Type 0} (answers : Answers F) (old new : F) (f : X → List ℕ) (xs : List X) (from held holds : Option (List ℕ)) (r : Result ℕ RunFault)
     → (length xs ≡ 0 → ⊥) → RunsWords answers (map f xs) old new held holds r → RunsByWords answers old new (map f xs) from from held holds r

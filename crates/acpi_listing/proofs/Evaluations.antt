@@ -11,9 +11,10 @@ use Rattle.aml_meaning.specs.declared.outcome.Outcome.{Outcome}
 use Rattle.aml_regions.specs.Events.{Event}
 use Rattle.aml_tree.specs.declared.fault.Refusal.{Refusal}
 use Rattle.acpi_text.specs.Names.{names_text}
-use Rattle.acpi_listing.specs.Arguments.{ListsArguments}
-use Rattle.acpi_listing.specs.Files.{Answers}
-use Rattle.acpi_listing.specs.Inputs.{OpensInputs, ReadsInputs, tables_of}
+use Rattle.acpi_words.specs.Arguments.{ListsArguments}
+use Rattle.acpi_sources.specs.Files.{Answers}
+use Rattle.acpi_sources.specs.Inputs.{OpensInputs, tables_of}
+use Rattle.acpi_listing.specs.Inputs.{ReadsInputs}
 use Rattle.acpi_listing.specs.Loading.{IsNamespace, Loads, interfaces_of}
 use Rattle.acpi_listing.specs.Registers.{OpensRegisters, ReadsRegisters}
 use Rattle.acpi_listing.specs.Signatures.{OpensSignatures, ReadsSignatures}
@@ -35,11 +36,11 @@ use Rattle.aml_regions.specs.Registers.{contents}
 use Rattle.aml_registers.specs.declared.registers.Registers.{Registers}
 use Rattle.acpi_listing.specs.Steps.{Step, Then, Obtains, Still, Tells, Writes}
 use Rattle.acpi_listing.specs.Commands.{Accepts, AreVerdictsOn, EvaluatesBody, EvaluatesFiles, EvaluatesFound, EvaluatesJudged, EvaluatesMethod, EvaluatesTables, Finds, Fit, IsDone, IsMeant, IsMethodAt, Judges, ListsNames, ReadsArguments, ReadsBody, Takes, evaluation_text, is_accepted, outcome_status}
-use Rattle.acpi_listing.specs.declared.fault.Fault.{Fault}
-use Rattle.acpi_listing.specs.declared.fault.Stop.{Stop}
-use Rattle.acpi_listing.specs.declared.fault.Stop.TheVariants.{Fault as Faulty}
-use Rattle.acpi_listing.specs.declared.inputs.InputNames.{InputNames}
-use Rattle.acpi_listing.specs.declared.inputs.Inputs.{Inputs}
+use Rattle.acpi_sources.specs.declared.fault.Fault.{Fault}
+use Rattle.acpi_listing.specs.declared.stop.Stop.{Stop}
+use Rattle.acpi_listing.specs.declared.stop.Stop.TheVariants.{Fault as Faulty}
+use Rattle.acpi_sources.specs.declared.inputs.InputNames.{InputNames}
+use Rattle.acpi_sources.specs.declared.inputs.Inputs.{Inputs}
 use Rattle.acpi_listing.proofs.Chains.{given, given_fault, quiet, quiet_fault, still}
 
 -- a namespace with texts that are these

@@ -3,20 +3,22 @@ use Rattle.std.proofs.Common.{◌≡◌, ℕ, ◌+◌, ◌<◌, ◌≤◌, List,
 use Rattle.std.specs.Prelude.{IsErrAnd}
 use Rattle.std.specs.Io.KnownBytes.{Appends}
 use Rattle.std.proofs.lemmas.List.{drop_all}
-use Rattle.acpi_listing.specs.Files.{Answers, Opens, ReadsTable, ListsFile, ListsFiles}
+use Rattle.acpi_sources.specs.Files.{Answers, Opens}
+use Rattle.acpi_sources.proofs.FilesRead.{names_from}
+use Rattle.acpi_listing.specs.Files.{ReadsTable, ListsFile, ListsFiles}
 use Rattle.acpi_tables.specs.Fault.{first_fault}
 use Rattle.acpi_tables.specs.declared.fault.TableFault.{TableFault}
 use Rattle.acpi_listing.specs.Steps.{Step, Obtains, Prints, Then, Writes}
-use Rattle.acpi_listing.specs.Reading.{file_kind, file_checks, Says}
+use Rattle.acpi_sources.specs.Reading.{file_kind, file_checks, Says}
 use Rattle.acpi_listing.proofs.Chains.{goes_on, stops, quiet, quiet_fault, given, given_fault, printed, cut_off, ended}
 use Rattle.acpi_text.specs.Tables.{table_text}
 use Rattle.acpi_text.specs.declared.table.Table.{Table}
 use Rattle.acpi_text.specs.declared.writing.RunFault.{RunFault}
-use Rattle.acpi_listing.specs.declared.fault.Fault.{Fault}
-use Rattle.acpi_listing.specs.Faults.{in_table}
-use Rattle.acpi_listing.specs.declared.fault.FaultCause.TheVariants as cause
-use Rattle.acpi_listing.specs.declared.fault.Stop.{Stop}
-use Rattle.acpi_listing.specs.declared.fault.Stop.TheVariants.{Fault as Faulty, Run}
+use Rattle.acpi_sources.specs.declared.fault.Fault.{Fault}
+use Rattle.acpi_sources.specs.Faults.{in_table}
+use Rattle.acpi_sources.specs.declared.fault.FaultCause.TheVariants as cause
+use Rattle.acpi_listing.specs.declared.stop.Stop.{Stop}
+use Rattle.acpi_listing.specs.declared.stop.Stop.TheVariants.{Fault as Faulty, Run}
 
 -- a file whose table was read is what its printing is
 pub file_read : {F : Type 0} (answers : Answers F) (number : ℕ) (name bytes lent : List ℕ) (table : Table) (old new : F) (held holds : Option (List ℕ)) (r : Result (Unit {0}) Stop)
@@ -64,11 +66,6 @@ abbrev pub LeftFrom : {F X : Type 0} → Answers F → F → (X → List ℕ) �
 LeftFrom answers old now xs i mid held between =
     (new : _) (holds : Option (List ℕ)) (r : Result ℕ Stop) → Writes (ListsFiles answers i (map now (drop i xs))) mid new between holds r
     → Writes (ListsFiles answers 0 (map now xs)) old new held holds r
-
--- the names from one on
-pub names_from : {X : Type 0} (now : X → List ℕ) (xs : List X) (i : ℕ) (d : X) → i < length xs
-    → map now (drop i xs) ≡ now (get_or xs i d) ∷ map now (drop (i + 1) xs)
-names_from now xs i d below = rw add-one (ap (map now) (drop-cons xs i d below))
 
 -- one more file was listed
 pub files_more : {F X : Type 0} (answers : Answers F) (old mid next : F) (now : X → List ℕ) (xs : List X) (i : ℕ) (d : X) (u : Unit {0}) (held between after : Option (List ℕ))

@@ -16,20 +16,21 @@ use Rattle.aml_registers.specs.declared.registers.Registers.{Registers}
 use Rattle.aml_signatures.specs.Signed.{kinds_told}
 use Rattle.aml_signatures.specs.declared.signatures.Signatures.{Signatures}
 use Rattle.aml_verify.specs.declared.checked.Checked.{Checked}
-use Rattle.acpi_listing.specs.Commands.{AreVerdictsOn, FindsObject, GivesOver, IsGivenOver, IsObjectAt, Judges, ListsGiven, ListsItems, ListsLoaded, ListsResources, ListsTables, ReadsItems, SpellsNoItems, resource_fault}
-use Rattle.acpi_listing.specs.Faults.{nowhere}
-use Rattle.acpi_listing.specs.Files.{Answers}
-use Rattle.acpi_listing.specs.Inputs.{OpensInputs, ReadsInputs, tables_of}
+use Rattle.acpi_listing.specs.Commands.{AreVerdictsOn, FindsObject, GivesOver, IsGivenOver, IsObjectAt, Judges, ListsGiven, ListsItems, ListsLoaded, ListsResources, ListsTables, ReadsItems, SpellsNoItems}
+use Rattle.acpi_sources.specs.Faults.{resource_fault, nowhere, Tries}
+use Rattle.acpi_sources.specs.Files.{Answers}
+use Rattle.acpi_sources.specs.Inputs.{OpensInputs, tables_of}
+use Rattle.acpi_listing.specs.Inputs.{ReadsInputs}
 use Rattle.acpi_listing.specs.Loading.{IsNamespace, Loads}
 use Rattle.acpi_listing.specs.Registers.{OpensRegisters}
 use Rattle.acpi_listing.specs.Signatures.{OpensSignatures, ReadsSignatures}
-use Rattle.acpi_listing.specs.Steps.{Step, Then, Obtains, Still, Tells, Tries, Writes}
-use Rattle.acpi_listing.specs.declared.fault.Fault.{Fault}
-use Rattle.acpi_listing.specs.declared.fault.FaultCause.TheVariants as cause
-use Rattle.acpi_listing.specs.declared.fault.Stop.{Stop}
-use Rattle.acpi_listing.specs.declared.fault.Stop.TheVariants.{Fault as Faulty}
-use Rattle.acpi_listing.specs.declared.inputs.InputNames.{InputNames}
-use Rattle.acpi_listing.specs.declared.inputs.Inputs.{Inputs}
+use Rattle.acpi_listing.specs.Steps.{Step, Then, Obtains, Still, Tells, Writes}
+use Rattle.acpi_sources.specs.declared.fault.Fault.{Fault}
+use Rattle.acpi_sources.specs.declared.fault.FaultCause.TheVariants as cause
+use Rattle.acpi_listing.specs.declared.stop.Stop.{Stop}
+use Rattle.acpi_listing.specs.declared.stop.Stop.TheVariants.{Fault as Faulty}
+use Rattle.acpi_sources.specs.declared.inputs.InputNames.{InputNames}
+use Rattle.acpi_sources.specs.declared.inputs.Inputs.{Inputs}
 use Rattle.acpi_listing.proofs.Chains.{given, given_fault, quiet, quiet_fault, still}
 
 -- a fault of bytes that spell no items

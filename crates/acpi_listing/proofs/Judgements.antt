@@ -8,16 +8,17 @@ use Rattle.aml_signatures.specs.declared.signatures.Signatures.{Signatures}
 use Rattle.aml_verify.specs.declared.checked.Checked.{Checked}
 use Rattle.acpi_verdicts.specs.Verdicts.{verdicts_text}
 use Rattle.acpi_listing.specs.Commands.{AreVerdictsOn, Judges, VerifiesFiles, VerifiesLoaded, VerifiesTables, verdicts_status}
-use Rattle.acpi_listing.specs.Files.{Answers}
-use Rattle.acpi_listing.specs.Inputs.{OpensInputs, ReadsInputs, tables_of}
+use Rattle.acpi_sources.specs.Files.{Answers}
+use Rattle.acpi_sources.specs.Inputs.{OpensInputs, tables_of}
+use Rattle.acpi_listing.specs.Inputs.{ReadsInputs}
 use Rattle.acpi_listing.specs.Loading.{IsNamespace, Loads}
 use Rattle.acpi_listing.specs.Signatures.{OpensSignatures}
 use Rattle.acpi_listing.specs.Steps.{Step, Then, Still, Tells, Writes}
-use Rattle.acpi_listing.specs.declared.fault.Fault.{Fault}
-use Rattle.acpi_listing.specs.declared.fault.Stop.{Stop}
-use Rattle.acpi_listing.specs.declared.fault.Stop.TheVariants.{Fault as Faulty}
-use Rattle.acpi_listing.specs.declared.inputs.InputNames.{InputNames}
-use Rattle.acpi_listing.specs.declared.inputs.Inputs.{Inputs}
+use Rattle.acpi_sources.specs.declared.fault.Fault.{Fault}
+use Rattle.acpi_listing.specs.declared.stop.Stop.{Stop}
+use Rattle.acpi_listing.specs.declared.stop.Stop.TheVariants.{Fault as Faulty}
+use Rattle.acpi_sources.specs.declared.inputs.InputNames.{InputNames}
+use Rattle.acpi_sources.specs.declared.inputs.Inputs.{Inputs}
 use Rattle.acpi_listing.proofs.Chains.{given, given_fault, quiet, quiet_fault, still}
 
 -- what stands behind the verdicts

@@ -29,21 +29,22 @@ use Rattle.aml_values.specs.Views.{view}
 use Rattle.aml_values.specs.declared.value.Value as program
 use Rattle.aml_values.specs.declared.value.Value.TheVariants as value
 use Rattle.aml_verify.specs.declared.checked.Checked.{Checked}
-use Rattle.acpi_listing.specs.Commands.{AreVerdictsOn, FindsObject, Follows, FollowsNot, IsObjectAt, IsPrtOver, Judges, ListsPrt, ListsRoutes, ListsValue, RoutesLoaded, RoutesTables, link_fault, names_first, route_fault, routes_with}
-use Rattle.acpi_listing.specs.Faults.{nowhere}
-use Rattle.acpi_listing.specs.Files.{Answers}
-use Rattle.acpi_listing.specs.Inputs.{OpensInputs, ReadsInputs, tables_of}
+use Rattle.acpi_listing.specs.Commands.{AreVerdictsOn, FindsObject, Follows, FollowsNot, IsObjectAt, IsPrtOver, Judges, ListsPrt, ListsRoutes, ListsValue, RoutesLoaded, RoutesTables, link_fault, names_first, routes_with}
+use Rattle.acpi_sources.specs.Faults.{route_fault, nowhere, Tries}
+use Rattle.acpi_sources.specs.Files.{Answers}
+use Rattle.acpi_sources.specs.Inputs.{OpensInputs, tables_of}
+use Rattle.acpi_listing.specs.Inputs.{ReadsInputs}
 use Rattle.acpi_listing.specs.Loading.{IsNamespace, Loads}
 use Rattle.acpi_listing.specs.Madt.{OpensControllers, ReadsControllers, ReadsMadt}
 use Rattle.acpi_listing.specs.Registers.{OpensRegisters}
 use Rattle.acpi_listing.specs.Signatures.{OpensSignatures, ReadsSignatures}
-use Rattle.acpi_listing.specs.Steps.{Step, Then, Obtains, Still, Tells, Tries, Writes}
-use Rattle.acpi_listing.specs.declared.fault.Fault.{Fault}
-use Rattle.acpi_listing.specs.declared.fault.FaultCause.TheVariants as cause
-use Rattle.acpi_listing.specs.declared.fault.Stop.{Stop}
-use Rattle.acpi_listing.specs.declared.fault.Stop.TheVariants.{Fault as Faulty}
-use Rattle.acpi_listing.specs.declared.inputs.InputNames.{InputNames}
-use Rattle.acpi_listing.specs.declared.inputs.Inputs.{Inputs}
+use Rattle.acpi_listing.specs.Steps.{Step, Then, Obtains, Still, Tells, Writes}
+use Rattle.acpi_sources.specs.declared.fault.Fault.{Fault}
+use Rattle.acpi_sources.specs.declared.fault.FaultCause.TheVariants as cause
+use Rattle.acpi_listing.specs.declared.stop.Stop.{Stop}
+use Rattle.acpi_listing.specs.declared.stop.Stop.TheVariants.{Fault as Faulty}
+use Rattle.acpi_sources.specs.declared.inputs.InputNames.{InputNames}
+use Rattle.acpi_sources.specs.declared.inputs.Inputs.{Inputs}
 use Rattle.acpi_listing.proofs.Chains.{given, given_fault, quiet, quiet_fault, still}
 
 -- a link that is refused, or want of memory, from what names held and the events before

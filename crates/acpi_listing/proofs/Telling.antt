@@ -3,13 +3,13 @@ use Rattle.std.proofs.Common.{ℕ, List, Option, Result, Ok, Err}
 use Rattle.acpi_text.proofs.Listing.{lists_then}
 use Rattle.acpi_text.specs.declared.writing.RunFault.{RunFault}
 use Rattle.acpi_listing.specs.Commands.{Asks, Obeys, ObeysWords, Reports, RunsWords}
-use Rattle.acpi_listing.specs.Faults.{fault_line}
-use Rattle.acpi_listing.specs.Files.{Answers}
+use Rattle.acpi_sources.specs.Faults.{fault_line}
+use Rattle.acpi_sources.specs.Files.{Answers}
 use Rattle.acpi_listing.specs.Steps.{Writes}
-use Rattle.acpi_listing.specs.declared.fault.Fault.{Fault}
-use Rattle.acpi_listing.specs.declared.fault.Stop.{Stop}
-use Rattle.acpi_listing.specs.declared.fault.Stop.TheVariants.{Fault as Faulty}
-use Rattle.acpi_listing.specs.declared.words.Request.{Request}
+use Rattle.acpi_sources.specs.declared.fault.Fault.{Fault}
+use Rattle.acpi_listing.specs.declared.stop.Stop.{Stop}
+use Rattle.acpi_listing.specs.declared.stop.Stop.TheVariants.{Fault as Faulty}
+use Rattle.acpi_words.specs.declared.words.Request.{Request}
 use Rattle.acpi_listing.proofs.Chains.{given}
 
 -- a fault's line stands behind what the command wrote

@@ -29,13 +29,11 @@ use Rattle.acpi_objects.specs.declared.given.Given.TheVariants as given
 use Rattle.acpi_resource_text.specs.Lines.{items_text, routes_text}
 use Rattle.acpi_resources.specs.Interrupts.{Links, crs_of_links, global_number, interrupt_of_device}
 use Rattle.acpi_resources.specs.Items.{items_of}
-use Rattle.acpi_resources.specs.declared.fault.ResourceFault.{ResourceFault}
 use Rattle.acpi_resources.specs.declared.fault.ResourceFault.TheVariants as resources
 use Rattle.acpi_resources.specs.declared.fault.ResourceRefusal.{ResourceRefusal}
 use Rattle.acpi_resources.specs.Routes.{routes_of}
 use Rattle.acpi_resources.specs.declared.item.Item.{Item}
 use Rattle.acpi_resources.specs.declared.route.Route.{Route}
-use Rattle.acpi_resources.specs.declared.route_fault.RouteFault.{RouteFault}
 use Rattle.acpi_resources.specs.declared.route_fault.RouteFault.TheVariants as routes
 use Rattle.acpi_resources.specs.declared.route_fault.RouteRefusal.{RouteRefusal}
 use Rattle.acpi_routing.specs.Prt.{GivesPrt}
@@ -44,34 +42,35 @@ use Rattle.acpi_routing.specs.declared.fault.LinkFault.TheVariants as links
 use Rattle.acpi_routing.specs.declared.fault.LinkRefusal.{LinkRefusal}
 use Rattle.acpi_routing.specs.declared.prt.Prt.{Prt}
 use Rattle.acpi_tables.specs.declared.madt.Madt.{Madt}
-use Rattle.acpi_listing.specs.Arguments.{ListsArguments, ListsBadArguments}
+use Rattle.acpi_words.specs.Arguments.{ListsArguments, ListsBadArguments}
 use Rattle.acpi_text.specs.Events.{events_text}
 use Rattle.acpi_text.specs.Lists.{Lists}
 use Rattle.acpi_text.specs.Names.{names_text}
 use Rattle.aml_path_text.specs.Paths.{path_of}
 use Rattle.acpi_text.specs.Outcome.{outcome_line, refusal_line}
-use Rattle.acpi_listing.specs.Faults.{at_byte, fault_line, in_element, nowhere}
-use Rattle.acpi_listing.specs.Files.{Answers, ListsFiles}
-use Rattle.acpi_listing.specs.Inputs.{ReadsInputs, tables_of}
+use Rattle.acpi_sources.specs.Faults.{at_byte, fault_line, nowhere, Tries}
+use Rattle.acpi_sources.specs.Files.{Answers}
+use Rattle.acpi_listing.specs.Files.{ListsFiles}
+use Rattle.acpi_listing.specs.Inputs.{ReadsInputs}
+use Rattle.acpi_sources.specs.Inputs.{tables_of}
 use Rattle.acpi_listing.specs.Loading.{Loads, interfaces_of}
 use Rattle.acpi_listing.specs.Madt.{ReadsControllers, ReadsMadt}
 use Rattle.acpi_listing.specs.Registers.{ReadsRegisters}
 use Rattle.acpi_listing.specs.Signatures.{ReadsSignatures}
-use Rattle.acpi_listing.specs.Steps.{Step, Then, Obtains, Still, Tells, Tries}
-use Rattle.acpi_listing.specs.FirstLine.{StartsWith, FailsToStart}
-use Rattle.acpi_listing.specs.Input.{IsRead, hex_answers}
-use Rattle.acpi_listing.specs.Words.{AsksFor, AsksNothing}
-use Rattle.acpi_listing.specs.declared.fault.Fault.{Fault}
-use Rattle.acpi_listing.specs.declared.fault.FaultCause.{FaultCause}
-use Rattle.acpi_listing.specs.declared.fault.FaultCause.TheVariants as cause
-use Rattle.acpi_listing.specs.declared.fault.Stop.{Stop}
-use Rattle.acpi_listing.specs.declared.fault.Stop.TheVariants.{Fault as Faulty, Run}
-use Rattle.acpi_listing.specs.declared.input.Input.{Input}
-use Rattle.acpi_listing.specs.declared.inputs.InputNames.{InputNames}
-use Rattle.acpi_listing.specs.declared.hex_lines.HexLines.{HexLines}
+use Rattle.acpi_listing.specs.Steps.{Step, Then, Obtains, Still, Tells}
+use Rattle.acpi_words.specs.FirstLine.{StartsWith, FailsToStart}
+use Rattle.acpi_sources.specs.Input.{IsRead, hex_answers}
+use Rattle.acpi_words.specs.Words.{AsksFor, AsksNothing}
+use Rattle.acpi_sources.specs.declared.fault.Fault.{Fault}
+use Rattle.acpi_sources.specs.declared.fault.FaultCause.TheVariants as cause
+use Rattle.acpi_listing.specs.declared.stop.Stop.{Stop}
+use Rattle.acpi_listing.specs.declared.stop.Stop.TheVariants.{Fault as Faulty, Run}
+use Rattle.acpi_sources.specs.declared.input.Input.{Input}
+use Rattle.acpi_sources.specs.declared.inputs.InputNames.{InputNames}
+use Rattle.acpi_sources.specs.declared.hex_lines.HexLines.{HexLines}
 use Rattle.acpi_text.specs.declared.writing.RunFault.{RunFault}
-use Rattle.acpi_listing.specs.declared.words.Request.{Request}
-use Rattle.acpi_listing.specs.declared.words.Request.TheVariants.{Tables, Names, Verify, Eval, Resources, Routing}
+use Rattle.acpi_words.specs.declared.words.Request.{Request}
+use Rattle.acpi_words.specs.declared.words.Request.TheVariants.{Tables, Names, Verify, Eval, Resources, Routing}
 use Rattle.acpi_verdicts.specs.Verdicts.{any_refused, said_of, said_text, verdicts_text}
 use Rattle.aml_known.specs.declared.accepted.Accepted.{Accepted}
 use Rattle.aml_known.specs.Views.{kinds_of}
@@ -295,11 +294,6 @@ abbrev pub IsGivenOver : (ℕ → ℕ → ℕ) → Checked → ℕ → Result Gi
 IsGivenOver bytes checked id (Ok g) = GivesOver bytes checked id g
 IsGivenOver bytes checked id (Err f) = f ≡ nowhere cause.NoMemory
 
--- why bytes have no items
-abbrev pub resource_fault : ResourceFault → Fault
-resource_fault resources.NoMemory = nowhere cause.NoMemory
-resource_fault (resources.Refused refusal) = at_byte (cause.Resources refusal.cause) refusal.at
-
 -- bytes spell no items, and this is why
 abbrev pub SpellsNoItems : List ℕ → Fault → Type 0
 SpellsNoItems octets f = (refusal : ResourceRefusal) × (items_of octets ≡ Err refusal) × (f ≡ resource_fault (resources.Refused refusal))
@@ -365,11 +359,6 @@ IsPrtOver bytes checked id =
     Tries (λ prt. PrtOver bytes checked id (Ok prt))
     (λ f. (refused : LinkRefusal) × PrtOver bytes checked id (Err refused) × (f ≡ link_fault (links.Refused refused)))
 
--- why a _PRT has no routes
-abbrev pub route_fault : RouteFault → Fault
-route_fault routes.NoMemory = nowhere cause.NoMemory
-route_fault (routes.Refused refusal) = in_element (cause.Routes refusal.cause) refusal.element
-
 -- the routes of a _PRT, with the items of its links and with a MADT or none; or its first element that has none
 abbrev pub routes_with : Option Madt → Links → Value → Result (List Route) RouteRefusal
 routes_with madt links prt = routes_of (interrupt_of_device (global_number madt) links) prt
@@ -433,15 +422,6 @@ Obeys answers (Routing request) = ListsRoutes answers request.asked.inputs reque
 -- a command: its words, and what they ask for
 abbrev pub ObeysWords : {F : Type 0} → Answers F → List (List ℕ) → Step F ℕ
 ObeysWords answers words = Then (Obtains (Asks words)) (Obeys answers)
-
--- the status of what is wrong
-abbrev pub cause_status : FaultCause → ℕ
-cause_status cause.CommandLine = 2
-cause_status _ = 1
-
--- the status of a fault
-abbrev pub fault_status : Fault → ℕ
-fault_status fault = cause_status fault.cause
 
 -- a fault's line is listed, and its status answered
 abbrev pub Reports : Fault → Option (List ℕ) → Option (List ℕ) → Result ℕ RunFault → Type 0

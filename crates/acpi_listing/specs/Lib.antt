@@ -1,12 +1,5 @@
-pub mod Faults
-pub mod Reading
 pub mod Files
 pub mod Steps
-pub mod Arguments
-pub mod CommandLine
-pub mod Words
-pub mod Input
-pub mod FirstLine
 pub mod Registers
 pub mod Signatures
 pub mod Inputs

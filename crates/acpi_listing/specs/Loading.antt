@@ -2,10 +2,9 @@
 use Rattle.std.specs.Prelude.{◌≡◌, ℕ, List, [], ◌∷◌, codes, Option, Some, None, Result}
 use Rattle.aml_namespace.specs.Load.{Shown, IsLoaded, FaultyLoad}
 use Rattle.aml_namespace.specs.declared.fault.LoadRefusal.{LoadRefusal}
-use Rattle.acpi_listing.specs.Steps.{Tries}
-use Rattle.acpi_listing.specs.Faults.{in_table}
-use Rattle.acpi_listing.specs.declared.fault.Fault.{Fault}
-use Rattle.acpi_listing.specs.declared.fault.FaultCause.TheVariants as cause
+use Rattle.acpi_sources.specs.Faults.{Tries, in_table}
+use Rattle.acpi_sources.specs.declared.fault.Fault.{Fault}
+use Rattle.acpi_sources.specs.declared.fault.FaultCause.TheVariants as cause
 
 -- what `_OS_` tells
 abbrev pub os_name : List ℕ

@@ -4,11 +4,11 @@ use Rattle.acpi_tables.specs.Fault.{first_fault}
 use Rattle.acpi_tables.specs.Madt.{HasMadt, madt_checks}
 use Rattle.acpi_tables.specs.declared.fault.TableFault.{TableFault}
 use Rattle.acpi_tables.specs.declared.madt.Madt.{Madt}
-use Rattle.acpi_listing.specs.Faults.{at_byte}
-use Rattle.acpi_listing.specs.Files.{Answers, Opens}
+use Rattle.acpi_sources.specs.Faults.{at_byte}
+use Rattle.acpi_sources.specs.Files.{Answers, Opens}
 use Rattle.acpi_listing.specs.Steps.{Step, Quietly}
-use Rattle.acpi_listing.specs.declared.fault.Fault.{Fault}
-use Rattle.acpi_listing.specs.declared.fault.FaultCause.TheVariants as cause
+use Rattle.acpi_sources.specs.declared.fault.Fault.{Fault}
+use Rattle.acpi_sources.specs.declared.fault.FaultCause.TheVariants as cause
 
 -- the bytes of a file, if there is one
 abbrev pub lent : {A : Type 0} → Option (Vec ℕ A) → Option (List ℕ)

@@ -3,8 +3,8 @@ use Rattle.std.specs.Prelude.{◌≡◌, ℕ, List, [], ◌∷◌, Option, Resul
 use Rattle.std.specs.Io.KnownBytes.{Keeps}
 use Rattle.acpi_text.specs.declared.writing.RunFault.{RunFault}
 use Rattle.acpi_listing.specs.Commands.{Reports, RunsWords, RunsInput}
-use Rattle.acpi_listing.specs.Files.{Answers}
-use Rattle.acpi_listing.specs.declared.fault.Fault.{Fault}
+use Rattle.acpi_sources.specs.Files.{Answers}
+use Rattle.acpi_sources.specs.declared.fault.Fault.{Fault}
 
 -- a command by words where there are some, else by standard input
 abbrev pub RunsByWords : {F : Type 0} → Answers F → F → F → List (List ℕ) → Option (List ℕ) → Option (List ℕ) → Option (List ℕ) → Option (List ℕ) → Result ℕ RunFault → Type 0

@@ -4,18 +4,11 @@ use Rattle.aml_regions.specs.Bytes.{SameBytes}
 use Rattle.aml_regions.specs.Registers.{contents}
 use Rattle.aml_regions.specs.Text.{FailsToSet, TextSets}
 use Rattle.aml_regions.specs.declared.fault.RegistersFault.{RegistersFault}
-use Rattle.aml_regions.specs.declared.fault.RegistersFault.TheVariants.{NoMemory, BadRegs}
 use Rattle.aml_registers.specs.declared.registers.Registers.{Registers}
-use Rattle.acpi_listing.specs.Faults.{in_line, nowhere}
-use Rattle.acpi_listing.specs.Files.{Answers, Opens}
+use Rattle.acpi_sources.specs.Faults.{registers_fault}
+use Rattle.acpi_sources.specs.Files.{Answers, Opens}
 use Rattle.acpi_listing.specs.Steps.{Step, Quietly}
-use Rattle.acpi_listing.specs.declared.fault.Fault.{Fault}
-use Rattle.acpi_listing.specs.declared.fault.FaultCause.TheVariants as cause
-
--- why a text sets no registers: want of memory, or its first bad line
-abbrev pub registers_fault : RegistersFault → Fault
-registers_fault NoMemory = nowhere cause.NoMemory
-registers_fault (BadRegs line) = in_line cause.BadRegs line
+use Rattle.acpi_sources.specs.declared.fault.Fault.{Fault}
 
 -- the registers that a text sets, others being 0
 abbrev pub SetsRegisters : List ℕ → Result Registers Fault → Type 0

@@ -3,18 +3,11 @@ use Rattle.std.specs.Prelude.{◌≡◌, ◌⊎◌, ℕ, List, Option, Some, Non
 use Rattle.aml_signatures.specs.Signed.{kinds_told}
 use Rattle.aml_signatures.specs.Text.{FailsToSign, TextSigns}
 use Rattle.aml_signatures.specs.declared.fault.SignatureFault.{SignatureFault}
-use Rattle.aml_signatures.specs.declared.fault.SignatureFault.TheVariants.{NoMemory, BadKinds}
 use Rattle.aml_signatures.specs.declared.signatures.Signatures.{Signatures}
-use Rattle.acpi_listing.specs.Faults.{in_line, nowhere}
-use Rattle.acpi_listing.specs.Files.{Answers, Opens}
+use Rattle.acpi_sources.specs.Faults.{signatures_fault}
+use Rattle.acpi_sources.specs.Files.{Answers, Opens}
 use Rattle.acpi_listing.specs.Steps.{Step, Quietly}
-use Rattle.acpi_listing.specs.declared.fault.Fault.{Fault}
-use Rattle.acpi_listing.specs.declared.fault.FaultCause.TheVariants as cause
-
--- why a text tells no kinds: want of memory, or its first bad line
-abbrev pub signatures_fault : SignatureFault → Fault
-signatures_fault NoMemory = nowhere cause.NoMemory
-signatures_fault (BadKinds line) = in_line cause.BadKinds line
+use Rattle.acpi_sources.specs.declared.fault.Fault.{Fault}
 
 -- the kinds that a text tells
 abbrev pub TellsKinds : List ℕ → Result Signatures Fault → Type 0

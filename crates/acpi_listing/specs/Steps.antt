@@ -1,16 +1,9 @@
 -- A command is a chain of steps: each writes text, and gives a value or stops the command.
 use Rattle.std.specs.Prelude.{◌≡◌, ◌⊎◌, ℕ, List, [], ◌++◌, Option, Result, Ok, Err}
 use Rattle.std.specs.Io.KnownBytes.{Appends}
-use Rattle.acpi_listing.specs.Faults.{nowhere}
-use Rattle.acpi_listing.specs.declared.fault.Fault.{Fault}
-use Rattle.acpi_listing.specs.declared.fault.FaultCause.TheVariants as cause
-use Rattle.acpi_listing.specs.declared.fault.Stop.{Stop}
-use Rattle.acpi_listing.specs.declared.fault.Stop.TheVariants.{Fault as Faulty, Run}
-
--- a value, or a fault: want of memory, or one of these
-abbrev pub Tries : {V : Type 0} → (V → Type 0) → (Fault → Type 0) → Result V Fault → Type 0
-Tries gives faults (Ok v) = gives v
-Tries gives faults (Err f) = (f ≡ nowhere cause.NoMemory) ⊎ faults f
+use Rattle.acpi_sources.specs.declared.fault.Fault.{Fault}
+use Rattle.acpi_listing.specs.declared.stop.Stop.{Stop}
+use Rattle.acpi_listing.specs.declared.stop.Stop.TheVariants.{Fault as Faulty, Run}
 
 -- a step: a source of files, what is written, a value or what stops the command, and the source behind it
 abbrev pub Step : Type 0 → Type 0 → Type 1

@@ -4,50 +4,15 @@ ghost use Rattle.std.specs.Prelude.{◌≡◌, ◌⊎◌, ◌≤◌, IfErr, IfOk
 ghost use Rattle.std.specs.Io.Buffered.{writer_buffer, writer_contents};
 ghost use Rattle.std.specs.Io.KnownBytes.{Keeps};
 ghost use Rattle.acpi_listing.specs.Program.{RunsEither, RunsProgram};
-ghost use Rattle.acpi_listing.specs.Faults.{nowhere};
-ghost use Rattle.acpi_listing.specs.declared.fault.FaultCause.TheVariants as cause;
+ghost use Rattle.acpi_sources.specs.Faults.{nowhere};
+ghost use Rattle.acpi_sources.specs.declared.fault.FaultCause.TheVariants as cause;
 
-use crate::fault::{Fault, FaultCause};
-use crate::folder::with_folders;
-use crate::notes::{Notes, StandardError};
 use crate::program::{report, run_noted, run_words_noted};
-use crate::source::Source;
+use acpi_sources::{Fault, FaultCause, Source};
 use acpi_text::RunFault;
+use acpi_words::{Notes, StandardError};
 use std::alloc::Global;
-use std::env;
 use std::io::{BufWriter, ErrorKind, Read, Write};
-use std::rt::{Env, Files};
-
-/// The words of the command line, behind the program's name; in place of a folder among the files the
-/// tables' files in it.
-///
-/// Fault: E520 where one is no UTF-8.
-pub fn command_words<R: Env + Files + Eprint + AllocGlobal + Clone + Drop>(
-    rt: &R,
-) -> Result<Vec<String>, Fault>
-    ensures { IfErr result (λ f. (f ≡ nowhere cause.CommandLine) ⊎ (f ≡ nowhere cause.NoMemory)) }
-{
-    let mut words = Vec::new(rt.alloc());
-    match env::args(rt) {
-        Ok(all) => {
-            for word in all.skip(1) {
-                words.push(word)?;
-            }
-            Ok(with_folders(rt, words)?)
-        }
-        Err(error) => Err(fault_of_unread(error.kind())),
-    }
-}
-
-// Why the words cannot be had.
-fn fault_of_unread(kind: ErrorKind) -> Fault
-    ensures { (result ≡ nowhere cause.CommandLine) ⊎ (result ≡ nowhere cause.NoMemory) }
-{
-    match kind {
-        ErrorKind::OutOfMemory => Fault::nowhere(FaultCause::NoMemory),
-        _ => Fault::nowhere(FaultCause::CommandLine),
-    }
-}
 
 /// Runs the program by its words, without words by its standard input, and answers the status that it
 /// ends with: that of [`run_words`] or [`run`]; 1 where, and only where, a fault was told or not all was

@@ -4,12 +4,11 @@ ghost use Rattle.std.specs.Prelude.{◌≤◌, IfOk, map};
 ghost use Rattle.acpi_listing.specs.Files.{ListsFile, ListsFiles};
 ghost use Rattle.acpi_listing.specs.Steps.{Writes};
 
-use crate::any_table::read_any_table;
-use crate::fault::{Fault, Stop};
-use crate::notes::Notes;
-use crate::source::{Source, read_within_limit};
+use crate::stop::Stop;
 use crate::tell::tell_table;
+use acpi_sources::{Fault, Source, read_any_table, read_within_limit};
 use acpi_text::list_tables;
+use acpi_words::Notes;
 use std::alloc::Global;
 use std::io::Write;
 

@@ -1,16 +1,15 @@
 // The namespace of the tables that a command has read.
 
 ghost use Rattle.std.specs.Prelude.{◌≡◌, IfOk, length, map, vec_items};
-ghost use Rattle.acpi_listing.specs.Inputs.{tables_of};
+ghost use Rattle.acpi_sources.specs.Inputs.{tables_of};
 ghost use Rattle.acpi_listing.specs.Loading.{FailsToLoad, IsNamespace};
-ghost use Rattle.acpi_listing.specs.Steps.{Tries};
+ghost use Rattle.acpi_sources.specs.Faults.{Tries};
 ghost use Rattle.aml_namespace.specs.Shows.{bytes_in, shown};
 
-use crate::fault::Fault;
-use crate::inputs::{InputNames, Inputs};
-use crate::notes::Notes;
 use crate::tell::tell_load;
 use acpi_notes::Files;
+use acpi_sources::{Fault, InputNames, Inputs};
+use acpi_words::Notes;
 use aml_namespace::{Host, LoadFault, Namespace};
 use std::alloc::{AllocError, Global};
 

@@ -1,14 +1,13 @@
 // The interrupt controllers of a file.
 
 ghost use Rattle.std.specs.Prelude.{◌≡◌, option_map};
-ghost use Rattle.acpi_listing.specs.Faults.{at_byte};
+ghost use Rattle.acpi_sources.specs.Faults.{at_byte};
 ghost use Rattle.acpi_listing.specs.Madt.{OpensControllers, ReadsMadt, file_of, lent};
 
-use crate::fault::Fault;
-use crate::notes::Notes;
-use crate::source::{Source, read_within_limit};
 use crate::tell::tell_madt;
+use acpi_sources::{Fault, Source, read_within_limit};
 use acpi_tables::Madt;
+use acpi_words::Notes;
 use std::alloc::Global;
 
 /// The bytes of the file of that name; without a name there are none.

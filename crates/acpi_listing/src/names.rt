@@ -4,12 +4,11 @@ ghost use Rattle.std.specs.Prelude.{◌≤◌, IfOk};
 ghost use Rattle.acpi_listing.specs.Commands.{ListsNames};
 ghost use Rattle.acpi_listing.specs.Steps.{Writes};
 
-use crate::fault::Stop;
-use crate::inputs::{InputNames, Inputs};
 use crate::load::load;
-use crate::notes::Notes;
-use crate::source::Source;
+use crate::stop::Stop;
+use acpi_sources::{InputNames, Inputs, Source};
 use acpi_text::list_names;
+use acpi_words::Notes;
 use std::alloc::Global;
 use std::io::Write;
 

@@ -1,9 +1,9 @@
 // The object that a command asks for, and what it gives.
 
 ghost use Rattle.std.specs.Prelude.{◌≡◌, [], IfErr, IfOk, true};
-ghost use Rattle.acpi_listing.specs.Commands.{IsGivenOver, IsObjectAt, IsPrtOver};
-ghost use Rattle.acpi_listing.specs.Faults.{nowhere};
-ghost use Rattle.acpi_listing.specs.declared.fault.FaultCause.TheVariants as cause;
+ghost use Rattle.acpi_listing.specs.Commands.{IsGivenOver, IsObjectAt, IsPrtOver, link_fault};
+ghost use Rattle.acpi_sources.specs.Faults.{nowhere};
+ghost use Rattle.acpi_sources.specs.declared.fault.FaultCause.TheVariants as cause;
 ghost use Rattle.acpi_objects.specs.Gives.{gives_value};
 ghost use Rattle.acpi_routing.specs.Faults.{Answers};
 ghost use Rattle.acpi_routing.specs.Prt.{GivesPrt};
@@ -16,11 +16,11 @@ ghost use Rattle.aml_namespace.specs.Shows.{shown};
 ghost use Rattle.aml_regions.specs.Registers.{contents};
 ghost use Rattle.aml_regions.specs.Text.{TextSets};
 
-use crate::fault::{Fault, FaultCause};
-use crate::notes::Notes;
 use crate::tell::{tell_link, tell_object};
 use acpi_objects::{Given, gives_value, value_of};
 use acpi_routing::{LinkFault, Prt, prt_of};
+use acpi_sources::{Fault, FaultCause, Where};
+use acpi_words::Notes;
 use aml_contents::Names;
 use aml_namespace::Namespace;
 use aml_paths::ObjectId;
@@ -87,8 +87,10 @@ pub fn prt_over<N: Notes>(
 {
     let mut names = Names::initial(alloc, checked.namespace())?;
     let mut world = registers;
-    let prt = prt_noted(alloc, checked, id, &mut names, &mut world, notes)?;
-    Ok(prt)
+    match prt_noted(alloc, checked, id, &mut names, &mut world, notes) {
+        Ok(prt) => Ok(prt),
+        Err(fault) => Err(fault_of_link(fault)),
+    }
 }
 
 // The same over these names and this world.
@@ -112,4 +114,17 @@ fn prt_noted<W: World, N: Notes>(
         tell_link(alloc, notes, checked.namespace(), *refused);
     }
     found
+}
+
+// Why a link that a `_PRT` names has no items.
+fn fault_of_link(fault: LinkFault) -> Fault
+    ensures { result ≡ link_fault fault }
+{
+    match fault {
+        LinkFault::NoMemory => Fault::nowhere(FaultCause::NoMemory),
+        LinkFault::Refused(refused) => Fault {
+            cause: FaultCause::Resources(refused.refusal.cause),
+            at: Where::Byte(refused.refusal.at),
+        },
+    }
 }

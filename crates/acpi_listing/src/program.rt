@@ -5,21 +5,16 @@ ghost use Rattle.acpi_listing.specs.Commands.{ObeysWords, Reports, RunsWords, Ru
 ghost use Rattle.acpi_listing.specs.Steps.{Writes};
 
 use crate::eval::evaluate;
-use crate::fault::{Fault, FaultCause, Stop};
-use crate::fault_line::list_fault;
 use crate::files::list_files;
-use crate::first_line::read_first_line;
-use crate::input::read_input;
-use crate::line_notes::LineNotes;
 use crate::names::list_names_of;
-use crate::notes::{Notes, Silent};
 use crate::resources::list_resources_of;
 use crate::routing::list_routes_of;
-use crate::source::Source;
+use crate::stop::Stop;
 use crate::tell::tell_end;
 use crate::verify::verify_files;
-use crate::words::{Request, read_words};
+use acpi_sources::{Fault, FaultCause, Source, list_fault, read_input};
 use acpi_text::RunFault;
+use acpi_words::{LineNotes, Notes, Request, Silent, read_first_line, read_words, start_note};
 use std::alloc::Global;
 use std::convert::AsStr;
 use std::io::{Read, Write};
@@ -98,7 +93,7 @@ pub fn run_noted<R: Read, N: Notes, W: Write>(
             run_words_noted(alloc, words.as_slice(), &mut files, &lines, out)
         }
         Err(fault) => {
-            lines.tell_start(fault);
+            notes.tell(start_note(fault));
             report(alloc, out, fault)
         }
     }

@@ -5,10 +5,9 @@ ghost use Rattle.aml_regions.specs.Registers.{contents};
 ghost use Rattle.aml_regions.specs.Text.{TextSets};
 ghost use Rattle.acpi_listing.specs.Registers.{OpensRegisters, SetsRegisters};
 
-use crate::fault::Fault;
-use crate::notes::Notes;
-use crate::source::{Source, read_within_limit};
 use crate::tell::tell_registers;
+use acpi_sources::{Fault, Source, read_within_limit};
+use acpi_words::Notes;
 use aml_registers::Registers;
 use std::alloc::Global;
 

@@ -2,8 +2,9 @@
 
 ghost use Rattle.std.specs.Prelude.{◌≡◌, ◌≤◌, [], Ok, Some, IfOk, option_map, vec_items};
 ghost use Rattle.acpi_listing.specs.Commands.{ListsGiven, ListsItems, ListsLoaded, ListsResources, ListsTables, SpellsNoItems, octets_of};
-ghost use Rattle.acpi_listing.specs.Inputs.{tables_of};
-ghost use Rattle.acpi_listing.specs.Steps.{Tells, Tries, Writes};
+ghost use Rattle.acpi_sources.specs.Inputs.{tables_of};
+ghost use Rattle.acpi_listing.specs.Steps.{Tells, Writes};
+ghost use Rattle.acpi_sources.specs.Faults.{Tries};
 ghost use Rattle.acpi_resource_text.specs.Lines.{items_text};
 ghost use Rattle.acpi_resources.specs.Items.{items_of};
 ghost use Rattle.aml_namespace.specs.Shows.{shown};
@@ -13,19 +14,17 @@ ghost use Rattle.aml_signatures.specs.Signed.{kinds_told};
 ghost use Rattle.aml_values.specs.Views.{view};
 
 use crate::eval::tell_said;
-use crate::fault::{Fault, FaultCause, Stop};
-use crate::inputs::Inputs;
 use crate::load::load_counted;
-use crate::notes::Notes;
 use crate::objects::{find_object, given_over};
 use crate::regs::read_registers;
 use crate::signed::read_signatures;
-use crate::source::Source;
+use crate::stop::Stop;
 use crate::verify::verdicts_on;
-use crate::words::ObjectRequest;
 use acpi_objects::Given;
 use acpi_resource_text::list_resources;
 use acpi_resources::{Item, items};
+use acpi_sources::{Fault, FaultCause, Inputs, Source};
+use acpi_words::{Notes, ObjectRequest};
 use aml_namespace::Namespace;
 use aml_paths::ObjectId;
 use aml_registers::Registers;

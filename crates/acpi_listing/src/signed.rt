@@ -3,10 +3,9 @@
 ghost use Rattle.std.specs.Prelude.{option_map, vec_items};
 ghost use Rattle.acpi_listing.specs.Signatures.{OpensSignatures, TellsKinds};
 
-use crate::fault::Fault;
-use crate::notes::Notes;
-use crate::source::{Source, read_within_limit};
 use crate::tell::tell_signatures;
+use acpi_sources::{Fault, Source, read_within_limit};
+use acpi_words::Notes;
 use aml_signatures::Signatures;
 use std::alloc::Global;
 

@@ -1,17 +1,15 @@
 // What is told of a fault beside its line.
 
-use crate::arguments::bad_argument;
-use crate::fault::{Fault, FaultCause, Where};
-use crate::notes::Notes;
-use crate::words::words_error;
 use acpi_notes::{
     Files, argument_note, count_note, file_label, greatest_note, help_of, load_note, object_note,
     registers_note, signatures_note, table_note,
 };
 use acpi_resources::{Item, RouteCause};
 use acpi_routing::{LinkRefusal, entry_note, link_text, source_text};
+use acpi_sources::{Fault, FaultCause, Where};
 use acpi_tables::TableFault;
 use acpi_verdicts::explain;
+use acpi_words::{Notes, bad_argument, words_error};
 use aml_externals::is_dead_if;
 use aml_namespace::{LoadCause, LoadRefusal, Method, Namespace};
 use aml_paths::ObjectId;

@@ -2,23 +2,21 @@
 
 ghost use Rattle.std.specs.Prelude.{◌≡◌, ◌≤◌, IfErr, IfOk, option_map};
 ghost use Rattle.acpi_listing.specs.Commands.{AreVerdictsOn, VerifiesFiles, VerifiesLoaded, VerifiesTables, verdicts_status};
-ghost use Rattle.acpi_listing.specs.Faults.{nowhere};
-ghost use Rattle.acpi_listing.specs.Inputs.{tables_of};
+ghost use Rattle.acpi_sources.specs.Faults.{nowhere};
+ghost use Rattle.acpi_sources.specs.Inputs.{tables_of};
 ghost use Rattle.acpi_listing.specs.Steps.{Tells, Writes};
-ghost use Rattle.acpi_listing.specs.declared.fault.FaultCause.TheVariants as cause;
+ghost use Rattle.acpi_sources.specs.declared.fault.FaultCause.TheVariants as cause;
 ghost use Rattle.acpi_verdicts.specs.Verdicts.{verdicts_text};
 ghost use Rattle.aml_namespace.specs.Shows.{shown};
 ghost use Rattle.aml_signatures.specs.Signed.{kinds_told};
 
-use crate::fault::{Fault, Stop};
-use crate::inputs::Inputs;
 use crate::load::load_counted;
-use crate::notes::Notes;
 use crate::signed::read_signatures;
-use crate::source::Source;
+use crate::stop::Stop;
 use crate::tell::tell_refused;
-use crate::words::VerifyRequest;
+use acpi_sources::{Fault, Inputs, Source};
 use acpi_verdicts::{any_refused, list_verdicts};
+use acpi_words::{Notes, VerifyRequest};
 use aml_namespace::Namespace;
 use aml_signatures::Signatures;
 use aml_verify::{Checked, verify};

@@ -7,7 +7,8 @@ mod names;
 mod values;
 mod whole;
 
-use acpi_listing::{RunFault, run};
+use acpi_listing::run;
+use acpi_text::RunFault;
 use hex;
 use std::alloc::{AllocError, Global};
 use std::io;

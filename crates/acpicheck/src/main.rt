@@ -1,7 +1,9 @@
 //! Checks ACPI tables and evaluates their methods.
 #![tactic(auto)]
 
-use acpi_listing::{Disk, command_words, run_program};
+use acpi_listing::run_program;
+use acpi_sources::Disk;
+use acpi_words::command_words;
 use std::io;
 use std::io::BufWriter;
 use std::process::ExitCode;

@@ -1,11 +1,10 @@
 // Public calls by themselves: sources and streams that fail, and listings.
 
 use super::TABLE_1;
-use acpi_listing::{
-    Source, SourceFault, Table, list_evaluation, list_tables, read_any_table, read_input, run,
-    run_words,
-};
+use acpi_listing::{run, run_words};
+use acpi_sources::{Source, SourceFault, read_any_table, read_input};
 use acpi_tables::{TableCause, TableFault};
+use acpi_text::{Table, list_evaluation, list_tables};
 use aml_meaning::{AmlCause, AmlError, Outcome};
 use aml_namespace::{Host, Namespace};
 use aml_values::Value;

@@ -1,6 +1,6 @@
 // The line of each fault, by what is wrong and where.
 
-use acpi_listing::{Fault, FaultCause, Where, list_fault};
+use acpi_sources::{Fault, FaultCause, Where, list_fault};
 use acpi_tables::TableCause;
 use aml_namespace::LoadCause;
 use std::test::Fail;

@@ -1,7 +1,8 @@
 // The listing of as many names as there may be.
 
 use super::seal;
-use acpi_listing::{Source, SourceFault, run_words};
+use acpi_listing::run_words;
+use acpi_sources::{Source, SourceFault};
 use hex;
 use std::alloc::Global;
 use std::test::Fail;

@@ -1,6 +1,6 @@
 // Values and events as they are printed.
 
-use acpi_listing::{list_events, list_value};
+use acpi_text::{list_events, list_value};
 use aml_namespace::{Host, Namespace};
 use aml_paths::ObjectId;
 use aml_regions::{Access, Event};

@@ -2,7 +2,8 @@
 
 use super::Narrow;
 use super::calls::{LINE_1, Shelf};
-use acpi_listing::{Fault, FaultCause, run_program};
+use acpi_listing::run_program;
+use acpi_sources::{Fault, FaultCause};
 use std::alloc::{AllocError, Global};
 use std::fmt::Display;
 use std::io;

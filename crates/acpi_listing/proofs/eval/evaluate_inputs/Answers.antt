@@ -3,7 +3,7 @@ use Rattle.aml_namespace.specs.Shows.{shown}
 use Rattle.aml_regions.specs.Registers.{contents}
 use Rattle.aml_signatures.specs.Signed.{kinds_told}
 use Rattle.aml_values.specs.Views as values
-use Rattle.acpi_listing.specs.Inputs.{tables_of}
+use Rattle.acpi_sources.specs.Inputs.{tables_of}
 use Rattle.acpi_listing.specs.Loading.{interfaces_of}
 use Rattle.acpi_listing.proofs.Evaluations.{after_find, known_texts, no_method, no_tables}
 use Rattle.acpi_listing.proofs.eval.evaluate_inputs.Goals as goal

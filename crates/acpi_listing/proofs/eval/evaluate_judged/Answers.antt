@@ -1,9 +1,9 @@
 use Rattle.std.proofs.Common.{◌≡◌, ◌∙◌, ℕ, Some, Result, Ok, Err, ap, map, false, refl, subst, sym, true}
 use Rattle.acpi_listing.specs.Commands.{IsDone}
-use Rattle.acpi_listing.specs.Faults.{nowhere}
-use Rattle.acpi_listing.specs.declared.fault.FaultCause.TheVariants as cause
-use Rattle.acpi_listing.specs.declared.fault.Stop.{Stop}
-use Rattle.acpi_listing.specs.declared.fault.Stop.TheVariants.{Fault as Faulty}
+use Rattle.acpi_sources.specs.Faults.{nowhere}
+use Rattle.acpi_sources.specs.declared.fault.FaultCause.TheVariants as cause
+use Rattle.acpi_listing.specs.declared.stop.Stop.{Stop}
+use Rattle.acpi_listing.specs.declared.stop.Stop.TheVariants.{Fault as Faulty}
 use Rattle.aml_namespace.specs.Load.{Shown}
 use Rattle.aml_namespace.specs.Names.{method_at}
 use Rattle.aml_namespace.specs.Shows.{shown}

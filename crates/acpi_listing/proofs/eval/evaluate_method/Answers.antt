@@ -1,9 +1,9 @@
 use Rattle.std.proofs.Common.{◌≡◌, ℕ, Result, Ok, Err, ap, map, refl, true}
 use Rattle.acpi_listing.specs.Commands.{Takes}
-use Rattle.acpi_listing.specs.Faults.{nowhere}
-use Rattle.acpi_listing.specs.declared.fault.FaultCause.TheVariants as cause
-use Rattle.acpi_listing.specs.declared.fault.Stop.{Stop}
-use Rattle.acpi_listing.specs.declared.fault.Stop.TheVariants.{Fault as Faulty}
+use Rattle.acpi_sources.specs.Faults.{nowhere}
+use Rattle.acpi_sources.specs.declared.fault.FaultCause.TheVariants as cause
+use Rattle.acpi_listing.specs.declared.stop.Stop.{Stop}
+use Rattle.acpi_listing.specs.declared.stop.Stop.TheVariants.{Fault as Faulty}
 use Rattle.aml_bodies.proofs.Methods.{are_statements}
 use Rattle.aml_namespace.specs.Shows.{shown}
 use Rattle.aml_operators.specs.Tree.{view}

@@ -1,4 +1,4 @@
-use Rattle.std.proofs.Common.{◌≡◌, [], ◌∷◌}
+use Rattle.std.proofs.Common.{◌≡◌, [], ◌∷◌, Err}
 use Rattle.aml_machine.specs.Views.{names_of}
 use Rattle.aml_namespace.specs.Shows.{shown}
 use Rattle.aml_regions.specs.EventViews.{events_of}
@@ -13,23 +13,10 @@ use Rattle.acpi_listing.proofs.objects.prt_over.Goals as goal
 pub prt_noted-requires-clause-names : goal.prt_noted-requires-clause-names
 prt_noted-requires-clause-names g c = rw c.namespace.ensures at c.in_ok-names.ensures.belong
 
-pub returns-in_err-prt : goal.returns-in_err-prt
-returns-in_err-prt g c =
-    let first = c.args.registers in
-    let left = c.prt_noted.new.world in
-    let checked = c.args.checked.now in
-    let held : names_of c.in_ok-names.names ≡ names_first (shown checked.namespace.now) =
-    rw (c.in_ok-names.ensures.contents, c.in_ok-names.ensures.kinds, c.namespace.ensures) in
-    let had : start_of first.text.items ∷ events_of first.file.events.items ≡ start_of first.text.items ∷ [] = rw c.requires.fresh in
-    link_told (contents first.file) checked c.args.id.0 (names_of c.in_ok-names.names) (names_of c.prt_noted.new.names)
-    (start_of first.text.items ∷ events_of first.file.events.items) (start_of first.text.items ∷ [])
-    (start_of left.text.items ∷ events_of left.file.events.items) _ c.from_residual-in_err-prt.result c.from_residual-in_err-prt.ensures.1
-    c.in_err-prt.ensures held had (answered first left c.requires.set)
-
 -- the log began with the text, so these are the registers that it sets
-pub returns : goal.returns
-returns g c =
-    let gave = rw (c.in_ok-names.ensures.contents, c.in_ok-names.ensures.kinds, c.requires.fresh, c.namespace.ensures) at c.in_ok-prt.ensures in
+pub returns-in-Ok : goal.returns-in-Ok
+returns-in-Ok g c =
+    let gave = rw (c.in_ok-names.ensures.contents, c.in_ok-names.ensures.kinds, c.requires.fresh, c.namespace.ensures) at c.in-Ok.ensures in
     let first = c.args.registers in
     let left = c.prt_noted.new.world in
     record {
@@ -39,3 +26,16 @@ returns g c =
       gives = gave;
       answered = answered first left c.requires.set;
     }
+
+pub returns : goal.returns
+returns g c =
+    let first = c.args.registers in
+    let left = c.prt_noted.new.world in
+    let checked = c.args.checked.now in
+    let held : names_of c.in_ok-names.names ≡ names_first (shown checked.namespace.now) =
+    rw (c.in_ok-names.ensures.contents, c.in_ok-names.ensures.kinds, c.namespace.ensures) in
+    let had : start_of first.text.items ∷ events_of first.file.events.items ≡ start_of first.text.items ∷ [] = rw c.requires.fresh in
+    link_told (contents first.file) checked c.args.id.0 (names_of c.in_ok-names.names) (names_of c.prt_noted.new.names)
+    (start_of first.text.items ∷ events_of first.file.events.items) (start_of first.text.items ∷ [])
+    (start_of left.text.items ∷ events_of left.file.events.items) c.in-Err.fault (Err c.fault_of_link.result) c.fault_of_link.ensures
+    c.in-Err.ensures held had (answered first left c.requires.set)

@@ -1,7 +1,7 @@
 use Rattle.std.proofs.Common.{Bor, List, ℕ, map, subst}
 use Rattle.acpi_listing.specs.Files.{ListsFiles}
 use Rattle.acpi_listing.specs.Steps.{Writes}
-use Rattle.acpi_listing.specs.declared.words.Request.TheVariants.{Tables, Names, Verify, Eval, Resources, Routing}
+use Rattle.acpi_words.specs.declared.words.Request.TheVariants.{Tables, Names, Verify, Eval, Resources, Routing}
 use Rattle.acpi_listing.proofs.Telling.{obeyed}
 use Rattle.acpi_listing.proofs.program.obey.Goals as goal
 

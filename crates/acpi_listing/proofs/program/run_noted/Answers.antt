@@ -1,6 +1,6 @@
 use Rattle.std.proofs.Common.{Bor, List, ℕ, inl, inr, map, subst, vec_items}
 use Rattle.acpi_listing.specs.Commands.{Reports, RunsWords}
-use Rattle.acpi_listing.specs.Input.{hex_answers}
+use Rattle.acpi_sources.specs.Input.{hex_answers}
 use Rattle.acpi_listing.proofs.program.run_noted.Goals as goal
 
 pub returns-in-Ok-read_first_line-clause-printed : goal.returns-in-Ok-read_first_line-clause-printed

@@ -1,7 +1,7 @@
 use Rattle.aml_namespace.specs.Shows.{shown}
 use Rattle.aml_regions.specs.Registers.{contents}
 use Rattle.aml_signatures.specs.Signed.{kinds_told}
-use Rattle.acpi_listing.specs.Inputs.{tables_of}
+use Rattle.acpi_sources.specs.Inputs.{tables_of}
 use Rattle.acpi_listing.proofs.GivenListed.{load_listed, no_listed_load}
 use Rattle.acpi_listing.proofs.resources.list_inputs.Goals as goal
 

@@ -2,7 +2,7 @@ use Rattle.std.proofs.Common.{option_map}
 use Rattle.aml_namespace.specs.Shows.{shown}
 use Rattle.aml_regions.specs.Registers.{contents}
 use Rattle.aml_signatures.specs.Signed.{kinds_told}
-use Rattle.acpi_listing.specs.Inputs.{tables_of}
+use Rattle.acpi_sources.specs.Inputs.{tables_of}
 use Rattle.acpi_listing.proofs.RoutesListed.{load_routed, no_load}
 use Rattle.acpi_listing.proofs.routing.list_inputs.Goals as goal
 

@@ -3,7 +3,7 @@ use Rattle.acpi_tables.specs.declared.madt.Madt.{Madt}
 use Rattle.aml_regions.specs.Registers.{contents}
 use Rattle.aml_signatures.specs.Signed.{kinds_told}
 use Rattle.acpi_listing.specs.Commands.{RoutesTables}
-use Rattle.acpi_listing.specs.Inputs.{tables_of}
+use Rattle.acpi_sources.specs.Inputs.{tables_of}
 use Rattle.acpi_listing.specs.Madt.{lent}
 use Rattle.acpi_listing.specs.Steps.{Writes}
 use Rattle.acpi_listing.proofs.RoutesListed.{inputs_routed, no_controllers, no_inputs, no_kinds, no_madt, no_registers}

@@ -1,6 +1,6 @@
 use Rattle.aml_namespace.specs.Shows.{shown}
 use Rattle.aml_signatures.specs.Signed.{kinds_told}
-use Rattle.acpi_listing.specs.Inputs.{tables_of}
+use Rattle.acpi_sources.specs.Inputs.{tables_of}
 use Rattle.acpi_listing.proofs.Judgements.{load_judged, no_judged_load}
 use Rattle.acpi_listing.proofs.verify.verify_inputs.Goals as goal
 

@@ -1,0 +1,5 @@
+pub mod Faults
+pub mod Reading
+pub mod Files
+pub mod Input
+pub mod Inputs

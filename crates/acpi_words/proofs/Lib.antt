@@ -1,0 +1,4 @@
+pub mod Elements
+pub mod Asked
+pub mod LineWords
+pub mod FoldersNamed

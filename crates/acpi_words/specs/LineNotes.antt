@@ -1,0 +1,10 @@
+-- What is told where standard input has no words.
+use Rattle.std.specs.Prelude.{ℕ, List, codes}
+use Rattle.acpi_sources.specs.declared.fault.FaultCause.{FaultCause}
+use Rattle.acpi_sources.specs.declared.fault.FaultCause.TheVariants as cause
+
+-- why there are none, by what is wrong with the first line
+abbrev pub start_note : FaultCause → List ℕ
+start_note cause.CommandLine = codes "the first line of standard input is no UTF-8"
+start_note cause.NoMemory = codes "no memory for the words"
+start_note _ = codes "standard input has no first line, from which words are taken where there are none"

@@ -1,0 +1,177 @@
+// Folders among the files of a command.
+
+ghost use Rattle.std.specs.Prelude.{◌≡◌, ◌++◌, ◌<◌, ℕ, List, IfOk, false, length, map, string_bytes, vec_items};
+ghost use Rattle.acpi_words.specs.Folders.{HasFolders, StandsFor, takes_value};
+
+use std::alloc::AllocError;
+use std::fs;
+use std::rt::Files;
+
+/// Which files of a folder a command takes.
+#[derive(Clone, Copy, Debug, PartialEq, Eq)]
+enum Wanted {
+    /// Of each table.
+    Tables,
+    /// Of the DSDT, and of SSDTs.
+    Definitions,
+}
+
+/// A file of a folder, in the order in which it is taken.
+#[derive(Debug, Drop, PartialEq, Eq, PartialOrd, Ord)]
+struct Taken {
+    /// 0 of the DSDT, 1 of an SSDT, 2 of any other table.
+    rank: u8,
+    /// Of SSDT10 it is 10; 0 where there is none.
+    number: u64,
+    path: String,
+}
+
+/// The words, with the tables' files in place of each folder among the files of the command: for `tables`
+/// all of them, for any other command the DSDT and behind it the SSDTs in the order of their numbers. A
+/// folder without such files stays as it is.
+pub fn with_folders<R: Files + Eprint + AllocGlobal + Clone + Drop>(
+    rt: &R,
+    words: Vec<String>,
+) -> Result<Vec<String>, AllocError>
+    ensures { IfOk result (λ all. HasFolders false (map string_bytes (vec_items words))
+        (map string_bytes (vec_items all))) }
+{
+    let wanted = match words.first() {
+        Some(command) if command.as_str() == "tables" => Wanted::Tables,
+        _ => Wanted::Definitions,
+    };
+    let mut all = Vec::new(rt.alloc());
+    let mut may_be_file = false;
+    for word in words {
+        let next_may_be = !takes_value(word.as_str());
+        push_word(rt, &mut all, word, may_be_file, wanted)?;
+        may_be_file = next_may_be;
+    }
+    Ok(all)
+}
+
+/// Whether a word is an option whose next word is a value.
+fn takes_value(word: &str) -> bool
+    ensures { result ≡ takes_value word.now }
+{
+    word == "--method"
+        || word == "--plain"
+        || word == "--args"
+        || word == "--regs"
+        || word == "--kinds"
+        || word == "--osi"
+        || word == "--object"
+        || word == "--madt"
+}
+
+/// Adds a word, or the files of the folder that it names, where it may name one.
+fn push_word<R: Files + Eprint + AllocGlobal + Clone + Drop>(
+    rt: &R,
+    words: &mut Vec<String>,
+    word: String,
+    may_be_file: bool,
+    wanted: Wanted,
+) -> Result<(), AllocError>
+    ensures { let before = map string_bytes words.old.items in
+        let after = map string_bytes words.new.items in
+        IfOk result (λ _. (added : List (List ℕ)) × (after ≡ before ++ added)
+        × StandsFor may_be_file (string_bytes word) added) }
+{
+    if !may_be_file || word.starts_with('-') || !is_folder(rt, word.as_str()) {
+        words.push(word)?;
+        return Ok(());
+    }
+    push_files(rt, words, word, wanted)
+}
+
+fn is_folder<R: Files>(rt: &R, name: &str) -> bool {
+    match fs::metadata(rt, name) {
+        Ok(metadata) => metadata.is_dir(),
+        Err(_) => false,
+    }
+}
+
+fn is_file<R: Files>(rt: &R, name: &str) -> bool {
+    match fs::metadata(rt, name) {
+        Ok(metadata) => metadata.is_file(),
+        Err(_) => false,
+    }
+}
+
+/// Adds the files of a folder that are taken; where none is, the folder's name.
+fn push_files<R: Files + Eprint + AllocGlobal + Clone + Drop>(
+    rt: &R,
+    words: &mut Vec<String>,
+    folder: String,
+    wanted: Wanted,
+) -> Result<(), AllocError>
+    ensures { let before = map string_bytes words.old.items in
+        let after = map string_bytes words.new.items in
+        IfOk result (λ _. (added : List (List ℕ)) × (after ≡ before ++ added) × (0 < length added)) }
+{
+    let mut taken = files_in(rt, folder.as_str(), wanted)?;
+    if taken.is_empty() {
+        words.push(folder)?;
+        return Ok(());
+    }
+    taken.sort()?;
+    for file in taken {
+        words.push(file.path)?;
+    }
+    Ok(())
+}
+
+/// The files of a folder that are taken, in any order. Of what is no table's file standard error tells.
+fn files_in<R: Files + Eprint + AllocGlobal + Clone + Drop>(
+    rt: &R,
+    folder: &str,
+    wanted: Wanted,
+) -> Result<Vec<Taken>, AllocError> {
+    let mut taken = Vec::new(rt.alloc());
+    let Ok(entries) = fs::read_dir(rt, folder) else {
+        return Ok(taken);
+    };
+    for entry in entries {
+        let Ok(entry) = entry else {
+            break;
+        };
+        let path = String::from_str(rt.alloc(), entry.path().as_str())?;
+        match rank_of(entry.file_name()) {
+            Some((rank, number)) if is_file(rt, path.as_str()) => {
+                if rank < 2 || wanted == Wanted::Tables {
+                    taken.push(Taken { rank, number, path })?;
+                }
+            }
+            _ => {
+                let _ = rt.eprint("acpicheck: ");
+                let _ = rt.eprint(path.as_str());
+                let _ = rt.eprintln(": no table's file, passed over");
+            }
+        }
+    }
+    Ok(taken)
+}
+
+/// How a file of that name is ranked, with its number: a table's signature, and behind it digits, an
+/// ending such as `.dat`, or both, in either case. None where it is no name of a table's file.
+fn rank_of(name: &str) -> Option<(u8, u64)> {
+    let (stem, _) = name.split_once('.').unwrap_or((name, ""));
+    let (signature, digits) = stem.split_at_checked(4)?;
+    if !signature
+        .bytes()
+        .all(|b| b.is_ascii_alphanumeric() || b == b'_' || b == b'!')
+    {
+        return None;
+    }
+    let number = match digits {
+        "" => 0,
+        _ => digits.parse::<u64>().ok()?,
+    };
+    if signature.eq_ignore_ascii_case("dsdt") {
+        return Some((0, number));
+    }
+    if signature.eq_ignore_ascii_case("ssdt") {
+        return Some((1, number));
+    }
+    Some((2, number))
+}
