@@ -42,12 +42,12 @@ pub fn bad_argument(alloc: Global, text: &str) -> Option<(usize, &str)>
 {
     let mut number = 0;
     let mut rest = text;
-    while let Some((element, more)) = rest.split_once(',') {
+    while let Some((element, behind)) = rest.split_once(',') {
         if !is_argument(alloc, element)? {
             return Some((number, element));
         }
         number += 1;
-        rest = more;
+        rest = behind;
     }
     if is_argument(alloc, rest)? {
         return None;

@@ -10,12 +10,12 @@ use Rattle.acpi_words.proofs.arguments.bad_argument.Goals as goal
 -- the element is no value
 pub returns-then-not-branch : goal.returns-then-not-branch
 returns-then-not-branch c =
-    let parts = split_parts 44 c.loop-element.rest.now (Some (c.in-Some.element, c.in-Some.more)) c.in-Some.ensures.cases (omega arith) in
+    let parts = split_parts 44 c.loop-element.rest.now (Some (c.in-Some.element, c.in-Some.behind)) c.in-Some.ensures.cases (omega arith) in
     let (done, before, count, values) = c.loop-element.invariant.2 in
     let element = c.in-Some.element.now in
-    let left = ap elements parts.0 ∙ elements_more element c.in-Some.more.now parts.1 in (
+    let left = ap elements parts.0 ∙ elements_more element c.in-Some.behind.now parts.1 in (
       done,
-      elements c.in-Some.more.now,
+      elements c.in-Some.behind.now,
       before ∙ ap (λ l. done ++ l) left,
       count,
       values,
@@ -25,17 +25,17 @@ returns-then-not-branch c =
 -- the element is a value
 pub loop-element-preserved : goal.loop-element-preserved
 loop-element-preserved c =
-    let parts = split_parts 44 c.loop-element.rest.now (Some (c.in-Some.element, c.in-Some.more)) c.in-Some.ensures.cases (omega arith) in
+    let parts = split_parts 44 c.loop-element.rest.now (Some (c.in-Some.element, c.in-Some.behind)) c.in-Some.ensures.cases (omega arith) in
     let (done, before, count, values) = c.loop-element.invariant.2 in
     let within = c.loop-element.invariant.1 in
     let element = c.in-Some.element.now in
-    let left = ap elements parts.0 ∙ elements_more element c.in-Some.more.now parts.1 in
-    let long = ap length parts.0 ∙ length-append element (44 ∷ c.in-Some.more.now) in (
+    let left = ap elements parts.0 ∙ elements_more element c.in-Some.behind.now parts.1 in
+    let long = ap length parts.0 ∙ length-append element (44 ∷ c.in-Some.behind.now) in (
       search rules,
       omega (arith, long, within),
       (
         done ++ (element ∷ []),
-        before ∙ ap (λ l. done ++ l) left ∙ sym (append_assoc done (element ∷ []) (elements c.in-Some.more.now)),
+        before ∙ ap (λ l. done ++ l) left ∙ sym (append_assoc done (element ∷ []) (elements c.in-Some.behind.now)),
         length_push done element ∙ ap (λ n. n + 1) count,
         All-push IsAnyArgument done element values
             (MatchBool-at_true (IsAnyArgument element) (IsNoArgument element) c.if-not-branch.false c.in_ok-is_argument.ensures),
