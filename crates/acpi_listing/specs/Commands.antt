@@ -48,7 +48,7 @@ use Rattle.acpi_text.specs.Lists.{Lists}
 use Rattle.acpi_text.specs.Names.{names_text}
 use Rattle.aml_path_text.specs.Paths.{path_of}
 use Rattle.acpi_text.specs.Outcome.{outcome_line, refusal_line}
-use Rattle.acpi_sources.specs.Faults.{at_byte, fault_line, nowhere, Tries}
+use Rattle.acpi_sources.specs.Faults.{at_byte, fault_line, fault_status, nowhere, resource_fault, route_fault, Tries}
 use Rattle.acpi_sources.specs.Files.{Answers}
 use Rattle.acpi_listing.specs.Files.{ListsFiles}
 use Rattle.acpi_listing.specs.Inputs.{ReadsInputs}
