@@ -1,3 +1,4 @@
 pub mod Judgings
 pub mod Calls
 pub mod JudgingsThere
+pub mod HandedOn

@@ -1,3 +1,4 @@
 pub mod Judgings
 pub mod Gathered
 pub mod Laws
+pub mod HandedOn

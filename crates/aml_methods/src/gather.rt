@@ -7,7 +7,9 @@ ghost use Rattle.aml_namespace.specs.Shows.{shown};
 ghost use Rattle.aml_operators.specs.Tree.{view, views};
 ghost use Rattle.aml_meaning.specs.Actions as actions;
 ghost use Rattle.aml_methods.specs.Gathered.{AreCalls, if_any, IsCalledFrom, links_of};
+ghost use Rattle.aml_methods.specs.HandedOn.{AreTrees};
 
+use crate::trees::Trees;
 use aml_meaning::{Action, action_of};
 use aml_namespace::{Link, Namespace};
 use aml_operators::Term;
@@ -110,15 +112,18 @@ fn push(callees: &mut Vec<ObjectId>, callee: Option<ObjectId>) -> Result<(), NoM
 }
 
 /// The methods that a method's body calls; none where it cannot be read. The shapes of its literals of
-/// data are added where the table does not have them.
+/// data are added where the table does not have them, and its statements are handed on where there is room.
 fn callees_of(
     alloc: Global,
     namespace: &Namespace<'_>,
     id: ObjectId,
     shapes: &mut ShapeTable,
+    trees: &mut Trees,
 ) -> Result<Vec<ObjectId>, NoMemory>
-    ensures { IfOk result (λ callees.
+    ensures called { IfOk result (λ callees.
         IsCalledFrom (shown namespace.now) id.0 (numbers callees.items)) }
+    ensures trees { AreTrees (shown namespace.now) trees.old.bodies.items →
+        AreTrees (shown namespace.now) trees.new.bodies.items }
 {
     let mut callees = Vec::new(alloc);
     if namespace.method(id).is_none() {
@@ -138,12 +143,13 @@ fn callees_of(
         owns: &owns,
     };
     gather_all(alloc, place, false, &body, shapes, &mut callees)?;
+    trees.keep(id, body);
     Ok(callees)
 }
 
 /// Each method with those that it calls, in order of definition; none where its body cannot be read. The
-/// shapes of their literals of data are added where the table does not have them. Each body is read, and
-/// dropped.
+/// shapes of their literals of data are added where the table does not have them. Each body is read, and its
+/// statements are handed on where there is room for them.
 ///
 /// # Errors
 ///
@@ -152,13 +158,16 @@ pub fn gathered(
     alloc: Global,
     namespace: &Namespace<'_>,
     shapes: &mut ShapeTable,
+    trees: &mut Trees,
 ) -> Result<Vec<(ObjectId, Vec<ObjectId>)>, NoMemory>
-    ensures { IfOk result (λ pairs. AreCalls (shown namespace.now) pairs.items) }
+    ensures calls { IfOk result (λ pairs. AreCalls (shown namespace.now) pairs.items) }
+    ensures trees { AreTrees (shown namespace.now) trees.old.bodies.items →
+        AreTrees (shown namespace.now) trees.new.bodies.items }
 {
     let mut pairs = Vec::new(alloc);
     let methods = namespace.methods();
     for id in methods {
-        let callees = callees_of(alloc, namespace, *id, shapes)?;
+        let callees = callees_of(alloc, namespace, *id, shapes, trees)?;
         keep(&mut pairs, *id, callees)?;
     }
     Ok(pairs)

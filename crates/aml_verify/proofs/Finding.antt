@@ -36,39 +36,39 @@ nothing : (one : Kept) → None ≡ Some one → ⊥
 nothing one e = absurd cc
 
 -- no method has the number
-pub none_found : (v : Verifier) (k : ℕ) → method_at (shown v.namespace.now) k ≡ None → FoundOf v k (record { verdict = None; kept = None; integers = false })
+pub none_found : (v : Verifier) (k : ℕ) → method_at (shown v.read.namespace.now) k ≡ None → FoundOf v k (record { verdict = None; kept = None; integers = false })
 none_found v k none = record {
   said = none;
   kept = λ one e. absurd (nothing one e);
   read = λ m there. absurd (let bad : None ≡ Some m = sym none ∙ there in cc);
-  marks = nothing_marked (shown v.namespace.now) (kinds_told v.signatures.now) k v.integers.items none;
+  marks = nothing_marked (shown v.read.namespace.now) (kinds_told v.signatures.now) k v.integers.items none;
 }
 
 -- its body cannot be read
-pub unread_found : (v : Verifier) (k : ℕ) (m : Method) (f : TreeFault) (r : Refusal) → method_at (shown v.namespace.now) k ≡ Some m → f ≡ unread.Refused r → ReadsBodyOf (shown v.namespace.now) k m (Err f)
+pub unread_found : (v : Verifier) (k : ℕ) (m : Method) (f : TreeFault) (r : Refusal) → method_at (shown v.read.namespace.now) k ≡ Some m → f ≡ unread.Refused r → ReadsBodyOf (shown v.read.namespace.now) k m (Err f)
     → FoundOf v k (record { verdict = Some (verdict.Unreadable m.table r); kept = None; integers = false })
 unread_found v k m f r there is reads = record {
   said = (m, there, says);
   kept = λ one e. absurd (nothing one e);
   read = λ n is_n ts body. absurd (no_tree n (same_Some m n (sym there ∙ is_n)) ts body);
-  marks = refused_marked (shown v.namespace.now) (kinds_told v.signatures.now) (numbered v.shapes) k m (verdict.Unreadable m.table r) v.integers.items there refl says;
+  marks = refused_marked (shown v.read.namespace.now) (kinds_told v.signatures.now) (numbered v.shapes) k m (verdict.Unreadable m.table r) v.integers.items there refl says;
 }
   where
     says : SaysNext v k m (verdict.Unreadable m.table r)
-    says = unread_said (shown v.namespace.now) (kinds_told v.signatures.now) (numbered v.shapes) k m f r is reads
+    says = unread_said (shown v.read.namespace.now) (kinds_told v.signatures.now) (numbered v.shapes) k m f r is reads
 
-    refused : ReadsBodyOf (shown v.namespace.now) k m (Err (unread.Refused r))
-    refused = subst (λ x. ReadsBodyOf (shown v.namespace.now) k m (Err x)) is reads
+    refused : ReadsBodyOf (shown v.read.namespace.now) k m (Err (unread.Refused r))
+    refused = subst (λ x. ReadsBodyOf (shown v.read.namespace.now) k m (Err x)) is reads
 
-    no_tree : (n : Method) → m ≡ n → (ts : List Tree) → IsBodyOf (shown v.namespace.now) k n ts → ⊥
-    no_tree n same ts body = refused.1 ts (subst (λ (x : Method). IsBodyOf (shown v.namespace.now) k x ts) (sym same) body)
+    no_tree : (n : Method) → m ≡ n → (ts : List Tree) → IsBodyOf (shown v.read.namespace.now) k n ts → ⊥
+    no_tree n same ts body = refused.1 ts (subst (λ (x : Method). IsBodyOf (shown v.read.namespace.now) k x ts) (sym same) body)
 
 -- it was read and judged, and what it means is kept
-pub read_found : (v : Verifier) (k : ℕ) (m : Method) (said : Verdict) (kept : Kept) (mark : Bool) → method_at (shown v.namespace.now) k ≡ Some m → SaysNext v k m said → IsKept (shown v.namespace.now) k kept → MarksNext v k mark
+pub read_found : (v : Verifier) (k : ℕ) (m : Method) (said : Verdict) (kept : Kept) (mark : Bool) → method_at (shown v.read.namespace.now) k ≡ Some m → SaysNext v k m said → IsKept (shown v.read.namespace.now) k kept → MarksNext v k mark
     → FoundOf v k (record { verdict = Some said; kept = Some kept; integers = mark })
 read_found v k m said kept mark there says is marks = record {
   said = (m, there, says);
-  kept = λ one e. subst (λ (x : Kept). IsKept (shown v.namespace.now) k x) (same_Some kept one e) is;
+  kept = λ one e. subst (λ (x : Kept). IsKept (shown v.read.namespace.now) k x) (same_Some kept one e) is;
   read = λ n is_n ts body. refl;
   marks = marks;
 }

@@ -6,6 +6,7 @@ pub mod Judged
 pub mod Beginning
 pub mod Keeping
 pub mod Linked
+pub mod Handed
 pub mod Marking
 pub mod Accepting
 pub mod Finding

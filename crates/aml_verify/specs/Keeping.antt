@@ -1,6 +1,7 @@
 -- What a verifier keeps of the bodies that it read, and which methods it marks as those that evaluate integers alone.
-use Rattle.std.specs.Prelude.{◌≡◌, ℕ, Bool, List, length, take, Option, Some, None, IsSome, true}
+use Rattle.std.specs.Prelude.{◌≡◌, ℕ, Bool, List, length, map, take, Option, Some, None, IsSome, true, Vec}
 use Rattle.std.specs.Option.{option_map}
+use Rattle.std.specs.declared.alloc.Global.{Global}
 use Rattle.aml_bodies.specs.Kept.{AreKept, kept_at}
 use Rattle.aml_bodies.specs.declared.keeping.Kept.{Kept}
 use Rattle.aml_bounds.specs.Chains.{is_among}
@@ -9,12 +10,15 @@ use Rattle.aml_integers.specs.Laws.{AreDecided}
 use Rattle.aml_judged.specs.Integers.{AreIntegerOnly}
 use Rattle.aml_judged.specs.Judged.{Accepted}
 use Rattle.aml_judged.specs.Verdicts.{AreAccepted, Judging}
+use Rattle.aml_meaning.specs.Methods.{AreBodies}
+use Rattle.aml_methods.specs.HandedOn.{tree_at}
 use Rattle.aml_methods.specs.Judgings.{IsJudging, Told}
 use Rattle.aml_namespace.specs.declared.link.Link.{Link}
 use Rattle.aml_namespace.specs.declared.object.Method.{Method}
 use Rattle.aml_namespace.specs.Load.{Shown}
 use Rattle.aml_namespace.specs.Names.{IsBodyOf, body_bytes, link_with_owns, method_at}
-use Rattle.aml_operators.specs.Tree.{Tree}
+use Rattle.aml_operators.specs.declared.term.Term.{Term}
+use Rattle.aml_operators.specs.Tree.{Tree, Trees, trees, view}
 use Rattle.aml_own_names.specs.OwnNames.{own_names}
 
 -- of the bodies of those methods that are judged each that has a tree is kept
@@ -49,3 +53,8 @@ body_of ns k (Some a) = option_map (place_of ns) (method_at ns k)
 abbrev pub Means : Shown → ℕ → ℕ → Link → Type 0
 Means ns k at l = (m : Method) → method_at ns k ≡ Some m → (ts : List Tree) → IsBodyOf ns k m ts →
     l ≡ link_with_owns ns.entries k (body_bytes ns m) (own_names (body_bytes ns m) ts) at
+
+-- the statements that are handed on under a number are those of its method's body, by whatever tells what these are
+pub record AreHanded (ns : Shown) (trees_on : List (Option (Vec Term Global))) : Type 0 where
+  pub are : (k : ℕ) (body : Vec Term Global) → tree_at trees_on k ≡ Some body → (m : Method) → method_at ns k ≡ Some m →
+      (bodies : ℕ → Option Trees) → AreBodies ns bodies → bodies k ≡ Some (trees (map view body.items))

@@ -82,14 +82,14 @@ abbrev pub order_of : Verifier → List ℕ
 order_of v = numbers v.order.items
 
 pub record IsVerifier (v : Verifier) : Type 0 where
-  pub at_work : IsAtWork (shown v.namespace.now) (kinds_told v.signatures.now) v.shapes v.shared.items
+  pub at_work : IsAtWork (shown v.read.namespace.now) (kinds_told v.signatures.now) v.shapes v.shared.items
       v.heights v.components (order_of v) v.judged v.verdicts.items
-  pub keeps : KeepsSoFar (shown v.namespace.now) (order_of v) v.judged v.kept.items
-  pub marks : MarksSoFar (shown v.namespace.now) (kinds_told v.signatures.now) (order_of v) v.judged v.integers.items
+  pub keeps : KeepsSoFar (shown v.read.namespace.now) (order_of v) v.judged v.kept.items
+  pub marks : MarksSoFar (shown v.read.namespace.now) (kinds_told v.signatures.now) (order_of v) v.judged v.integers.items
 
 -- another verifier of the same methods in the same order, whose arguments are of the same kinds
 pub record IsOfSame (old new : Verifier) : Type 0 where
-  pub namespace : new.namespace ≡ old.namespace
+  pub namespace : new.read.namespace ≡ old.read.namespace
   pub signatures : new.signatures ≡ old.signatures
   pub order : new.order ≡ old.order
 
@@ -104,30 +104,30 @@ pub record IsRead (ns : Shown) (k : ℕ) (m : Method) (ts : List Tree) : Type 0 
 -- what is said of the next method is right
 abbrev pub SaysNext : Verifier → ℕ → Method → Verdict → Type 0
 SaysNext v k m said =
-    (all : Judging) → IsJudging (shown v.namespace.now) (kinds_told v.signatures.now) all →
+    (all : Judging) → IsJudging (shown v.read.namespace.now) (kinds_told v.signatures.now) all →
     (known : ℕ → Option judged.Accepted) → AreAccepted all known →
-    Says (shown v.namespace.now) (numbered v.shapes) k m said
+    Says (shown v.read.namespace.now) (numbered v.shapes) k m said
     (verdict_by all known k (all.methods.callee k))
 
 -- what is said of a number that is next: what is right of its method, or nothing where no method has it
 abbrev pub SaidOf : Verifier → ℕ → Option Verdict → Type 0
 SaidOf v k (Some said) =
-    (m : Method) × (method_at (shown v.namespace.now) k ≡ Some m) × SaysNext v k m said
-SaidOf v k None = method_at (shown v.namespace.now) k ≡ None
+    (m : Method) × (method_at (shown v.read.namespace.now) k ≡ Some m) × SaysNext v k m said
+SaidOf v k None = method_at (shown v.read.namespace.now) k ≡ None
 
 -- whether the next method is marked as is decided of it, by the marks so far
 abbrev pub MarksNext : Verifier → ℕ → Bool → Type 0
 MarksNext v k mark =
-    (all : Judging) → IsJudging (shown v.namespace.now) (kinds_told v.signatures.now) all →
+    (all : Judging) → IsJudging (shown v.read.namespace.now) (kinds_told v.signatures.now) all →
     (known : ℕ → Option judged.Accepted) → AreAccepted all known →
     mark ≡ decided all known (marked v.integers.items) k
 
 -- what is found of a number that is next: what is said of its method, what is kept of its body, where that has a tree, and its mark
 pub record FoundOf (v : Verifier) (k : ℕ) (f : Found) : Type 0 where
   pub said : SaidOf v k f.verdict
-  pub kept : (one : Kept) → f.kept ≡ Some one → IsKept (shown v.namespace.now) k one
-  pub read : (m : Method) → method_at (shown v.namespace.now) k ≡ Some m →
-      (ts : List Tree) → IsBodyOf (shown v.namespace.now) k m ts → IsSome f.kept
+  pub kept : (one : Kept) → f.kept ≡ Some one → IsKept (shown v.read.namespace.now) k one
+  pub read : (m : Method) → method_at (shown v.read.namespace.now) k ≡ Some m →
+      (ts : List Tree) → IsBodyOf (shown v.read.namespace.now) k m ts → IsSome f.kept
   pub marks : MarksNext v k f.integers
 
 -- with what is said of one more, where there is room for it

@@ -14,13 +14,14 @@ ghost use Rattle.aml_verify.specs.Verdicts.{FoundOf, IsChecked, IsOfSame, IsRead
 use crate::body::Body;
 use crate::checked::Checked;
 use crate::named::Named;
+use crate::read::Read;
 use crate::verdict::Verdict;
 use aml_bodies::{Kept, keep_with};
 use aml_bounds::call_order;
 use aml_components::{Components, Heights};
 use aml_integers::integers_alone;
 use aml_known::{Known, Stop};
-use aml_methods::{arguments, gathered};
+use aml_methods::{Trees, arguments, gathered};
 use aml_namespace::{Method, Namespace};
 use aml_operators::Term;
 use aml_own_names::OwnNames;
@@ -35,7 +36,7 @@ use std::alloc::Global;
 #[derive(Drop)]
 pub struct Verifier<'a, 's> {
     alloc: Global,
-    namespace: &'a Namespace<'a>,
+    read: Read<'a>,
     signatures: &'s Signatures,
     shapes: ShapeTable,
     /// The kinds of data names, by the numbers of their objects.
@@ -146,7 +147,8 @@ fn mark(marks: &mut Vec<bool>, id: ObjectId, one: bool)
 }
 
 impl<'a, 's> Verifier<'a, 's> {
-    /// A verifier of the methods of a namespace, whose arguments are of the kinds that signatures tell. Each body is read once for what it calls.
+    /// A verifier of the methods of a namespace, whose arguments are of the kinds that signatures tell. Each body is read
+    /// once for what it calls, and the statements of the first are handed on to `step`.
     ///
     /// # Errors
     ///
@@ -157,23 +159,25 @@ impl<'a, 's> Verifier<'a, 's> {
         signatures: &'s Signatures,
     ) -> Result<Verifier<'a, 's>, NoMemory>
         ensures verifier { IfOk result IsVerifier }
-        ensures namespace { IfOk result (λ v. v.namespace.now ≡ namespace.now) }
+        ensures namespace { IfOk result (λ v. v.read.namespace.now ≡ namespace.now) }
         ensures signatures { IfOk result (λ v. v.signatures.now ≡ signatures.now) }
     {
+        let count = namespace.len();
         let mut shapes = ShapeTable::new(alloc);
-        let pairs = gathered(alloc, namespace, &mut shapes)?;
+        let mut trees = Trees::new(alloc, count)?;
+        let pairs = gathered(alloc, namespace, &mut shapes, &mut trees)?;
+        let read = Read { namespace, trees };
         let shared = shared_kinds(alloc, namespace, &mut shapes)?;
         let (ordered, others) = call_order(alloc, &pairs)?;
         let heights = Heights::of(alloc, &pairs, &ordered, &others)?;
         let components = Components::of(alloc, &pairs)?;
         let order = behind(ordered, &others)?;
-        let count = namespace.len();
         let verdicts = no_verdicts(alloc, count)?;
         let kept = none_kept(alloc, count)?;
         let integers = no_marks(alloc, count)?;
         Ok(Verifier {
             alloc,
-            namespace,
+            read,
             signatures,
             shapes,
             shared,
@@ -195,8 +199,8 @@ impl<'a, 's> Verifier<'a, 's> {
         self.order.len().saturating_sub(self.judged)
     }
 
-    /// Judges the next method, and answers it; None where all are judged. Its body is read, judged and
-    /// dropped; what its names mean is kept.
+    /// Judges the next method, and answers it; None where all are judged. Its body is read and
+    /// dropped, unless its statements are handed on; what its names mean is kept.
     ///
     /// # Errors
     ///
@@ -224,7 +228,7 @@ impl<'a, 's> Verifier<'a, 's> {
         requires next { slice_get (numbers self.now.order.items) self.now.judged ≡ Some id.0 }
         ensures { IfOk result (λ f. IsVerifier self.now → FoundOf self.now id.0 f) }
     {
-        match self.namespace.method(id) {
+        match self.read.namespace.method(id) {
             Some(method) => self.judge(id, method),
             None => Ok(Found {
                 verdict: None,
@@ -234,13 +238,16 @@ impl<'a, 's> Verifier<'a, 's> {
         }
     }
 
-    /// What is found of the next method.
+    /// What is found of the next method. Its body is read where its statements are not handed on.
     fn judge(&self, id: ObjectId, method: Method) -> Result<Found, NoMemory>
         requires next { slice_get (numbers self.now.order.items) self.now.judged ≡ Some id.0 }
-        requires there { method_at (shown self.now.namespace.now) id.0 ≡ Some method }
+        requires there { method_at (shown self.now.read.namespace.now) id.0 ≡ Some method }
         ensures { IfOk result (λ f. IsVerifier self.now → FoundOf self.now id.0 f) }
     {
-        match self.namespace.tree(self.alloc, id) {
+        if let Some(body) = self.read.trees.find(id) {
+            return self.judge_body(id, method, body);
+        }
+        match self.read.namespace.tree(self.alloc, id) {
             Ok(body) => self.judge_body(id, method, &body),
             Err(TreeFault::Refused(refusal)) => Ok(Found {
                 verdict: Some(Verdict::Unreadable {
@@ -257,13 +264,13 @@ impl<'a, 's> Verifier<'a, 's> {
     /// The same where its statements are read.
     fn judge_body(&self, id: ObjectId, method: Method, body: &[Term]) -> Result<Found, NoMemory>
         requires next { slice_get (numbers self.now.order.items) self.now.judged ≡ Some id.0 }
-        requires there { method_at (shown self.now.namespace.now) id.0 ≡ Some method }
-        requires read { IsRead (shown self.now.namespace.now) id.0 method (map view body.now) }
+        requires there { method_at (shown self.now.read.namespace.now) id.0 ≡ Some method }
+        requires read { IsRead (shown self.now.read.namespace.now) id.0 method (map view body.now) }
         ensures { IfOk result (λ f. IsVerifier self.now → FoundOf self.now id.0 f) }
     {
-        let bytes = self.namespace.body_bytes(id);
+        let bytes = self.read.namespace.body_bytes(id);
         let owns = OwnNames::of(self.alloc, bytes, body)?;
-        let kept = keep_with(self.alloc, self.namespace, id, owns, body)?;
+        let kept = keep_with(self.alloc, self.read.namespace, id, owns, body)?;
         let (verdict, integers) = self.judge_with(id, method, &kept, body)?;
         Ok(Found {
             verdict: Some(verdict),
@@ -282,16 +289,17 @@ impl<'a, 's> Verifier<'a, 's> {
         body: &[Term],
     ) -> Result<(Verdict, bool), NoMemory>
         requires next { slice_get (numbers self.now.order.items) self.now.judged ≡ Some id.0 }
-        requires there { method_at (shown self.now.namespace.now) id.0 ≡ Some method }
-        requires read { IsRead (shown self.now.namespace.now) id.0 method (map view body.now) }
-        requires kept { IsKept (shown self.now.namespace.now) id.0 kept.now }
+        requires there { method_at (shown self.now.read.namespace.now) id.0 ≡ Some method }
+        requires read { IsRead (shown self.now.read.namespace.now) id.0 method (map view body.now) }
+        requires kept { IsKept (shown self.now.read.namespace.now) id.0 kept.now }
         ensures said { IfOk result (λ f. IsVerifier self.now → SaysNext self.now id.0 method f.0) }
         ensures marks { IfOk result (λ f. IsVerifier self.now → MarksNext self.now id.0 f.1) }
     {
-        let bytes = self.namespace.body_bytes(id);
-        let args = arguments(self.alloc, self.namespace, self.signatures, id, method.args)?;
+        let namespace = self.read.namespace;
+        let bytes = namespace.body_bytes(id);
+        let args = arguments(self.alloc, namespace, self.signatures, id, method.args)?;
         let names = Named {
-            namespace: self.namespace,
+            namespace,
             method: id,
             bytes,
             owns: &kept.owns,
@@ -325,10 +333,10 @@ impl<'a, 's> Verifier<'a, 's> {
         ensures checked { let v = self.entry in
             IsVerifier v → left v ≡ 0 →
             IsChecked (kinds_told v.signatures.now) result }
-        ensures namespace { result.namespace.now ≡ self.entry.namespace.now }
+        ensures namespace { result.namespace.now ≡ self.entry.read.namespace.now }
     {
         Checked {
-            namespace: self.namespace,
+            namespace: self.read.namespace,
             shapes: self.shapes,
             shared: self.shared,
             verdicts: self.verdicts,

@@ -12,13 +12,13 @@ use Rattle.aml_paths.specs.declared.scope.ObjectId.{ObjectId}
 use Rattle.aml_methods.proofs.Calls.{read_calls, refused_calls, there}
 use Rattle.aml_methods.proofs.gather.callees_of.Goals as goal
 
-pub returns-in-Err-Refused : goal.returns-in-Err-Refused
-returns-in-Err-Refused c = λ told all J.
+pub returns-in-Err-Refused-clause-called : goal.returns-in-Err-Refused-clause-called
+returns-in-Err-Refused-clause-called c = λ told all J.
     ap numbers c.new-callees.ensures.items
     ∙ refused_calls (shown c.args.namespace.now) c.args.id.0 c.in-Err-Refused.field-0 c.in-Err-Refused.field-0-0 c.in-Err-Refused.field-0-is c.in-Err-Refused.ensures told all J
 
-pub returns : goal.returns
-returns c =
+pub returns-clause-called : goal.returns-clause-called
+returns-clause-called c =
     let ns = shown c.args.namespace.now in
     let k = c.args.id.0 in
     let known : IsSome (method_at ns k) = search rules in
@@ -32,3 +32,6 @@ returns c =
     (c.in_ok-gather_all.ensures
     ∙ ap (λ (ks : List ObjectId). numbers ks ++ calls_of links (views c.deref-2.result.now)) c.new-callees.ensures.items
     ∙ ap (λ (ts : List Term). calls_of links (views ts)) c.deref-2.ensures.value)
+
+pub returns-clause-trees : goal.returns-clause-trees
+returns-clause-trees c = λ are. c.keep.ensures (shown c.args.namespace.now) are (record { are = λ m is. c.in-Ok.ensures m is })

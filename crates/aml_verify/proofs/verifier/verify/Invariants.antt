@@ -6,6 +6,6 @@ use Rattle.aml_verify.proofs.verifier.verify.Given as goal
 abbrev pub invariant-loop : goal.invariant-loop
 invariant-loop l =
     IsVerifier l.verifier
-    × (l.verifier.namespace.now ≡ l.namespace)
+    × (l.verifier.read.namespace.now ≡ l.namespace)
     × (l.verifier.signatures.now ≡ l.signatures)
     × (left l.verifier + l.counter ≤ l.end)

@@ -12,9 +12,9 @@ returns-clause-checked c = λ is none. let v = c.args.self in
     let done = all_done v none in
     record {
       right = is.at_work.right;
-      all = all_judged (shown v.namespace.now) (kinds_told v.signatures.now) v.shapes v.shared.items v.heights v.components (numbers v.order.items) v.judged v.verdicts.items is.at_work done;
+      all = all_judged (shown v.read.namespace.now) (kinds_told v.signatures.now) v.shapes v.shared.items v.heights v.components (numbers v.order.items) v.judged v.verdicts.items is.at_work done;
       only = is.at_work.only;
       kept = is.keeps.are;
-      all_kept = all_kept (shown v.namespace.now) (numbers v.order.items) v.judged v.kept.items is.keeps done is.at_work.ordered;
-      integers = all_marked (shown v.namespace.now) (kinds_told v.signatures.now) (numbers v.order.items) v.judged v.integers.items is.marks done is.at_work.ordered;
+      all_kept = all_kept (shown v.read.namespace.now) (numbers v.order.items) v.judged v.kept.items is.keeps done is.at_work.ordered;
+      integers = all_marked (shown v.read.namespace.now) (kinds_told v.signatures.now) (numbers v.order.items) v.judged v.integers.items is.marks done is.at_work.ordered;
     }

@@ -14,8 +14,8 @@ use Rattle.aml_verify.proofs.verifier.Verifier.judge_with.Goals as goal
 pub returns-in-Ok-clause-said : goal.returns-in-Ok-clause-said
 returns-in-Ok-clause-said c = λ is. let v = c.args.self.now in
     let bytes_are = c.body_bytes-bytes.ensures c.args.method c.requires.there in
-    accepted_said (shown v.namespace.now) (kinds_told v.signatures.now) v.shapes c.deref.result.now v.heights v.components (numbers v.order.items) v.judged c.deref-2.result.now
-    (still_at_work (shown v.namespace.now) (kinds_told v.signatures.now) v.shapes v.shared.items c.deref.result.now v.heights v.components (numbers v.order.items) v.judged v.verdicts.items c.deref-2.result.now c.deref.ensures.value c.deref-2.ensures.value is.at_work)
+    accepted_said (shown v.read.namespace.now) (kinds_told v.signatures.now) v.shapes c.deref.result.now v.heights v.components (numbers v.order.items) v.judged c.deref-2.result.now
+    (still_at_work (shown v.read.namespace.now) (kinds_told v.signatures.now) v.shapes v.shared.items c.deref.result.now v.heights v.components (numbers v.order.items) v.judged v.verdicts.items c.deref-2.result.now c.deref.ensures.value c.deref-2.ensures.value is.at_work)
     c.args.id.0 c.args.method c.requires.next c.requires.there c.args.body.now c.requires.read
     c.body_bytes-bytes.result.now bytes_are (owns_seen c.args.kept.now.owns) (c.requires.kept.owns c.args.method c.requires.there (map view c.args.body.now) c.requires.read.is ∙ ap (λ (b : List ℕ). own_names b (map view c.args.body.now)) (sym bytes_are))
     c.new.result.items c.new.ensures.items c.new-2.result.items c.new-2.ensures.items
@@ -24,8 +24,8 @@ returns-in-Ok-clause-said c = λ is. let v = c.args.self.now in
 pub returns-in-Err-Refused-clause-said : goal.returns-in-Err-Refused-clause-said
 returns-in-Err-Refused-clause-said c = λ is. let v = c.args.self.now in
     let bytes_are = c.body_bytes-bytes.ensures c.args.method c.requires.there in
-    refused_said (shown v.namespace.now) (kinds_told v.signatures.now) v.shapes c.deref.result.now v.heights v.components (numbers v.order.items) v.judged c.deref-2.result.now
-    (still_at_work (shown v.namespace.now) (kinds_told v.signatures.now) v.shapes v.shared.items c.deref.result.now v.heights v.components (numbers v.order.items) v.judged v.verdicts.items c.deref-2.result.now c.deref.ensures.value c.deref-2.ensures.value is.at_work)
+    refused_said (shown v.read.namespace.now) (kinds_told v.signatures.now) v.shapes c.deref.result.now v.heights v.components (numbers v.order.items) v.judged c.deref-2.result.now
+    (still_at_work (shown v.read.namespace.now) (kinds_told v.signatures.now) v.shapes v.shared.items c.deref.result.now v.heights v.components (numbers v.order.items) v.judged v.verdicts.items c.deref-2.result.now c.deref.ensures.value c.deref-2.ensures.value is.at_work)
     c.args.id.0 c.args.method c.requires.next c.requires.there c.args.body.now c.requires.read
     c.body_bytes-bytes.result.now bytes_are (owns_seen c.args.kept.now.owns) (c.requires.kept.owns c.args.method c.requires.there (map view c.args.body.now) c.requires.read.is ∙ ap (λ (b : List ℕ). own_names b (map view c.args.body.now)) (sym bytes_are))
     c.new.result.items c.new.ensures.items c.new-2.result.items c.new-2.ensures.items
@@ -34,8 +34,8 @@ returns-in-Err-Refused-clause-said c = λ is. let v = c.args.self.now in
 pub returns-in-Ok-clause-marks : goal.returns-in-Ok-clause-marks
 returns-in-Ok-clause-marks c = λ is. let v = c.args.self.now in
     let bytes_are = c.body_bytes-bytes.ensures c.args.method c.requires.there in
-    let works = still_at_work (shown v.namespace.now) (kinds_told v.signatures.now) v.shapes v.shared.items c.deref.result.now v.heights v.components (numbers v.order.items) v.judged v.verdicts.items c.deref-2.result.now c.deref.ensures.value c.deref-2.ensures.value is.at_work in
-    accepted_marked (shown v.namespace.now) (kinds_told v.signatures.now) v.shapes c.deref.result.now v.heights v.components (numbers v.order.items) v.judged c.deref-2.result.now works
+    let works = still_at_work (shown v.read.namespace.now) (kinds_told v.signatures.now) v.shapes v.shared.items c.deref.result.now v.heights v.components (numbers v.order.items) v.judged v.verdicts.items c.deref-2.result.now c.deref.ensures.value c.deref-2.ensures.value is.at_work in
+    accepted_marked (shown v.read.namespace.now) (kinds_told v.signatures.now) v.shapes c.deref.result.now v.heights v.components (numbers v.order.items) v.judged c.deref-2.result.now works
     c.args.id.0 c.args.method c.requires.next c.requires.there c.args.body.now c.requires.read
     c.body_bytes-bytes.result.now bytes_are (owns_seen c.args.kept.now.owns) (c.requires.kept.owns c.args.method c.requires.there (map view c.args.body.now) c.requires.read.is ∙ ap (λ (b : List ℕ). own_names b (map view c.args.body.now)) (sym bytes_are))
     c.new.result.items c.new.ensures.items c.new-2.result.items c.new-2.ensures.items
@@ -44,7 +44,7 @@ returns-in-Ok-clause-marks c = λ is. let v = c.args.self.now in
 
 pub returns-in-Err-Refused-clause-marks : goal.returns-in-Err-Refused-clause-marks
 returns-in-Err-Refused-clause-marks c = λ is. let v = c.args.self.now in
-    refused_marked (shown v.namespace.now) (kinds_told v.signatures.now) (numbered v.shapes) c.args.id.0 c.args.method (verdict.Refused c.in-Err-Refused.refusal) v.integers.items c.requires.there refl (returns-in-Err-Refused-clause-said c is)
+    refused_marked (shown v.read.namespace.now) (kinds_told v.signatures.now) (numbered v.shapes) c.args.id.0 c.args.method (verdict.Refused c.in-Err-Refused.refusal) v.integers.items c.requires.there refl (returns-in-Err-Refused-clause-said c is)
 
 pub invariant_of-names : goal.invariant_of-names
 invariant_of-names c =

@@ -13,9 +13,9 @@ returns-clause-verifier c = λ is. let v = c.args.self.now in
     let at = number_there v.order.items v.judged c.index-id.result.now lt c.index-id.ensures in
     let found = c.in_ok-found.ensures is in
     record {
-      at_work = rw c.keep.ensures (one_step (shown v.namespace.now) (kinds_told v.signatures.now) v.shapes v.shared.items v.heights v.components (numbers v.order.items) v.judged v.verdicts.items is.at_work c.index-id.result.now.0 c.in_ok-found.found.verdict at found.said);
-      keeps = rw c.keep_one.ensures (one_kept (shown v.namespace.now) (numbers v.order.items) v.judged v.kept.items is.keeps c.index-id.result.now.0 at c.in_ok-found.found.kept found.kept found.read);
-      marks = rw c.mark.ensures (one_marked (shown v.namespace.now) (kinds_told v.signatures.now) (numbers v.order.items) v.judged v.integers.items is.marks (λ all j. (is.at_work.calls all j).ready) c.index-id.result.now.0 at c.in_ok-found.found.integers found.marks);
+      at_work = rw c.keep.ensures (one_step (shown v.read.namespace.now) (kinds_told v.signatures.now) v.shapes v.shared.items v.heights v.components (numbers v.order.items) v.judged v.verdicts.items is.at_work c.index-id.result.now.0 c.in_ok-found.found.verdict at found.said);
+      keeps = rw c.keep_one.ensures (one_kept (shown v.read.namespace.now) (numbers v.order.items) v.judged v.kept.items is.keeps c.index-id.result.now.0 at c.in_ok-found.found.kept found.kept found.read);
+      marks = rw c.mark.ensures (one_marked (shown v.read.namespace.now) (kinds_told v.signatures.now) (numbers v.order.items) v.judged v.integers.items is.marks (λ all j. (is.at_work.calls all j).ready) c.index-id.result.now.0 at c.in_ok-found.found.integers found.marks);
     }
 
 pub returns-clause-next : goal.returns-clause-next
