@@ -14,6 +14,7 @@ the time at the second size.
 | nested_ifs | a method of nests of 62 Ifs, each block of which sets all eight locals |
 | ifs_of_packages | a method of Ifs in a row, each of which stores a package of 16 elements into a local that already holds one |
 | loops | a method of loops of 16 turns in a row, whose bodies set all locals |
+| devices | devices as firmware has them: each with eight methods that read and write fields, test, add and call a method of the root |
 | packages | data names that hold packages of 64 elements, of which no two are alike, and a method that looks at each |
 """
 import os
@@ -53,6 +54,23 @@ def a_loop():
     return b"\x70\x00\x67" + tables.package(b"\xa2", b"\x95\x67\x0a\x10" + step)
 
 
+def a_method_of_a_device(number):
+    fields = [b"FLD" + b"%X" % (number + i & 15) for i in range(3)]
+    first = b"\x70" + fields[0] + b"\x60" + tables.package(b"\xa0", b"\x93\x60\x01\xa4\x00")
+    second = b"\x72\x60\x0a\x05\x61\x70\x61CNT0" + tables.package(b"\xa0", b"\x94\x61\x0a\x10\x70\x0a\x10" + fields[1])
+    third = tables.package(b"\xa1", b"\x70HLPR\x61\x61") + b"\x7b" + fields[2] + b"\x0a\x7f\x62\xa4HLPR\x62"
+    return tables.method(b"M%03X" % number, first + second + third)
+
+
+def devices(count):
+    region = b"\x5b\x80REGN\x01\x0b\x00\x10\x0a\x20"
+    field = tables.package(b"\x5b\x81", b"REGN\x01" + b"".join(b"FLD%X\x08" % i for i in range(16)))
+    helper = tables.package(b"\x14", b"HLPR\x01\xa4\x7b\x68\x0a\x0f\x00")
+    each = [tables.package(b"\x5b\x82", b"D%03X" % i + b"\x08_HID\x0c\x41\xd0\x0c\x01" + b"".join(a_method_of_a_device(k) for k in range(8)))
+            for i in range(count)]
+    return region + field + b"\x08CNT0\x00" + helper + b"".join(each)
+
+
 def definitions(kind, count):
     names = tables.other_names(count) if kind in ("methods", "chain", "star", "packages") else []
     if kind == "methods":
@@ -69,6 +87,8 @@ def definitions(kind, count):
         sets = b"".join(b"\x70" + a_package(0, 16) + bytes([0x60 + i]) for i in range(8))
         ifs = b"".join(tables.package(b"\xa0", b"\x68\x70" + a_package(i % 7, 16) + bytes([0x60 + i % 8])) for i in range(count))
         return taking_one(sets + ifs)
+    if kind == "devices":
+        return devices(count)
     if kind == "loops":
         return tables.method(b"MAIN", a_loop() * count + b"\xa4\x01")
     held = b"".join(b"\x08" + name + a_package(i, 64) for i, name in enumerate(names))
@@ -77,7 +97,7 @@ def definitions(kind, count):
 
 
 SIZES = {"methods": 25_000, "chain": 25_000, "star": 25_000, "statements": 500_000, "nested_ifs": 250,
-         "ifs_of_packages": 10_000, "loops": 20_000, "packages": 8_000}
+         "ifs_of_packages": 10_000, "loops": 20_000, "packages": 8_000, "devices": 58}
 
 
 def timed(program, path):
