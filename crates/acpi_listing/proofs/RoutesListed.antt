@@ -1,5 +1,5 @@
 -- Laws of listing where the interrupts of a _PRT go.
-use Rattle.std.proofs.Common.{◌≡◌, ◌⊎◌, ℕ, List, [], ◌++◌, Option, Some, None, Result, Ok, Err, ap, inl, inr, refl, subst}
+use Rattle.std.proofs.Common.{◌≡◌, ℕ, List, [], ◌++◌, Option, Result, Ok, Err, ap, inl, inr, refl, subst}
 use Rattle.std.specs.Prelude.{IsErrAnd}
 use Rattle.std.proofs.KnownBytes.{Appends-nil}
 use Rattle.acpi_resource_text.specs.Lines.{routes_text}

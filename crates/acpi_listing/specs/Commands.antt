@@ -1,5 +1,5 @@
 -- What the commands do, from words that were read to what is printed.
-use Rattle.std.specs.Prelude.{◌≡◌, ◌==◌, ◌⊎◌, ◌&&◌, ℕ, List, [], ◌∷◌, ◌++◌, Bool, true, false, IsTrue, nat_le, option_and_then, length, if◌then◌else◌, Option, Some, None, Result, Ok, Err, IfOk, map, option_map, vec_items}
+use Rattle.std.specs.Prelude.{◌≡◌, ◌⊎◌, ◌&&◌, ℕ, List, [], ◌∷◌, ◌++◌, Bool, true, false, IsTrue, nat_le, option_and_then, length, if◌then◌else◌, Option, Some, None, Result, Ok, Err, IfOk, map, option_map, vec_items}
 use Rattle.std.specs.Io.KnownBytes.{Appends}
 use Rattle.aml_namespace.specs.declared.width.Width.{Width}
 use Rattle.aml_operators.specs.Tree.{Tree, Trees, trees}
@@ -11,7 +11,7 @@ use Rattle.aml_namespace.specs.Load.{Shown}
 use Rattle.aml_namespace.specs.Names.{method_at, IsBodyOf, ReadsBodyOf}
 use Rattle.aml_paths.specs.Printed.{path_text}
 use Rattle.aml_namespace.specs.PrintedObjects.{printed_object}
-use Rattle.aml_values.specs.Values.{Value, Int, Buf, Str, Pkg}
+use Rattle.aml_values.specs.Values.{Value, Int, Buf, Pkg}
 use Rattle.aml_contents.specs.FirstKinds.{greatest_of}
 use Rattle.aml_contents.specs.FirstContents.{first_contents, first_kinds}
 use Rattle.aml_meaning.specs.State as State

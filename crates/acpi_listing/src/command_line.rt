@@ -1,11 +1,9 @@
 // The program: its words, its streams and its status.
 
-ghost use Rattle.std.specs.Prelude.{◌≡◌, ◌⊎◌, ◌≤◌, IfErr, IfOk};
+ghost use Rattle.std.specs.Prelude.{◌≤◌, IfOk};
 ghost use Rattle.std.specs.Io.Buffered.{writer_buffer, writer_contents};
 ghost use Rattle.std.specs.Io.KnownBytes.{Keeps};
 ghost use Rattle.acpi_listing.specs.Program.{RunsEither, RunsProgram};
-ghost use Rattle.acpi_sources.specs.Faults.{nowhere};
-ghost use Rattle.acpi_sources.specs.declared.fault.FaultCause.TheVariants as cause;
 
 use crate::program::{report, run_noted, run_words_noted};
 use acpi_sources::{Fault, FaultCause, Source};

@@ -1,7 +1,6 @@
 // The interrupt controllers of a file.
 
-ghost use Rattle.std.specs.Prelude.{◌≡◌, option_map};
-ghost use Rattle.acpi_sources.specs.Faults.{at_byte};
+ghost use Rattle.std.specs.Prelude.{option_map};
 ghost use Rattle.acpi_listing.specs.Madt.{OpensControllers, ReadsMadt, file_of, lent};
 
 use crate::tell::tell_madt;

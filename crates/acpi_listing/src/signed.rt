@@ -1,6 +1,6 @@
 // The kinds of methods' arguments, as a file tells them.
 
-ghost use Rattle.std.specs.Prelude.{option_map, vec_items};
+ghost use Rattle.std.specs.Prelude.{option_map};
 ghost use Rattle.acpi_listing.specs.Signatures.{OpensSignatures, TellsKinds};
 
 use crate::tell::tell_signatures;

@@ -1,7 +1,6 @@
 -- Laws of folders among words.
-use Rattle.std.proofs.Common.{◌≡◌, ℕ, List, [], ◌∷◌, ◌++◌, Bool, append_assoc, append-nil, ap, ◌∙◌, refl, sym, subst, map}
+use Rattle.std.proofs.Common.{◌≡◌, ℕ, List, [], ◌∷◌, ◌++◌, Bool, append_assoc, append-nil, ap, ◌∙◌, refl, sym}
 use Rattle.std.specs.Prelude.{not}
-use Rattle.std.proofs.lemmas.List.{map-append}
 use Rattle.acpi_words.specs.Folders.{HasFolders, StandsFor, takes_value}
 
 -- whether the word behind these may be a file's

@@ -1,4 +1,4 @@
-use Rattle.std.proofs.Common.{◌≡◌, ℕ, List, Bor, Some, None, inl, map, option_map}
+use Rattle.std.proofs.Common.{ℕ, List, Bor, Some, None, inl, map, option_map}
 use Rattle.aml_namespace.specs.Shows.{shown}
 use Rattle.aml_regions.specs.Registers.{contents}
 use Rattle.aml_signatures.specs.Signed.{kinds_told}

@@ -1,6 +1,3 @@
-use Rattle.std.proofs.Common.{subst}
-use Rattle.acpi_resource_text.specs.Lines.{items_text}
-use Rattle.acpi_listing.specs.Steps.{Tells, Writes}
 use Rattle.acpi_listing.proofs.GivenListed.{items_listed, no_spelling}
 use Rattle.acpi_listing.proofs.resources.list_spelled.Goals as goal
 
