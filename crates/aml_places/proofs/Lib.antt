@@ -6,3 +6,4 @@ pub mod Spots
 pub mod Targets
 pub mod Lists
 pub mod Blocks
+pub mod Names

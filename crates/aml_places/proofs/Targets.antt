@@ -1,18 +1,17 @@
 -- What stands where a target or an Else may.
-use Rattle.std.proofs.Common.{◌≡◌, ℕ, ◌+◌, ◌<◌, ◌≤◌, List, [], ◌∷◌, length, Option, Some, None, Result, Ok, Err, IsOk, refl, sym, ap, ◌∙◌, subst, arith}
-use Rattle.std.specs.Prelude.{IfOk, slice_get, ◌==◌, Bool, true, false}
+use Rattle.std.proofs.Common.{◌≡◌, ℕ, ◌+◌, ◌≤◌, List, [], ◌∷◌, length, Option, Some, None, Result, Ok, Err, IsOk, refl, sym, ap, ◌∙◌, arith}
+use Rattle.std.specs.Prelude.{IfOk, slice_get, true, false}
 use Rattle.std.proofs.lemmas.Bool.Decides.{nat_tests}
 use Rattle.std.proofs.lemmas.Option.{slice_get_within}
 use Rattle.aml_lex.specs.NameStrings.{NameString}
 use Rattle.aml_lex.specs.Reading.{name_string_at, package_end_at}
 use Rattle.aml_lex.specs.declared.fault.LexFault.{LexFault}
-use Rattle.aml_operators.specs.declared.op.Op.{Op}
 use Rattle.aml_operators.specs.declared.op.Op.TheVariants as op
 use Rattle.aml_operators.specs.declared.op.Op.TheVariants.{Zero}
 use Rattle.aml_operators.specs.declared.row.Spot.TheVariants as spot
-use Rattle.aml_operators.specs.Tree.{Tree, Node, none, trees}
+use Rattle.aml_operators.specs.Tree.{Tree, Node, none}
 use Rattle.aml_tree.specs.OperatorAt.{op_there}
-use Rattle.aml_places.specs.Forms.{Alone, ElseThere, Form, LiesSome}
+use Rattle.aml_places.specs.Forms.{ElseThere, Form, LiesSome}
 use Rattle.aml_places.specs.Lies.{LieElse, LiesTarget, is_else_byte}
 use Rattle.aml_places.proofs.Inversion.{alone, end_read, no_target}
 

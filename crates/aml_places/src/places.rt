@@ -1,6 +1,7 @@
 // Where parts end that are known to stand at a place (ACPI 6.5, 20.2.2 to 20.2.5).
 
 ghost use Rattle.std.specs.Prelude.{◌≡◌, ◌≤◌, ◌<◌, IfOk, IsOk, Ok, length, slice_get};
+ghost use Rattle.aml_lex.specs.Characters.{is_lead_name_char};
 ghost use Rattle.aml_lex.specs.Reading.{name_string_at, package_end_at};
 ghost use Rattle.aml_operators.specs.declared.row.Spot.TheVariants as spot;
 ghost use Rattle.aml_places.specs.Forms.{ElseThere, Form, LiesSome};
@@ -24,8 +25,31 @@ pub fn package(bytes: &[u8], at: usize) -> (usize, usize)
     }
 }
 
-/// The place behind the name at a place.
+/// Whether a byte leads a segment of a name (ACPI 6.5, 20.2.2).
+pub fn leads(byte: u8) -> bool
+    ensures { result ≡ is_lead_name_char byte }
+{
+    matches!(byte, b'A'..=b'Z' | b'_')
+}
+
+/// The place behind the name at a place. One that begins with a segment has no other, so that nothing
+/// behind its first byte is looked at.
 pub fn name_end(bytes: &[u8], at: usize) -> usize
+    requires { IsOk (name_string_at bytes.now at) }
+    ensures is { IfOk (name_string_at bytes.now at) (λ r. r.1 ≡ result) }
+    ensures ahead { at < result }
+    ensures within { result ≤ length bytes.now }
+{
+    if let Some(byte) = bytes.get(at) {
+        if leads(*byte) {
+            return at + 4;
+        }
+    }
+    read_end(bytes, at)
+}
+
+/// The same, by the whole name.
+fn read_end(bytes: &[u8], at: usize) -> usize
     requires { IsOk (name_string_at bytes.now at) }
     ensures is { IfOk (name_string_at bytes.now at) (λ r. r.1 ≡ result) }
     ensures ahead { at < result }

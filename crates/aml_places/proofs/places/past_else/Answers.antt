@@ -1,4 +1,4 @@
-use Rattle.std.proofs.Common.{◌≡◌, ◌+◌, ◌≤◌, length, sym, ◌∙◌, arith}
+use Rattle.std.proofs.Common.{sym, ◌∙◌, arith}
 use Rattle.aml_places.proofs.Targets.{else_fits, else_package, else_stops, no_else_stops}
 use Rattle.aml_places.proofs.places.past_else.Goals as goal
 

@@ -1,7 +1,5 @@
-use Rattle.std.proofs.Common.{◌≡◌, ◌+◌, ◌<◌, ◌≤◌, length, Option, Some, None, sym, ◌∙◌, ap, arith}
-use Rattle.aml_operators.specs.declared.op.Op.TheVariants.{Zero}
+use Rattle.std.proofs.Common.{Some, sym, ◌∙◌, ap}
 use Rattle.aml_operators.specs.declared.row.Spot.TheVariants as spot
-use Rattle.aml_tree.specs.OperatorAt.{op_there}
 use Rattle.aml_places.proofs.Inversion.{form_in}
 use Rattle.aml_places.proofs.Targets.{name_form, name_there, null_form}
 use Rattle.aml_places.proofs.places.target_at.Goals as goal
