@@ -4,4 +4,5 @@ pub mod Keeps
 pub mod Methods
 pub mod Past
 pub mod Quiet
+pub mod Slots
 pub mod Tells

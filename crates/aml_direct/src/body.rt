@@ -18,7 +18,7 @@ use aml_acts::halt::outcome_of;
 use aml_acts::scene::Scene;
 use aml_bodies::Kept;
 use aml_contents::Names;
-use aml_machine::{Frame, Machine};
+use aml_machine::{Arguments, Frame, Machine};
 use aml_meaning::Outcome;
 use aml_namespace::Namespace;
 use aml_paths::{NoMemory, ObjectId};
@@ -76,7 +76,7 @@ pub fn evaluate_direct<W: World>(
         depth: MOST_WITHIN,
     };
     let mut machine = Machine {
-        frame: Frame::new(alloc, 0, arguments),
+        frame: Frame::new(alloc, 0, Arguments::of(arguments)),
         names: mem::replace(names, Names::new(alloc)),
         steps: fuel,
     };

@@ -10,6 +10,6 @@ use Rattle.aml_verify.specs.declared.verdict.Verdict.TheVariants as verdict
 
 pub taken : (said : Option Verdict) (values : List Value) → takes said values ≡ true → (a : Accepted) × (said ≡ Some (verdict.Accepted a)) × (bound_of said ≡ Some a.bound)
 taken (Some (verdict.Accepted a)) values is = (a, refl, refl)
-taken (Some (verdict.Refused r)) values is = absurd cc
+taken (Some (verdict.Refused r finding)) values is = absurd cc
 taken (Some (verdict.Unreadable table r)) values is = absurd cc
 taken None values is = absurd cc

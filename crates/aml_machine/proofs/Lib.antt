@@ -1,3 +1,4 @@
+pub mod Filling
 pub mod Firsts
 pub mod Grown
 pub mod InPlace

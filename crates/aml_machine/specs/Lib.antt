@@ -1,3 +1,4 @@
+pub mod Arguments
 pub mod Mutexes
 pub mod Views
 pub mod Elements

@@ -1,10 +1,12 @@
 // What a running method has of its own.
 
-ghost use Rattle.std.specs.Prelude.{◌≡◌, map};
-ghost use Rattle.aml_values.specs.Views.{view};
+ghost use Rattle.std.specs.Prelude.{◌≡◌, List};
+ghost use Rattle.aml_values.specs.Values as values;
 ghost use Rattle.aml_meaning.specs.State.{entered};
+ghost use Rattle.aml_machine.specs.Arguments.{AreSlotsOf};
 ghost use Rattle.aml_machine.specs.Views.{frame_of};
 
+use crate::arguments::Arguments;
 use crate::mutexes::Mutexes;
 use aml_contents::Names;
 use aml_meaning::BufferPart;
@@ -24,23 +26,14 @@ pub struct Frame {
 }
 
 impl Frame {
-    /// A method's frame as it begins, where its callers hold mutexes up to a level, with its arguments;
-    /// those behind the seventh are not looked at.
-    pub fn new(alloc: Global, outside: u8, arguments: Vec<Value>) -> Self
-        ensures { frame_of result ≡ entered outside (map view arguments.items) }
+    /// A method's frame as it begins, where its callers hold mutexes up to a level, with its arguments.
+    pub fn new(alloc: Global, outside: u8, arguments: Arguments) -> Self
+        ensures { (given : List values.Value) → AreSlotsOf arguments given →
+            frame_of result ≡ entered outside given }
     {
-        let mut given = arguments.into_iter();
         Frame {
             locals: [None, None, None, None, None, None, None, None],
-            args: [
-                given.next(),
-                given.next(),
-                given.next(),
-                given.next(),
-                given.next(),
-                given.next(),
-                given.next(),
-            ],
+            args: arguments.slots,
             owns: Names::new(alloc),
             fields: Vec::new(alloc),
             mutexes: Mutexes::new(alloc, outside),

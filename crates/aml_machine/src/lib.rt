@@ -2,11 +2,12 @@
 //! knows no terms and no errors.
 //!
 //! Rooms: `frame` is what a method has of its own, with `mutexes`, those that it holds; `machine` the
-//! frame, what names hold and the steps; `slots` locals and arguments, `growth` a value that grows in
-//! one of them, `in_place` fields of buffers that are stored into where they stand, `elements`
-//! those of packages where they stand.
+//! frame, what names hold and the steps; `arguments` the values that a method is called with, `slots`
+//! locals and arguments, `growth` a value that grows in one of them, `in_place` fields of buffers that
+//! are stored into where they stand, `elements` those of packages where they stand.
 #![tactic(auto)]
 
+mod arguments;
 mod elements;
 mod frame;
 mod growth;
@@ -15,6 +16,7 @@ mod machine;
 mod mutexes;
 mod slots;
 
+pub use arguments::Arguments;
 pub use elements::{element_in, inner};
 pub use frame::Frame;
 pub use growth::grow_slot;

@@ -1,6 +1,7 @@
 // What a running evaluation changes.
 
-ghost use Rattle.std.specs.Prelude.{◌≡◌, map, IfOk, List, None, OnErr, Option, Some};
+ghost use Rattle.std.specs.Prelude.{◌≡◌, List, None, Option, Some};
+ghost use Rattle.aml_values.specs.Values as values;
 ghost use Rattle.aml_values.specs.Views.{view};
 ghost use Rattle.aml_regions.specs.Events.{Event};
 ghost use Rattle.aml_namespace.specs.Widths.{bits_of};
@@ -9,8 +10,10 @@ ghost use Rattle.aml_meaning.specs.Owns.{define_field, define_own, field_at, mak
 ghost use Rattle.aml_meaning.specs.Parts.{with_arg, with_local};
 ghost use Rattle.aml_meaning.specs.Runs.{Runs};
 ghost use Rattle.aml_meaning.specs.State.{with_frame};
+ghost use Rattle.aml_machine.specs.Arguments.{AreSlotsOf};
 ghost use Rattle.aml_machine.specs.Views.{frame_of, made, now, value_of};
 
+use crate::arguments::Arguments;
 use crate::frame::Frame;
 use crate::slots::hold;
 use aml_contents::Names;
@@ -30,37 +33,27 @@ pub struct Machine {
 }
 
 impl Machine {
-    /// The machine of a method that is called with these arguments: what names hold, and the steps that
-    /// are left, go over to it, so that the caller's frame stays where it is. In a box, and by a call of
-    /// its own, so that neither lies on the stack of the call. Nothing goes over without memory.
+    /// Begins a method that is called with these arguments: its frame stands in place of the caller's,
+    /// which is given back, for `take_back`. It takes no memory. By a call of its own, so that the frame
+    /// lies on the stack of the call no more often than it must.
     #[inline(never)]
-    pub fn enter(&mut self, alloc: Global, arguments: Vec<Value>) -> Result<Box<Machine>, NoMemory>
-        ensures enters { (log : List Event) → IfOk result (λ inner.
-            now inner.value log ≡ inside (map view arguments.items) (now self.old log)) }
-        ensures frame { frame_of self.new.frame ≡ frame_of self.old.frame }
-        ensures steps { IfOk result (λ inner. inner.value.steps ≡ self.old.steps) }
-        ensures lost { OnErr result (self.new ≡ self.old) }
+    pub fn enter(&mut self, alloc: Global, arguments: Arguments) -> Frame
+        ensures enters { (log : List Event) (given : List values.Value) → AreSlotsOf arguments given →
+            now self.new log ≡ inside given (now self.old log) }
+        ensures caller { result ≡ self.old.frame }
+        ensures steps { self.new.steps ≡ self.old.steps }
     {
-        let begun = Machine {
-            frame: Frame::new(alloc, self.frame.mutexes.level(), arguments),
-            names: Names::new(alloc),
-            steps: self.steps,
-        };
-        let Ok(mut inner) = Box::new(alloc, begun) else {
-            return Err(NoMemory);
-        };
-        mem::swap(&mut self.names, &mut inner.names);
-        Ok(inner)
+        let begun = Frame::new(alloc, self.frame.mutexes.level(), arguments);
+        mem::replace(&mut self.frame, begun)
     }
 
-    /// Takes names and steps back from the machine of a method that has ended.
-    pub fn take_back(&mut self, mut ended: Box<Machine>)
+    /// Puts the caller's frame back, where a method has ended.
+    pub fn take_back(&mut self, caller: Frame)
         ensures back { (log : List Event) →
-            now self.new log ≡ with_frame (now ended.value log) (frame_of self.old.frame) }
-        ensures steps { self.new.steps ≡ ended.value.steps }
+            now self.new log ≡ with_frame (now self.old log) (frame_of caller) }
+        ensures steps { self.new.steps ≡ self.old.steps }
     {
-        mem::swap(&mut self.names, &mut ended.names);
-        self.steps = ended.steps;
+        self.frame = caller;
     }
 
     /// Puts a value into a local.

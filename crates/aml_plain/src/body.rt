@@ -13,7 +13,7 @@ use crate::eval::calls::eval_body;
 use crate::setting::Setting;
 use aml_acts::halt::outcome_of;
 use aml_contents::Names;
-use aml_machine::{Frame, Machine};
+use aml_machine::{Arguments, Frame, Machine};
 use aml_meaning::Outcome;
 use aml_operators::Term;
 use aml_paths::NoMemory;
@@ -40,7 +40,7 @@ pub fn evaluate_body<W: World>(
         result (names_of names.new) (W.log world.new) }
 {
     let mut machine = Machine {
-        frame: Frame::new(alloc, 0, arguments),
+        frame: Frame::new(alloc, 0, Arguments::of(arguments)),
         names: mem::replace(names, Names::new(alloc)),
         steps: fuel,
     };

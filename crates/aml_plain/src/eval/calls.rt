@@ -32,7 +32,7 @@ use aml_acts::own::{link_of, makes_own};
 use aml_acts::scene::Scene;
 use aml_acts::steps::take_step;
 use aml_acts::target::named;
-use aml_machine::Machine;
+use aml_machine::{Arguments, Machine};
 use aml_meaning::{AmlCause, Definition, definition_of};
 use aml_namespace::Link;
 use aml_operators::{Term, first_and_rest, two};
@@ -93,7 +93,10 @@ pub(super) fn eval_arguments<W: World>(
 }
 
 /// A method called from a place. A6 there where its body doesn't parse, A9 where it would be the 65th.
+/// By a call of its own, so that the caller's frame, which lies on the stack meanwhile, lies there once
+/// for each method that is active and not once for each term.
 #[cycle(value)]
+#[inline(never)]
 pub(super) fn call<W: World>(
     alloc: Global,
     here: Setting<'_>,
@@ -129,9 +132,9 @@ pub(super) fn call<W: World>(
         bodies: here.bodies,
         depth: here.depth - 1,
     };
-    let mut inner = machine.enter(alloc, given)?;
-    let ended = eval_body(alloc, inside, &body.body, &mut inner, world);
-    machine.take_back(inner);
+    let caller = machine.enter(alloc, Arguments::of(given));
+    let ended = eval_body(alloc, inside, &body.body, machine, world);
+    machine.take_back(caller);
     leave(scene.table, ended)
 }
 
