@@ -472,6 +472,12 @@ class Maker:
 
     def statements(self, count, depth, top=False):
         """Statements, and whether the end behind them is reached."""
+        outside = self.dead
+        found, reached = self.some_statements(count, depth, top)
+        self.dead = outside
+        return found, reached
+
+    def some_statements(self, count, depth, top):
         found, reached = b"", True
         for _ in range(count):
             ways = [self.stored] * 4 + [self.evaluated] * 2
@@ -563,6 +569,8 @@ class Maker:
             self.slots = then
         elif not second:
             self.slots = both(then, self.slots)
+        # what stands behind two blocks of which neither goes on is dead up to the end of its own block
+        self.dead = self.dead or not (first or second)
         return found
 
     def loop(self, depth):

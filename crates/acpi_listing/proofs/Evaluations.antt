@@ -121,7 +121,7 @@ all_fit_as checked k accepted listed values answer b are said is does =
 pub accepted_there : (said : Option Verdict) → is_accepted said ≡ true → (a : Accepted) × (said ≡ Some (verdict.Accepted a))
 accepted_there None is = absurd cc
 accepted_there (Some (verdict.Accepted a)) is = (a, refl)
-accepted_there (Some (verdict.Refused refusal)) is = absurd cc
+accepted_there (Some (verdict.Refused refusal finding)) is = absurd cc
 accepted_there (Some (verdict.Unreadable table refusal)) is = absurd cc
 
 pub none_accepted : (said : Option Verdict) → is_accepted said ≡ false → (a : Accepted) → said ≡ Some (verdict.Accepted a) → ⊥
@@ -181,7 +181,7 @@ module _ (bytes : ℕ → ℕ → ℕ) (told : Told) (ns : Shown) (arguments : L
         → Writes (EvaluatesJudged bytes ns arguments found checked said) tt tt held holds r
     other None held holds r not does = does
     other (Some (verdict.Accepted a)) held holds r not does = absurd (not a refl)
-    other (Some (verdict.Refused refusal)) held holds r not does = does
+    other (Some (verdict.Refused refusal finding)) held holds r not does = does
     other (Some (verdict.Unreadable table refusal)) held holds r not does = does
 
     pub not_accepted : (held holds : Option (List ℕ)) (r : Result ℕ Stop) → ((a : Accepted) → said_of checked found.0 ≡ Some (verdict.Accepted a) → ⊥)

@@ -232,7 +232,7 @@ fn is_accepted(checked: &Checked<'_>, id: ObjectId) -> bool
 {
     match checked.verdict(id) {
         Some(Verdict::Accepted(_)) => true,
-        Some(Verdict::Refused(_)) => false,
+        Some(Verdict::Refused(_, _)) => false,
         Some(Verdict::Unreadable { .. }) => false,
         None => false,
     }

@@ -66,7 +66,7 @@ pub fn value_of<W: World>(
     match checked.verdict(id) {
         None => held(alloc, names, id),
         Some(Verdict::Accepted(_)) => evaluated(alloc, checked, id, names, world),
-        Some(Verdict::Refused(_) | Verdict::Unreadable { .. }) => Ok(Given::Refused),
+        Some(Verdict::Refused(_, _) | Verdict::Unreadable { .. }) => Ok(Given::Refused),
     }
 }
 

@@ -200,7 +200,7 @@ fn reason_by(checked: &Checked<'_>, crs: Option<ObjectId>) -> Reason
         return Reason::NoCrs;
     };
     match checked.verdict(crs) {
-        Some(Verdict::Refused(_) | Verdict::Unreadable { .. }) => Reason::Refused(crs),
+        Some(Verdict::Refused(_, _) | Verdict::Unreadable { .. }) => Reason::Refused(crs),
         Some(Verdict::Accepted(_)) | None => Reason::NoBuffer,
     }
 }

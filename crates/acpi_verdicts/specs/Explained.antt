@@ -6,15 +6,18 @@ use Rattle.acpi_notes.specs.Label.{line_label}
 use Rattle.acpi_notes.specs.Tree.{tree_note}
 use Rattle.acpi_text.specs.Text.{joined}
 use Rattle.acpi_text.specs.Verdicts.{cause_text}
+use Rattle.acpi_verdicts.specs.Findings.{finding_text}
 use Rattle.acpi_verdicts.specs.Verdicts.{said_of}
 use Rattle.acpi_verdicts.specs.Words.{cause_words}
 use Rattle.aml_causes.specs.declared.cause.Cause.{Cause}
 use Rattle.aml_causes.specs.declared.cause.Cause.TheVariants as cause
 use Rattle.aml_causes.specs.declared.cause.Refusal.{Refusal}
+use Rattle.aml_judging.specs.declared.finding.Finding.{Finding}
 use Rattle.aml_namespace.specs.Bodies.{bytes_of}
 use Rattle.aml_namespace.specs.Load.{Shown}
 use Rattle.aml_namespace.specs.Names.{link_at}
 use Rattle.aml_namespace.specs.Shows.{shown}
+use Rattle.aml_namespace.specs.Widths.{bits_of}
 use Rattle.aml_namespace.specs.declared.link.Link.{Link}
 use Rattle.aml_namespace.specs.declared.link.Link.TheVariants as link
 use Rattle.aml_path_text.specs.Paths.{path_of}
@@ -56,16 +59,18 @@ callee_told ns id refusal = if asks_callee refusal.why then called_at ns id refu
 unfoldable pub refused_place : List ℕ → Refusal → List ℕ
 refused_place label refusal = joined (codes ": " ∷ cause_text refusal.why ∷ codes ": " ∷ label ∷ codes ", byte " ∷ decimal refusal.at ∷ [])
 
--- what stands behind the path of a method that is refused for a cause: that, what stands at the place, and what the cause means
-abbrev pub refused_part : Shown → List ℕ → Refusal → List ℕ
-refused_part ns label refusal =
+-- what stands behind the path of a method that is refused for a cause: that, what stands at the place, what the cause means, and what was
+-- found there and what was wanted
+abbrev pub refused_part : Shown → List ℕ → Refusal → Finding → List ℕ
+refused_part ns label refusal finding =
     refused_place label refusal
-    ++ (standing_text (bytes_of ns.tables refusal.table) refusal.at ++ (codes ": " ++ cause_words refusal.why))
+    ++ (standing_text (bytes_of ns.tables refusal.table) refusal.at
+    ++ (codes ": " ++ (cause_words refusal.why ++ finding_text (bits_of ns.width) finding)))
 
 -- the line of a method that is refused for a cause
-abbrev pub refused_text : Shown → List ℕ → ObjectId → Refusal → List ℕ
-refused_text ns label id refusal =
-    path_text (path_of ns.entries id.0) ++ refused_part ns label refusal
+abbrev pub refused_text : Shown → List ℕ → ObjectId → Refusal → Finding → List ℕ
+refused_text ns label id refusal finding =
+    path_text (path_of ns.entries id.0) ++ refused_part ns label refusal finding
     ++ option_map_or (λ (callee : ObjectId). codes ": " ++ path_text (path_of ns.entries callee.0)) (callee_told ns id refusal) []
     ++ codes "\n"
 
@@ -81,7 +86,7 @@ unreadable_text ns label bytes id refusal = path_text (path_of ns.entries id.0) 
 abbrev pub said_reason : List (List ℕ) → Shown → ObjectId → Option Verdict → List ℕ
 said_reason names ns id None = []
 said_reason names ns id (Some (verdict.Accepted accepted)) = []
-said_reason names ns id (Some (verdict.Refused refusal)) = refused_text ns (label_of names refusal.table) id refusal
+said_reason names ns id (Some (verdict.Refused refusal finding)) = refused_text ns (label_of names refusal.table) id refusal finding
 said_reason names ns id (Some (verdict.Unreadable table refusal)) =
     unreadable_text ns (unreadable_label (label_of names table) refusal) (bytes_of ns.tables table) id refusal
 
@@ -96,7 +101,7 @@ is_of_callee _ = false
 
 -- the method whose own cause is told next, by what is said of one: that which it calls, where it is refused for that
 abbrev pub next_by : Shown → ObjectId → Option Verdict → Option ObjectId
-next_by ns id (Some (verdict.Refused refusal)) = if is_of_callee refusal.why then called_at ns id refusal else None
+next_by ns id (Some (verdict.Refused refusal finding)) = if is_of_callee refusal.why then called_at ns id refusal else None
 next_by ns id _ = None
 
 abbrev pub next_of : Checked → ObjectId → Option ObjectId

@@ -30,7 +30,7 @@ printed_of checked id = path_text (path_of (shown checked.namespace.now).entries
 -- what the line of a verdict says: the most steps, or why a method is refused
 abbrev pub line_of : Verdict → VerdictLine
 line_of (verdict.Accepted accepted) = line.Accepted accepted.bound
-line_of (verdict.Refused refusal) = line.Refused refusal
+line_of (verdict.Refused refusal finding) = line.Refused refusal
 line_of (verdict.Unreadable table refusal) = line.Unreadable table refusal
 
 -- the line of what is said of a method; nothing where nothing is said
@@ -45,7 +45,7 @@ verdicts_text checked = flat_map (said_text checked) (methods_of checked)
 abbrev pub is_refused : Option Verdict → Bool
 is_refused None = false
 is_refused (Some (verdict.Accepted accepted)) = false
-is_refused (Some (verdict.Refused refusal)) = true
+is_refused (Some (verdict.Refused refusal finding)) = true
 is_refused (Some (verdict.Unreadable table refusal)) = true
 
 -- any method is refused

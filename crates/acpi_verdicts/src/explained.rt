@@ -4,10 +4,12 @@ ghost use Rattle.std.specs.Prelude.{◌≡◌, ◌++◌, IfOk, OnOk, map, string
 ghost use Rattle.acpi_verdicts.specs.Explained.{asks_callee, called_at, callee_told, chain_text, label_of, next_of, reason_text, refused_part, refused_place, refused_text, rest_text, unreadable_label, unreadable_text};
 ghost use Rattle.aml_namespace.specs.Shows.{shown};
 
+use crate::findings::finding_text;
 use crate::words::cause_words;
 use acpi_notes::{TreePlace, file_label, tree_note};
 use acpi_text::{RunFault, cause_text};
 use aml_causes::{Cause, Refusal};
+use aml_judging::Finding;
 use aml_namespace::{Link, Namespace};
 use aml_path_text::push_path;
 use aml_paths::ObjectId;
@@ -20,8 +22,8 @@ use std::alloc::{AllocError, Global};
 const MOST_TOLD: u8 = 8;
 
 /// Why the method with a number is refused, in lines that each end in a line feed: its path, the cause,
-/// the file, the byte, and what the cause means; of a cause that tells of a call the path of the method
-/// that is called. Where that one is refused itself, the lines of it follow, two spaces further in, down
+/// the file, the byte, what the cause means, and what was found there and what was wanted; of a cause that
+/// tells of a call the path of the method that is called. Where that one is refused itself, the lines of it follow, two spaces further in, down
 /// to the first method that is refused for another cause. 8 methods are told at most; a line behind them
 /// says under which method the rest of the chain stands: under the one that the last line calls. No line
 /// where the method is accepted, or no method has the number.
@@ -95,7 +97,7 @@ fn push_reason(
         ++ reason_text (map (λ name. name.now) names.now) checked.now id) }
 {
     match checked.verdict(id) {
-        Some(Verdict::Refused(refusal)) => {
+        Some(Verdict::Refused(refusal, finding)) => {
             let label = label_of(alloc, names, refusal.table)?;
             push_refused(
                 alloc,
@@ -104,6 +106,7 @@ fn push_reason(
                 id,
                 label.as_str(),
                 *refusal,
+                *finding,
             )
         }
         Some(Verdict::Unreadable { table, refusal }) => {
@@ -143,12 +146,13 @@ fn push_refused(
     id: ObjectId,
     label: &str,
     refusal: Refusal,
+    finding: Finding,
 ) -> Result<(), RunFault>
     ensures { OnOk result (text.new.items ≡ text.old.items
-        ++ refused_text (shown namespace.now) label.now id refusal) }
+        ++ refused_text (shown namespace.now) label.now id refusal finding) }
 {
     push_path(alloc, text, namespace, id)?;
-    push_cause(alloc, text, namespace, label, refusal)?;
+    push_cause(alloc, text, namespace, label, refusal, finding)?;
     if let Some(callee) = callee_told(namespace, id, refusal) {
         text.extend_from_slice(b": ")?;
         push_path(alloc, text, namespace, callee)?;
@@ -164,15 +168,18 @@ fn push_cause(
     namespace: &Namespace<'_>,
     label: &str,
     refusal: Refusal,
+    finding: Finding,
 ) -> Result<(), RunFault>
     ensures { OnOk result (text.new.items ≡ text.old.items
-        ++ refused_part (shown namespace.now) label.now refusal) }
+        ++ refused_part (shown namespace.now) label.now refusal finding) }
 {
     let place = refused_place(alloc, label, refusal)?;
     text.extend_from_slice(place.as_bytes())?;
     push_standing(text, namespace.table_bytes(refusal.table), refusal.at)?;
     text.extend_from_slice(b": ")?;
     text.extend_from_slice(cause_words(refusal.why).as_bytes())?;
+    let finding = finding_text(alloc, namespace.width(), finding)?;
+    text.extend_from_slice(finding.as_bytes())?;
     Ok(())
 }
 
@@ -221,7 +228,7 @@ fn next_of(checked: &Checked<'_>, id: ObjectId) -> Option<ObjectId>
     ensures { result ≡ next_of checked.now id }
 {
     match checked.verdict(id) {
-        Some(Verdict::Refused(refusal)) if refusal.why == Cause::CalleeRefused => {
+        Some(Verdict::Refused(refusal, _)) if refusal.why == Cause::CalleeRefused => {
             called_at(checked.namespace(), id, *refusal)
         }
         _ => None,

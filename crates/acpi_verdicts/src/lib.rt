@@ -2,10 +2,12 @@
 //! method is refused.
 //!
 //! Rooms: `listed` prints the verdicts and answers whether a method is refused, `words` has what causes
-//! mean, `explained` what is told of a refused method and of those that it calls.
+//! mean, `findings` what was found there and what was wanted, `explained` what is told of a refused method
+//! and of those that it calls.
 #![tactic(auto)]
 
 mod explained;
+mod findings;
 mod listed;
 mod words;
 

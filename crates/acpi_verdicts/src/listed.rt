@@ -56,7 +56,7 @@ fn line_of(verdict: &Verdict) -> VerdictLine
         Verdict::Accepted(accepted) => VerdictLine::Accepted {
             steps: accepted.bound,
         },
-        Verdict::Refused(refusal) => VerdictLine::Refused(*refusal),
+        Verdict::Refused(refusal, _) => VerdictLine::Refused(*refusal),
         Verdict::Unreadable { table, refusal } => VerdictLine::Unreadable {
             table: *table,
             refusal: *refusal,
@@ -82,7 +82,7 @@ fn is_refused(checked: &Checked<'_>, id: ObjectId) -> bool
     ensures { result ≡ is_refused (said_of checked.now id.0) }
 {
     match checked.verdict(id) {
-        Some(Verdict::Refused(_) | Verdict::Unreadable { .. }) => true,
+        Some(Verdict::Refused(_, _) | Verdict::Unreadable { .. }) => true,
         Some(Verdict::Accepted(_)) | None => false,
     }
 }

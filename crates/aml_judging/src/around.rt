@@ -12,6 +12,7 @@ ghost use Rattle.aml_meaning.specs.Owns.{field_at};
 ghost use Rattle.aml_known.specs.Views.{kind_of};
 ghost use Rattle.aml_judging.specs.Views.{content_of, costs_of, field_seen, made_of, seen_of};
 
+use crate::finding::Finding;
 use aml_known::{Accepted, Known, Shapes};
 use aml_meaning::BufferPart;
 use aml_namespace::{Link, Object, Width};
@@ -104,6 +105,9 @@ pub trait Around: Shapes {
     /// The field of a buffer that the own name with a number is.
     fn own_field(&self, number: usize) -> Option<BufferPart>
         ensures { result ≡ field_at (around self.now).kinds.fields number };
+
+    /// Is told what a rule finds, before it refuses. Nothing that is known changes.
+    fn finds(&self, finding: Finding);
 
     /// Makes an own name more, if there is one to make.
     fn make(&mut self, made: Made) -> Result<(), NoMemory>

@@ -9,7 +9,9 @@ ghost use Rattle.aml_judging.specs.Follows.{Costs, Gives, Judges};
 ghost use Rattle.aml_judging.specs.Views.{read_of, seen_of};
 
 use crate::around::{Around, Seen};
-use crate::names::{Read, place, refusal};
+use crate::finding::{Finding, Wanted};
+use crate::finds;
+use crate::names::{Read, place, refusal, refusal_for};
 use crate::progress::Progress;
 use aml_causes::{Cause, Refusal};
 use aml_kind_rules::interface_kind;
@@ -39,7 +41,8 @@ fn with_result<A: Around>(
 {
     match method {
         Some(method) if wanted && !matches!(method.result, Yield::Always(_)) => {
-            Err(refusal(here, Cause::NoResult, at))
+            let finding = Finding::Given(method.result);
+            Err(refusal_for(here, Cause::NoResult, at, finding))
         }
         _ => Ok(()),
     }
@@ -63,7 +66,8 @@ fn are_within<A: Around>(
             if kind.is_within(*wanted) {
                 are_within(here, given, taken, arguments)
             } else {
-                Err(refusal(here, Cause::WrongKind, argument.at))
+                let finding = finds::other_kind(*kind, Wanted::Within(*wanted));
+                Err(refusal_for(here, Cause::WrongKind, argument.at, finding))
             }
         }
         ([], [], [_, ..]) | ([], [_, ..], _) | ([_, ..], [], _) | ([_, ..], [_, ..], []) => {
@@ -90,7 +94,8 @@ fn levels<A: Around>(
     if progress.locks.takes_level(least, held)? {
         Ok(())
     } else {
-        Err(Stop::Refused(refusal(here, Cause::Level, at)))
+        let finding = finds::level(&progress.locks, held, least);
+        Err(Stop::Refused(refusal_for(here, Cause::Level, at, finding)))
     }
 }
 
@@ -136,10 +141,13 @@ pub fn interface<A: Around>(
         (kinds_of (A.numbered here.now) kinds.now)) result }
 {
     match (arguments, kinds) {
-        ([argument], [kind]) => Ok(Read {
-            kind: interface_kind(here.width(), place(here, argument.at), *kind)?,
-            events: 0,
-        }),
+        ([argument], [kind]) => {
+            here.finds(finds::other_kind(*kind, Wanted::Text));
+            Ok(Read {
+                kind: interface_kind(here.width(), place(here, argument.at), *kind)?,
+                events: 0,
+            })
+        }
         ([] | [_, _, ..], _) | ([_], [] | [_, _, ..]) => {
             Err(refusal(here, Cause::OutsideProfile, at))
         }

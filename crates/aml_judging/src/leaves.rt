@@ -14,8 +14,9 @@ ghost use Rattle.aml_known.specs.Views.{kind_of, slots_of, yield_of};
 ghost use Rattle.aml_judging.specs.Follows.{Acts, Gives, GivesOrMemory, Judges, Paid};
 
 use crate::around::Around;
+use crate::finding::Finding;
 use crate::mutexes::{mutex, released, taken};
-use crate::names::{Read, name, refusal};
+use crate::names::{Read, name, refusal, refusal_for};
 use crate::progress::Progress;
 use crate::seen::{condition, size};
 use aml_causes::{Cause, Refusal};
@@ -71,7 +72,10 @@ pub fn wanted<A: Around>(here: &A, at: usize, given: Yield) -> Result<Known, Ref
 {
     match given {
         Yield::Always(kind) => Ok(kind),
-        Yield::Sometimes(_) | Yield::Never => Err(refusal(here, Cause::NoResult, at)),
+        Yield::Sometimes(_) | Yield::Never => {
+            let finding = Finding::Given(given);
+            Err(refusal_for(here, Cause::NoResult, at, finding))
+        }
     }
 }
 
@@ -80,6 +84,13 @@ pub fn stop<A: Around>(here: &A, why: Cause, at: usize) -> Stop
     ensures { result ≡ stops.Refused (refusal (A.around here.now) why at) }
 {
     Stop::Refused(refusal(here, why, at))
+}
+
+/// The same, with what was found there.
+pub fn stop_for<A: Around>(here: &A, why: Cause, at: usize, finding: Finding) -> Stop
+    ensures { result ≡ stops.Refused (refusal (A.around here.now) why at) }
+{
+    Stop::Refused(refusal_for(here, why, at, finding))
 }
 
 /// A kind behind others.

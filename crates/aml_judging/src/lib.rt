@@ -5,12 +5,14 @@
 //! Rooms: `around` says what is known around a body, `progress` where a judgement stands; `names`,
 //! `targets`, `seen`, `mutexes`, `calls` and `leaves` have what is judged without a term's value, or
 //! behind it, `definitions` what a definition at the top of a body makes, `turns` what stands round a loop
-//! and under a test.
+//! and under a test. `finding` and `finds` have what rules find where they refuse, for people.
 #![tactic(auto)]
 
 mod around;
 pub mod calls;
 pub mod definitions;
+mod finding;
+pub mod finds;
 pub mod leaves;
 pub mod mutexes;
 pub mod names;
@@ -20,4 +22,5 @@ pub mod targets;
 pub mod turns;
 
 pub use around::{Around, FieldCosts, Made, Seen};
+pub use finding::{Finding, Found, NumberedSlot, Sort, Wanted};
 pub use progress::Progress;

@@ -7,7 +7,9 @@ ghost use Rattle.aml_judged.specs.Judge.{judged_mutex, judged_mutex_named, judge
 ghost use Rattle.aml_judging.specs.Follows.{Gives, Judges};
 
 use crate::around::Around;
-use crate::names::refusal;
+use crate::finding::Wanted;
+use crate::finds;
+use crate::names::{refusal, refusal_for};
 use crate::progress::Progress;
 use aml_causes::{Cause, Refusal};
 use aml_known::{Held, Stop};
@@ -33,7 +35,10 @@ fn numbered<A: Around>(
             level: sync_level,
         }),
         Some(Object::GlobalLock) => Err(refusal(here, Cause::OutsideProfile, at)),
-        _ => Err(refusal(here, Cause::WrongKind, from)),
+        _ => {
+            let finding = finds::named(here, Link::Object(id), Wanted::Mutex);
+            Err(refusal_for(here, Cause::WrongKind, from, finding))
+        }
     }
 }
 
@@ -44,7 +49,10 @@ fn named<A: Around>(here: &A, at: usize, from: usize, link: Link) -> Result<Take
     match link {
         Link::Missing => Err(refusal(here, Cause::Unresolved, from)),
         Link::Object(id) => numbered(here, at, from, id, here.object(id)),
-        _ => Err(refusal(here, Cause::WrongKind, from)),
+        _ => {
+            let finding = finds::named(here, link, Wanted::Mutex);
+            Err(refusal_for(here, Cause::WrongKind, from, finding))
+        }
     }
 }
 
@@ -55,7 +63,10 @@ pub fn mutex<A: Around>(here: &A, at: usize, op: Op, from: usize) -> Result<Take
 {
     match action_of(op) {
         Action::Name => named(here, at, from, here.link(from)),
-        Action::Local(_) | Action::Argument(_) => Err(refusal(here, Cause::WrongKind, from)),
+        Action::Local(_) | Action::Argument(_) => {
+            let finding = finds::unread(Wanted::Mutex);
+            Err(refusal_for(here, Cause::WrongKind, from, finding))
+        }
         _ => Err(refusal(here, Cause::OutsideProfile, from)),
     }
 }
@@ -76,7 +87,8 @@ pub fn taken<A: Around>(
         return Err(Stop::Refused(refusal(here, Cause::HeldDiffers, at)));
     }
     if mutex.level < progress.locks.greatest(held)? {
-        return Err(Stop::Refused(refusal(here, Cause::Level, at)));
+        let finding = finds::level(&progress.locks, held, Some(mutex.level));
+        return Err(Stop::Refused(refusal_for(here, Cause::Level, at, finding)));
     }
     progress.env.held = progress.locks.take(held, mutex)?;
     progress.exits.takes(Some(mutex.level));

@@ -12,6 +12,8 @@ ghost use Rattle.aml_judging.specs.Follows.{Costs};
 ghost use Rattle.aml_judging.specs.Views.{content_of, costs_of, field_seen, read_of};
 
 use crate::around::{Around, FieldCosts};
+use crate::finding::{Finding, Wanted};
+use crate::finds;
 use aml_causes::{Cause, Refusal};
 use aml_fields::usable_part;
 use aml_kind_rules::{field_kind, source_kind};
@@ -37,10 +39,18 @@ pub fn place<A: Around>(here: &A, at: usize) -> Place
     }
 }
 
-/// A cause at a place in the body's table.
+/// A cause at a place in the body's table, of which no more is told.
 pub fn refusal<A: Around>(here: &A, why: Cause, at: usize) -> Refusal
     ensures { result ≡ refusal (A.around here.now) why at }
 {
+    refusal_for(here, why, at, Finding::Nothing)
+}
+
+/// The same, with what was found there.
+pub fn refusal_for<A: Around>(here: &A, why: Cause, at: usize, finding: Finding) -> Refusal
+    ensures { result ≡ refusal (A.around here.now) why at }
+{
+    here.finds(finding);
     Refusal {
         table: here.table(),
         at,
@@ -55,7 +65,10 @@ fn content<A: Around>(here: &A, at: usize, kind: Option<Known>) -> Result<Read, 
 {
     match kind {
         Some(kind) => Ok(Read { kind, events: 0 }),
-        None => Err(refusal(here, Cause::WrongKind, at)),
+        None => {
+            let finding = finds::unmade(Wanted::Value);
+            Err(refusal_for(here, Cause::WrongKind, at, finding))
+        }
     }
 }
 
@@ -94,7 +107,9 @@ fn part<A: Around>(here: &A, part: Option<BufferPart>, at: usize) -> Result<Read
     let Some(part) = part else {
         return Err(refusal(here, Cause::Region, at));
     };
-    source_kind(place(here, at), part, held_kind(here, part.source))?;
+    let source = held_kind(here, part.source);
+    here.finds(finds::part(here, part, source));
+    source_kind(place(here, at), part, source)?;
     let kind = field_kind(here.width(), part.bits);
     Ok(Read { kind, events: 0 })
 }
@@ -122,7 +137,8 @@ pub fn name<A: Around>(here: &A, link: Link, at: usize) -> Result<Read, Refusal>
         Link::Field(id) => field(here, here.field(id), at),
         Link::BufferField(id) => part(here, here.buffer_field(id), at),
         Link::Method(_) | Link::OsInterfaces | Link::Object(_) => {
-            Err(refusal(here, Cause::WrongKind, at))
+            let finding = finds::named(here, link, Wanted::Value);
+            Err(refusal_for(here, Cause::WrongKind, at, finding))
         }
     }
 }

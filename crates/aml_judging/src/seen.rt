@@ -11,7 +11,9 @@ ghost use Rattle.aml_judging.specs.Follows.{FollowsIn, Gives, GivesIn};
 ghost use Rattle.aml_judging.specs.Views.{content_of, read_of};
 
 use crate::around::Around;
-use crate::names::{Read, place, refusal};
+use crate::finding::{Sort, Wanted};
+use crate::finds;
+use crate::names::{Read, place, refusal, refusal_for};
 use aml_causes::{Cause, Refusal};
 use aml_kind_rules::size_kind;
 use aml_known::{Env, Known, Slot, Stop, kind_at};
@@ -37,7 +39,10 @@ fn content<A: Around>(here: &A, at: usize, kind: Option<Known>) -> Result<Known,
 {
     match kind {
         Some(kind) => Ok(kind),
-        None => Err(refusal(here, Cause::WrongKind, at)),
+        None => {
+            let finding = finds::unmade(Wanted::Sized);
+            Err(refusal_for(here, Cause::WrongKind, at, finding))
+        }
     }
 }
 
@@ -47,7 +52,10 @@ fn own<A: Around>(here: &A, number: usize, at: usize) -> Result<Known, Refusal>
         (field_at (A.around here.now).kinds.fields number) number at) result }
 {
     match here.own_field(number) {
-        Some(_) => Err(refusal(here, Cause::WrongKind, at)),
+        Some(_) => {
+            let finding = finds::other_object(Sort::BufferField, Wanted::Sized);
+            Err(refusal_for(here, Cause::WrongKind, at, finding))
+        }
         None => content(here, at, here.own(number)),
     }
 }
@@ -61,7 +69,10 @@ fn name<A: Around>(here: &A, link: Link, at: usize) -> Result<Known, Refusal>
         Link::Data(id) => content(here, at, here.shared(id)),
         Link::Own(number) => own(here, number, at),
         Link::Missing => Err(refusal(here, Cause::Unresolved, at)),
-        _ => Err(refusal(here, Cause::WrongKind, at)),
+        _ => {
+            let finding = finds::named(here, link, Wanted::Sized);
+            Err(refusal_for(here, Cause::WrongKind, at, finding))
+        }
     }
 }
 
@@ -85,6 +96,7 @@ pub fn size<A: Around>(here: &A, of: &Term, env: &Env) -> Result<Known, Stop>
         (judged_size (A.around here.now) (view of.now)) env.now result }
 {
     let kind = seen(here, action_of(of.op), of.at, env)?;
+    here.finds(finds::other_kind(kind, Wanted::Sized));
     size_kind(here.width(), here, place(here, of.at), kind)
 }
 

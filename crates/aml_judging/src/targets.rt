@@ -12,7 +12,9 @@ ghost use Rattle.aml_judging.specs.Follows.{Costs, Gives, Judges};
 ghost use Rattle.aml_judging.specs.Views.{content_of, costs_of, field_seen};
 
 use crate::around::{Around, FieldCosts};
-use crate::names::{held_kind, place, refusal};
+use crate::finding::Wanted;
+use crate::finds;
+use crate::names::{held_kind, place, refusal, refusal_for};
 use crate::progress::Progress;
 use aml_causes::{Cause, Refusal};
 use aml_fields::usable_part;
@@ -37,6 +39,7 @@ fn field<A: Around>(
     let Some(field) = field else {
         return Err(refusal(here, Cause::Region, at));
     };
+    here.finds(finds::given(here, field.bits, kind));
     given_kind(here.width(), place(here, at), field.bits, kind)?;
     Ok(field.writes)
 }
@@ -56,6 +59,7 @@ fn part<A: Around>(
         return Err(refusal(here, Cause::Region, at));
     };
     let source = held_kind(here, part.source);
+    here.finds(finds::part_stored(here, part, source, kind));
     part_stored_kind(here.width(), place(here, at), part, source, kind)?;
     Ok(0)
 }
@@ -68,7 +72,10 @@ fn into<A: Around>(here: &A, at: usize, old: Option<Known>, kind: Known) -> Resu
 {
     match old {
         Some(old) if may_replace(kind, old) => Ok(0),
-        _ => Err(refusal(here, Cause::WrongKind, at)),
+        _ => {
+            let finding = finds::stored(old, kind);
+            Err(refusal_for(here, Cause::WrongKind, at, finding))
+        }
     }
 }
 
@@ -97,7 +104,8 @@ fn name<A: Around>(here: &A, link: Link, at: usize, kind: Known) -> Result<u64, 
         Link::Field(id) => field(here, here.field(id), at, kind),
         Link::BufferField(id) => part(here, here.buffer_field(id), at, kind),
         Link::Method(_) | Link::OsInterfaces | Link::Object(_) => {
-            Err(refusal(here, Cause::WrongKind, at))
+            let finding = finds::named(here, link, Wanted::Target);
+            Err(refusal_for(here, Cause::WrongKind, at, finding))
         }
     }
 }

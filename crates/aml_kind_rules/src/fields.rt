@@ -52,7 +52,7 @@ pub fn given_kind(width: Width, field: Place, bits: u64, kind: Known) -> Result<
 }
 
 /// Whether a field lies in a buffer of so many bytes.
-fn lies_inside(part: BufferPart, size: u64) -> bool
+pub fn lies_inside(part: BufferPart, size: u64) -> bool
     ensures { result ≡ nat_le (first_bit part + part.bits) (8 * size) }
 {
     let first = u128::from(part.byte) * 8 + u128::from(part.bit);

@@ -103,5 +103,5 @@ module _ (told : Told) (c : Checked) (is : IsChecked told c) (k : ℕ) (values :
   pub fit : (o : Option Verdict) → verdict_at c.verdicts.items k ≡ o → takes o values ≡ accepts_by (accepted_by (numbered c.shapes) o) values
   fit None e = refl
   fit (Some (verdict.Accepted a)) e = taken a e (method_at (shown c.namespace.now) k) refl
-  fit (Some (verdict.Refused r)) e = refl
+  fit (Some (verdict.Refused r finding)) e = refl
   fit (Some (verdict.Unreadable table r)) e = refl

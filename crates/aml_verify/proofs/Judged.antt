@@ -24,6 +24,7 @@ use Rattle.aml_known.specs.declared.accepted.Accepted.{Accepted}
 use Rattle.aml_known.specs.declared.stop.Stop.{Stop}
 use Rattle.aml_known.specs.declared.stop.Stop.TheVariants as stop
 use Rattle.aml_judging.specs.Follows.{IsVerdict}
+use Rattle.aml_judging.specs.declared.finding.Finding.{Finding}
 use Rattle.aml_meaning.specs.declared.part.BufferPart.{BufferPart}
 use Rattle.aml_meaning.specs.Methods.{callee_of}
 use Rattle.aml_meaning.specs.Within.{Callee, Methods}
@@ -81,8 +82,8 @@ module _ (ns : Shown) (told : Told) (shapes : List Shape) (shared : List (Option
   pub accepted_said : (short : Bool) (kinds : List Kind) (x : Accepted) → short ≡ is_short_in heights 64 k → kinds ≡ arguments_of ns told k m → IsVerdict (numbered shapes) (Verdict_by short kinds) (Ok x) → SaysRight (verdict.Accepted x)
   accepted_said short kinds x s args is_v all j known a = is_verdict all j known a short kinds s args ∙ ap Some is_v
 
-  pub refused_said : (short : Bool) (kinds : List Kind) (r : Refusal) → short ≡ is_short_in heights 64 k → kinds ≡ arguments_of ns told k m → IsVerdict (numbered shapes) (Verdict_by short kinds) (Err (stop.Refused r)) → SaysRight (verdict.Refused r)
-  refused_said short kinds r s args is_v all j known a = is_verdict all j known a short kinds s args ∙ ap Some is_v
+  pub refused_said : (short : Bool) (kinds : List Kind) (r : Refusal) (finding : Finding) → short ≡ is_short_in heights 64 k → kinds ≡ arguments_of ns told k m → IsVerdict (numbered shapes) (Verdict_by short kinds) (Err (stop.Refused r)) → SaysRight (verdict.Refused r finding)
+  refused_said short kinds r finding s args is_v all j known a = is_verdict all j known a short kinds s args ∙ ap Some is_v
 
   -- a method that is accepted is marked as is decided of it
   pub accepted_marked : (only others : List Bool) (kinds : List Kind) (x : Accepted) (alone : Bool) → SaysRight (verdict.Accepted x) → kinds ≡ arguments_of ns told k m → others ≡ only

@@ -44,7 +44,7 @@ module _ (ns : Shown) (told : Told) (all : Judging) (j : IsJudging ns told all) 
   -- what is said of a method is what is known of it
   pub known_said : (shapes : ℕ → Shape) (k : ℕ) (m : Method) (v : Verdict) → method_at ns k ≡ Some m → Says ns shapes k m v (verdict_by all known k (all.methods.callee k)) → known k ≡ accepted_by shapes (Some v)
   known_said shapes k m (verdict.Accepted x) is says = a.each k ∙ ap accepted_of says
-  known_said shapes k m (verdict.Refused r) is says = a.each k ∙ ap accepted_of says
+  known_said shapes k m (verdict.Refused r finding) is says = a.each k ∙ ap accepted_of says
   known_said shapes k m (verdict.Unreadable table r) is says = a.each k ∙ ap (λ o. accepted_of (verdict_by all known k o)) (unread ns told all j k m r is says.1)
 
   -- a method's body is judged by what it sees of those that it calls

@@ -37,7 +37,7 @@ use Rattle.aml_verify.specs.declared.verifier.Verifier.{Verifier}
 -- what is said of the method with a number is its verdict; or its body has no tree, and that is why
 abbrev pub Says : Shown → (ℕ → Shape) → ℕ → Method → Verdict → Option judgement.Verdict → Type 0
 Says ns shapes k m (verdict.Accepted a) v = v ≡ Some (Ok (accepted_of shapes a))
-Says ns shapes k m (verdict.Refused r) v = v ≡ Some (Err r)
+Says ns shapes k m (verdict.Refused r finding) v = v ≡ Some (Err r)
 Says ns shapes k m (verdict.Unreadable table r) v =
     (table ≡ m.table) × ReadsBodyOf ns k m (Err (unread.Refused r))
 

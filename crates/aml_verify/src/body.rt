@@ -8,7 +8,7 @@ use crate::named::Named;
 use crate::verdict::{Verdict, accepted_at};
 use aml_components::{Components, Heights};
 use aml_fields::{field_in, part_numbered, read_count, write_count};
-use aml_judging::{Around, FieldCosts, Made, Seen};
+use aml_judging::{Around, FieldCosts, Finding, Made, Seen};
 use aml_known::{ElementKnown, Known, ShapeNumber, Shapes};
 use aml_lex::name_there;
 use aml_meaning::BufferPart;
@@ -17,6 +17,7 @@ use aml_operators::{Op, Term};
 use aml_paths::{NoMemory, ObjectId};
 use aml_shapes::ShapeTable;
 use std::alloc::{AllocError, Global};
+use std::cell::Cell;
 
 /// What is known around a method's body, and the own names that it made so far.
 #[derive(Drop)]
@@ -36,6 +37,8 @@ pub(crate) struct Body<'n, 'k, 'b> {
     pub held: Vec<Option<Known>>,
     /// Of each the field that it is.
     pub fields: Vec<Option<BufferPart>>,
+    /// What a rule found last that may refuse; where the method is refused, what it found there.
+    pub finding: Cell<Finding>,
 }
 
 /// A copy of what stands at a place, if anything does.
@@ -152,6 +155,10 @@ impl Around for Body<'_, '_, '_> {
 
     fn own_field(&self, number: usize) -> Option<BufferPart> {
         at(&self.fields, number)
+    }
+
+    fn finds(&self, finding: Finding) {
+        self.finding.set(finding);
     }
 
     fn make(&mut self, made: Made) -> Result<(), NoMemory> {

@@ -139,7 +139,7 @@ impl<'a> Checked<'a> {
     {
         match self.verdict(method) {
             Some(Verdict::Accepted(accepted)) => are_of(&accepted.args, values),
-            Some(Verdict::Refused(_)) => false,
+            Some(Verdict::Refused(_, _)) => false,
             Some(Verdict::Unreadable { .. }) => false,
             None => false,
         }

@@ -7,6 +7,7 @@ ghost use Rattle.aml_known.specs.Views.{accepted_of};
 ghost use Rattle.aml_verify.specs.Said.{accepted_by, verdict_at};
 
 use aml_causes::Refusal;
+use aml_judging::Finding;
 use aml_known::Accepted;
 use aml_tree::Refusal as Unread;
 
@@ -15,8 +16,8 @@ use aml_tree::Refusal as Unread;
 pub enum Verdict {
     /// It is accepted: it meets no AML error, and takes at most so many steps.
     Accepted(Accepted),
-    /// It is refused, by the first cause that is met.
-    Refused(Refusal),
+    /// It is refused, by the first cause that is met, with what was found there and what was wanted.
+    Refused(Refusal, Finding),
     /// Its body, in the table with this number, cannot be read.
     Unreadable { table: usize, refusal: Unread },
 }

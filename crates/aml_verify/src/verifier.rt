@@ -20,6 +20,7 @@ use aml_bodies::{Kept, keep_with};
 use aml_bounds::call_order;
 use aml_components::{Components, Heights};
 use aml_integers::integers_alone;
+use aml_judging::Finding;
 use aml_known::{Known, Stop};
 use aml_methods::{Trees, arguments, gathered};
 use aml_namespace::{Method, Namespace};
@@ -31,6 +32,7 @@ use aml_signatures::Signatures;
 use aml_tree::TreeFault;
 use aml_walk::judge;
 use std::alloc::Global;
+use std::cell::Cell;
 
 /// A verifier at work: each step judges one method, behind those that it calls.
 #[derive(Drop)]
@@ -316,13 +318,16 @@ impl<'a, 's> Verifier<'a, 's> {
             components: &self.components,
             held: Vec::new(self.alloc),
             fields: Vec::new(self.alloc),
+            finding: Cell::new(Finding::Nothing),
         };
         self.shapes.are_apart();
         let alone = integers_alone(&around, &self.integers, &args, body);
         let short = self.heights.is_short(id, 64);
         match judge(self.alloc, &mut around, short, method.at, args, body) {
             Ok(accepted) => Ok((Verdict::Accepted(accepted), alone)),
-            Err(Stop::Refused(refusal)) => Ok((Verdict::Refused(refusal), false)),
+            Err(Stop::Refused(refusal)) => {
+                Ok((Verdict::Refused(refusal, around.finding.get()), false))
+            }
             Err(Stop::NoMemory) => Err(NoMemory),
         }
     }

@@ -26,7 +26,7 @@ type Row<'a> = (u8, &'a [u8], &'a [Said]);
 fn told(verdict: &Verdict) -> Said {
     match verdict {
         Verdict::Accepted(accepted) => Said::Accepted(accepted.bound),
-        Verdict::Refused(refusal) => Said::Refused(refusal.at, refusal.why),
+        Verdict::Refused(refusal, _) => Said::Refused(refusal.at, refusal.why),
         Verdict::Unreadable { table: _, refusal } => Said::Unreadable(refusal.at),
     }
 }

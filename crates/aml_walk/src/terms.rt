@@ -12,11 +12,10 @@ ghost use Rattle.aml_judging.specs.Turns.{Turned, falling_rule, often_rule, once
 
 use aml_bounds::{Turns, number_of, turns_of};
 use aml_causes::Cause;
-use aml_judging::Around;
 use aml_judging::calls::{called, interface, not_reaching};
 use aml_judging::leaves::{
     acquires, asked, breaks, continues, data, is_else, is_operand, literal, name_read, push, read,
-    releases, returns, sized, slot, stop, wanted,
+    releases, returns, sized, slot, stop, stop_for, wanted,
 };
 use aml_judging::mutexes::none_held;
 use aml_judging::names::{held_kind, name, place};
@@ -24,6 +23,7 @@ use aml_judging::progress::{Progress, product, sum};
 use aml_judging::seen::{notified, untargeted};
 use aml_judging::targets::{indexed, placed, put};
 use aml_judging::turns::{Turn, begun, comes_back, exit_holds, holds_back, narrowed, past};
+use aml_judging::{Around, Wanted, finds};
 use aml_kind_rules::{
     byte_written_kind, combined_kind, compared_kind, concatenated_kind, converted_kind,
     divided_kind, integer_kind, led_kind, negated_kind, notice_kind, transformed_kind,
@@ -151,6 +151,7 @@ fn binary<A: Around>(
     let j = value(alloc, here, a, progress)?;
     let k = value(alloc, here, b, progress)?;
     let number = number_of(b, here.width());
+    here.finds(finds::combined(j, k));
     let given = combined_kind(
         here.width(),
         f,
@@ -181,6 +182,7 @@ fn unary<A: Around>(
         return Err(stop(here, Cause::OutsideProfile, at));
     };
     let k = value(alloc, here, a, progress)?;
+    here.finds(finds::integer(k));
     let given = transformed_kind(here.width(), f, place(here, a.at), k)?;
     store(alloc, here, target, given, progress)?;
     Ok(Yield::Always(given))
@@ -205,6 +207,7 @@ fn by_one<A: Around>(
     placed(here, a)?;
     let k = value(alloc, here, a, progress)?;
     let from = place(here, a.at);
+    here.finds(finds::integer(k));
     let given = combined_kind(here.width(), f, from, k, from, Known::Int(1), Some(1))?;
     store(alloc, here, a, given, progress)?;
     Ok(Yield::Always(given))
@@ -228,6 +231,7 @@ fn compared<A: Around>(
     };
     let j = value(alloc, here, a, progress)?;
     let k = value(alloc, here, b, progress)?;
+    here.finds(finds::compared(f, j, k));
     let given = compared_kind(here.width(), f, place(here, a.at), j, place(here, b.at), k)?;
     Ok(Yield::Always(given))
 }
@@ -248,6 +252,7 @@ fn negated<A: Around>(
         return Err(stop(here, Cause::OutsideProfile, at));
     };
     let k = value(alloc, here, a, progress)?;
+    here.finds(finds::integer(k));
     let given = negated_kind(here.width(), place(here, a.at), k)?;
     Ok(Yield::Always(given))
 }
@@ -270,6 +275,7 @@ fn divided<A: Around>(
     let j = value(alloc, here, a, progress)?;
     let k = value(alloc, here, b, progress)?;
     let number = number_of(b, here.width());
+    here.finds(finds::combined(j, k));
     let given = divided_kind(
         here.width(),
         place(here, a.at),
@@ -300,6 +306,7 @@ fn converted<A: Around>(
         return Err(stop(here, Cause::OutsideProfile, at));
     };
     let k = value(alloc, here, a, progress)?;
+    here.finds(finds::converted(k));
     let given = converted_kind(here.width(), f, place(here, at), place(here, a.at), k)?;
     store(alloc, here, target, given, progress)?;
     Ok(Yield::Always(given))
@@ -322,6 +329,7 @@ fn concatenated<A: Around>(
     };
     let j = value(alloc, here, a, progress)?;
     let k = value(alloc, here, b, progress)?;
+    here.finds(finds::concatenated(j, k));
     let given = concatenated_kind(place(here, at), place(here, a.at), j, place(here, b.at), k)?;
     store(alloc, here, target, given, progress)?;
     Ok(Yield::Always(given))
@@ -386,6 +394,7 @@ fn store_byte<A: Around>(
     let from = indexed(here, at, own.op, of)?;
     let j = value(alloc, here, index, progress)?;
     let old = held_kind(here, here.link(from));
+    here.finds(finds::byte_written(here, from, old, j, kind));
     byte_written_kind(
         place(here, at),
         place(here, from),
@@ -443,6 +452,7 @@ fn led<A: Around>(
     let k = value(alloc, here, index, progress)?;
     let number = number_of(index, here.width());
     let operator = place(here, from);
+    here.finds(finds::led(here, j, k));
     let given = led_kind(
         here,
         operator,
@@ -492,7 +502,10 @@ fn invoked<A: Around>(
             let given = interface(here, called_name.at, arguments, &kinds)?;
             Ok(read(given, progress))
         }
-        Link::Object(_) => Err(stop(here, Cause::WrongKind, called_name.at)),
+        Link::Object(id) => {
+            let finding = finds::named(here, Link::Object(id), Wanted::Value);
+            Err(stop_for(here, Cause::WrongKind, called_name.at, finding))
+        }
         link => {
             let given = name(here, link, called_name.at)?;
             Ok(read(given, progress))
@@ -589,6 +602,7 @@ fn test<A: Around>(
         progress.old progress.new result }
 {
     let kind = value(alloc, here, term, progress)?;
+    here.finds(finds::integer(kind));
     integer_kind(place(here, term.at), kind)?;
     Ok(narrowed(here, term, progress.env))
 }
@@ -723,7 +737,8 @@ fn often<A: Around>(
     let turn = turn(alloc, here, body, held, progress)?;
     let tested = progress.env;
     if !comes_back(&turn.end, &turn.exits.continued, &start) {
-        return Err(stop(here, Cause::WrongKind, at));
+        let finding = finds::turned(&turn.end, &turn.exits.continued, &start);
+        return Err(stop_for(here, Cause::WrongKind, at, finding));
     }
     if !holds_back(&turn.end, &turn.exits, &start, &tested, &progress.locks)? {
         return Err(stop(here, Cause::HeldDiffers, at));
@@ -777,7 +792,9 @@ fn notifies<A: Around>(
     };
     let may = notified(here, object.op, object.at)?;
     let kind = value(alloc, here, number, progress)?;
+    here.finds(finds::notified(here, object.op, object.at));
     notice_kind(place(here, object.at), may)?;
+    here.finds(finds::integer(kind));
     integer_kind(place(here, number.at), kind)?;
     progress.step();
     Ok(Yield::Never)
@@ -800,6 +817,7 @@ fn pauses<A: Around>(
         return Err(stop(here, Cause::OutsideProfile, at));
     };
     let kind = value(alloc, here, number, progress)?;
+    here.finds(finds::integer(kind));
     integer_kind(place(here, number.at), kind)?;
     progress.step();
     Ok(Yield::Never)

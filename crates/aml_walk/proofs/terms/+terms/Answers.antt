@@ -859,7 +859,7 @@ invoked-returns-in_ok-given-in-OsInterfaces g t c =
     asked_judges (g.A.Shapes.numbered c.args.here.now) (g.A.Around.around c.args.here.now) c.args.wanted c.args.at c.called_name-item.result _ c.args.parts.now c.link.result c.args.progress.now (some_parts c.args.parts.now c.called_name-item.result c.in-len1-up.len_at_least c.called_name-item.is) c.link.ensures c.in-OsInterfaces.is (λ (ks : Vec Known Global). kinds_of (g.A.Shapes.numbered c.args.here.now) ks.items) c.in_ok-kinds-in-OsInterfaces.ensures c.read.result c.in_ok-given-in-OsInterfaces.given c.read.ensures.given asks c.read.ensures.paid
 
 pub invoked-returns-in-Object : goal.invoked-returns-in-Object
-invoked-returns-in-Object g t c = rw c.stop-in-Object.ensures (invoked_object (g.A.Shapes.numbered c.args.here.now) (g.A.Around.around c.args.here.now) c.args.wanted c.args.at c.called_name-item.result _ c.args.parts.now c.link.result c.args.progress.now (some_parts c.args.parts.now c.called_name-item.result c.in-len1-up.len_at_least c.called_name-item.is) c.link.ensures c.in-Object.field-0 c.in-Object.is)
+invoked-returns-in-Object g t c = rw c.stop_for.ensures (invoked_object (g.A.Shapes.numbered c.args.here.now) (g.A.Around.around c.args.here.now) c.args.wanted c.args.at c.called_name-item.result _ c.args.parts.now c.link.result c.args.progress.now (some_parts c.args.parts.now c.called_name-item.result c.in-len1-up.len_at_least c.called_name-item.is) c.link.ensures c.in-Object.id c.in-Object.is)
 
 pub invoked-returns-in_err-given-in_default-link : goal.invoked-returns-in_err-given-in_default-link
 invoked-returns-in_err-given-in_default-link g t c =
@@ -1323,7 +1323,7 @@ often-returns-in_err-turn g t c =
 pub often-returns-then-not-comes_back : goal.often-returns-then-not-comes_back
 often-returns-then-not-comes_back g t c =
     let begins = from_other c.args.progress.now c.begun-start.result c.replace-before.new.dest (Ok c.in_ok-held.held) refl c.replace-before.ensures.after c.in_ok-held.ensures in
-    rw c.stop.ensures (often_away (g.A.Shapes.numbered c.args.here.now) (g.A.Around.around c.args.here.now) c.args.at (view c.args.condition.now) (views c.args.body.now) c.args.turns c.args.progress.now c.begun-start.result c.begun-start.ensures c.test.new.progress c.in_ok-held.held begins c.turn.new.progress c.in_ok-turn.turn c.in_ok-turn.ensures c.comes_back.result _ c.if-not-comes_back.true (c.comes_back.ensures (g.A.Around.around c.args.here.now) (g.A.Shapes.numbered c.args.here.now)) refl)
+    rw c.stop_for.ensures (often_away (g.A.Shapes.numbered c.args.here.now) (g.A.Around.around c.args.here.now) c.args.at (view c.args.condition.now) (views c.args.body.now) c.args.turns c.args.progress.now c.begun-start.result c.begun-start.ensures c.test.new.progress c.in_ok-held.held begins c.turn.new.progress c.in_ok-turn.turn c.in_ok-turn.ensures c.comes_back.result _ c.if-not-comes_back.true (c.comes_back.ensures (g.A.Around.around c.args.here.now) (g.A.Shapes.numbered c.args.here.now)) refl)
 
 pub often-returns-in_err-holds_back : goal.often-returns-in_err-holds_back
 often-returns-in_err-holds_back g t c =
@@ -1334,7 +1334,7 @@ often-returns-in_err-holds_back g t c =
 pub often-returns-then-not-branch : goal.often-returns-then-not-branch
 often-returns-then-not-branch g t c =
     let begins = from_other c.args.progress.now c.begun-start.result c.replace-before.new.dest (Ok c.in_ok-held.held) refl c.replace-before.ensures.after c.in_ok-held.ensures in
-    rw c.stop-then-not-branch.ensures (often_differs (g.A.Shapes.numbered c.args.here.now) (g.A.Around.around c.args.here.now) c.args.at (view c.args.condition.now) (views c.args.body.now) c.args.turns c.args.progress.now c.begun-start.result c.begun-start.ensures c.test.new.progress c.in_ok-held.held begins c.turn.new.progress c.in_ok-turn.turn c.in_ok-turn.ensures c.comes_back.result c.if-not-comes_back.false (c.comes_back.ensures (g.A.Around.around c.args.here.now) (g.A.Shapes.numbered c.args.here.now)) c.in_ok-holds_back.field-0 _ c.if-not-branch.true (c.in_ok-holds_back.ensures (g.A.Around.around c.args.here.now) (g.A.Shapes.numbered c.args.here.now)) refl)
+    rw c.stop.ensures (often_differs (g.A.Shapes.numbered c.args.here.now) (g.A.Around.around c.args.here.now) c.args.at (view c.args.condition.now) (views c.args.body.now) c.args.turns c.args.progress.now c.begun-start.result c.begun-start.ensures c.test.new.progress c.in_ok-held.held begins c.turn.new.progress c.in_ok-turn.turn c.in_ok-turn.ensures c.comes_back.result c.if-not-comes_back.false (c.comes_back.ensures (g.A.Around.around c.args.here.now) (g.A.Shapes.numbered c.args.here.now)) c.in_ok-holds_back.field-0 _ c.if-not-branch.true (c.in_ok-holds_back.ensures (g.A.Around.around c.args.here.now) (g.A.Shapes.numbered c.args.here.now)) refl)
 
 pub often-returns-in_err-past : goal.often-returns-in_err-past
 often-returns-in_err-past g t c =

@@ -1,0 +1,240 @@
+// What rules found where they refuse and what they wanted, in words: kinds as `--kinds` has them.
+
+ghost use Rattle.std.specs.Prelude.{◌≡◌, IfOk, string_bytes};
+ghost use Rattle.acpi_verdicts.specs.Findings as spec;
+ghost use Rattle.aml_namespace.specs.Widths.{bits_of};
+
+use aml_judging::{Finding, Found, NumberedSlot, Sort, Wanted};
+use aml_known::{Known, Yield};
+use aml_namespace::Width;
+use std::alloc::{AllocError, Global};
+
+/// What was found and what was wanted, behind a colon; nothing where the cause tells all.
+#[tactic(auto, unfolding(crate::specs::Findings::finding_text))]
+pub(crate) fn finding_text(
+    alloc: Global,
+    width: Width,
+    finding: Finding,
+) -> Result<String, AllocError>
+    ensures { IfOk result (λ text. string_bytes text ≡ spec.finding_text (bits_of width) finding) }
+{
+    match finding {
+        Finding::Nothing => format!(in alloc; ""),
+        Finding::Other { found, wanted } => other_text(alloc, width, found, wanted),
+        Finding::Index {
+            greatest,
+            length: Some(length),
+        } => { format!(in alloc; ": found an index up to {greatest}, wanted one below {length}") }
+        Finding::Index {
+            greatest,
+            length: None,
+        } => format!(in alloc; ": found an index up to {greatest}, wanted a length that is known"),
+        Finding::Element { greatest, length } => {
+            format!(in alloc;
+                ": found an index up to {greatest} of {length} elements, wanted a value there"
+            )
+        }
+        Finding::Field {
+            byte,
+            bit,
+            bits,
+            length,
+        } => {
+            format!(in alloc;
+                ": found {bits} bits from bit {bit} of byte {byte} on, wanted them within buf:{length}"
+            )
+        }
+        Finding::Joined { bytes } => {
+            format!(in alloc; ": found {bytes} bytes, wanted 65536 at most")
+        }
+        Finding::Given(given) => given_text(alloc, width, given),
+        Finding::Turn { slot, began, ends } => turn_text(alloc, width, slot, began, ends),
+        Finding::Level { taken, held } => {
+            format!(in alloc; ": found level {taken}, wanted {held} or more")
+        }
+    }
+}
+
+// Something else than what was wanted.
+#[tactic(auto, unfolding(crate::specs::Findings::other_text))]
+fn other_text(
+    alloc: Global,
+    width: Width,
+    found: Found,
+    wanted: Wanted,
+) -> Result<String, AllocError>
+    ensures { IfOk result (λ text. string_bytes text ≡ spec.other_text (bits_of width) found wanted) }
+{
+    let found = found_text(alloc, width, found)?;
+    let wanted = wanted_text(alloc, width, wanted)?;
+    let found = found.as_str();
+    let wanted = wanted.as_str();
+    format!(in alloc; ": found {found}, wanted {wanted}")
+}
+
+// What a call gives that need not give a value.
+#[tactic(auto, unfolding(crate::specs::Findings::given_text))]
+fn given_text(alloc: Global, width: Width, given: Yield) -> Result<String, AllocError>
+    ensures { IfOk result (λ text. string_bytes text ≡ spec.given_text (bits_of width) given) }
+{
+    match given {
+        Yield::Always(_) => format!(in alloc; ""),
+        Yield::Sometimes(kind) => {
+            let kind = kind_text(alloc, width, kind)?;
+            let kind = kind.as_str();
+            format!(in alloc; ": found {kind} on some ways alone, wanted a value on each")
+        }
+        Yield::Never => format!(in alloc; ": found no value on any way"),
+    }
+}
+
+// What a local or an argument holds where turns begin, and where one ends.
+#[tactic(auto, unfolding(crate::specs::Findings::turn_text))]
+fn turn_text(
+    alloc: Global,
+    width: Width,
+    slot: NumberedSlot,
+    began: Known,
+    ends: Option<Known>,
+) -> Result<String, AllocError>
+    ensures { IfOk result (λ text. string_bytes text
+        ≡ spec.turn_text (bits_of width) slot began ends) }
+{
+    let slot = slot_text(alloc, slot)?;
+    let began = kind_text(alloc, width, began)?;
+    let ends = end_text(alloc, width, ends)?;
+    let slot = slot.as_str();
+    let began = began.as_str();
+    let ends = ends.as_str();
+    format!(in alloc;
+        ": found {ends} in {slot} where a turn ends, wanted {began} as where it began"
+    )
+}
+
+// What a slot holds, if it holds something for certain.
+#[tactic(auto, unfolding(crate::specs::Findings::end_text))]
+fn end_text(alloc: Global, width: Width, kind: Option<Known>) -> Result<String, AllocError>
+    ensures { IfOk result (λ text. string_bytes text ≡ spec.end_text (bits_of width) kind) }
+{
+    match kind {
+        Some(kind) => kind_text(alloc, width, kind),
+        None => format!(in alloc; "what may be unset"),
+    }
+}
+
+// A local or an argument.
+#[tactic(auto, unfolding(crate::specs::Findings::slot_text))]
+fn slot_text(alloc: Global, slot: NumberedSlot) -> Result<String, AllocError>
+    ensures { IfOk result (λ text. string_bytes text ≡ spec.slot_text slot) }
+{
+    match slot {
+        NumberedSlot::Local(number) => format!(in alloc; "Local{number}"),
+        NumberedSlot::Argument(number) => format!(in alloc; "Arg{number}"),
+    }
+}
+
+// What was found.
+#[tactic(auto, unfolding(crate::specs::Findings::found_text))]
+fn found_text(alloc: Global, width: Width, found: Found) -> Result<String, AllocError>
+    ensures { IfOk result (λ text. string_bytes text ≡ spec.found_text (bits_of width) found) }
+{
+    match found {
+        Found::Kind(kind) => kind_text(alloc, width, kind),
+        Found::Object(sort) => {
+            let words = sort_words(sort);
+            format!(in alloc; "{words}")
+        }
+        Found::Slot => format!(in alloc; "a local or an argument"),
+        Found::Unmade => format!(in alloc; "a name that is made further on"),
+    }
+}
+
+// The sort of an object.
+fn sort_words(sort: Sort) -> &'static str
+    ensures { result.now ≡ spec.sort_words sort }
+{
+    match sort {
+        Sort::Scope => "a scope",
+        Sort::Device => "a device",
+        Sort::Processor => "a processor",
+        Sort::PowerResource => "a power resource",
+        Sort::ThermalZone => "a thermal zone",
+        Sort::Method => "a method",
+        Sort::Data => "a data name",
+        Sort::Region => "an operation region",
+        Sort::Field => "a field of a region",
+        Sort::BufferField => "a field of a buffer",
+        Sort::Mutex => "a mutex",
+        Sort::Event => "an event",
+        Sort::Nothing => "no object",
+    }
+}
+
+// What was wanted.
+#[tactic(auto, unfolding(crate::specs::Findings::wanted_text))]
+fn wanted_text(alloc: Global, width: Width, wanted: Wanted) -> Result<String, AllocError>
+    ensures { IfOk result (λ text. string_bytes text ≡ spec.wanted_text (bits_of width) wanted) }
+{
+    match wanted {
+        Wanted::Within(kind) => kind_text(alloc, width, kind),
+        Wanted::IntegerOr(kind) => {
+            let kind = kind_text(alloc, width, kind)?;
+            let kind = kind.as_str();
+            format!(in alloc; "int or {kind}")
+        }
+        _ => {
+            let words = wanted_words(wanted);
+            format!(in alloc; "{words}")
+        }
+    }
+}
+
+// The same where it has no kind of its own.
+fn wanted_words(wanted: Wanted) -> &'static str
+    ensures { result.now ≡ spec.wanted_words wanted }
+{
+    match wanted {
+        Wanted::Integer => "int",
+        Wanted::Buffer => "buf",
+        Wanted::Text => "str",
+        Wanted::IntegerOrBuffer => "int or buf",
+        Wanted::BufferOrText => "buf or str",
+        Wanted::Sized => "buf, str or pkg",
+        Wanted::Comparable => "int, buf or str",
+        Wanted::FilledBuffer => "a buffer of 1 byte or more",
+        Wanted::Divisor => "an integer literal other than 0",
+        Wanted::Value => "a value",
+        Wanted::Target => "a name or a field that takes a value",
+        Wanted::NoStore => "no store into a name that holds a package",
+        Wanted::Mutex => "a mutex",
+        Wanted::Notifiable => "a device, a processor or a thermal zone",
+        Wanted::Within(_) | Wanted::IntegerOr(_) => "a kind",
+    }
+}
+
+// A kind.
+#[tactic(auto, unfolding(crate::specs::Findings::kind_text))]
+fn kind_text(alloc: Global, width: Width, kind: Known) -> Result<String, AllocError>
+    ensures { IfOk result (λ text. string_bytes text ≡ spec.kind_text (bits_of width) kind) }
+{
+    match kind {
+        Known::Int(most) => integer_text(alloc, width, most),
+        Known::Buf(size) => format!(in alloc; "buf:{size}"),
+        Known::Str(size) => format!(in alloc; "str:{size}"),
+        Known::Pkg(_) => format!(in alloc; "pkg of one shape"),
+        Known::AnyPkg => format!(in alloc; "pkg"),
+        Known::Mixed => format!(in alloc; "any kind"),
+    }
+}
+
+// The kind of integers up to one.
+#[tactic(auto, unfolding(crate::specs::Findings::integer_text))]
+fn integer_text(alloc: Global, width: Width, most: u64) -> Result<String, AllocError>
+    ensures { IfOk result (λ text. string_bytes text ≡ spec.integer_text (bits_of width) most) }
+{
+    if most == width.greatest() {
+        format!(in alloc; "int")
+    } else {
+        format!(in alloc; "int:{most}")
+    }
+}

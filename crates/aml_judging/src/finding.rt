@@ -1,0 +1,119 @@
+// What a rule found where it refuses, and what it wanted there: for people alone.
+
+use aml_known::{Known, Yield};
+
+/// What a rule found where it refuses, and what it wanted. No rule asks for it.
+#[derive(Clone, Copy, Debug, PartialEq, Eq)]
+pub enum Finding {
+    /// No more than the cause tells.
+    Nothing,
+    /// Something else than what was wanted.
+    Other {
+        found: Found,
+        wanted: Wanted,
+    },
+    /// An index that may be as great as this one into so many bytes or elements, where it is known how
+    /// many there are.
+    Index {
+        greatest: u64,
+        length: Option<u64>,
+    },
+    /// The same where each such element is there: one of them may be a name, or unset.
+    Element {
+        greatest: u64,
+        length: u64,
+    },
+    /// A field of so many bits from a bit of a byte on, of a buffer of so many bytes.
+    Field {
+        byte: u64,
+        bit: u8,
+        bits: u64,
+        length: u64,
+    },
+    /// So many bytes that two operands have together.
+    Joined {
+        bytes: u64,
+    },
+    /// What a call gives that need not give a value.
+    Given(Yield),
+    /// What a local or an argument holds where the turns of a loop begin, and where one of them ends.
+    Turn {
+        slot: NumberedSlot,
+        began: Known,
+        ends: Option<Known>,
+    },
+    /// A mutex of a sync level, where one of a greater level is held.
+    Level {
+        taken: u8,
+        held: u8,
+    },
+}
+
+/// A local or an argument, by its number.
+#[derive(Clone, Copy, Debug, PartialEq, Eq)]
+pub enum NumberedSlot {
+    Local(u8),
+    Argument(u8),
+}
+
+/// What was found.
+#[derive(Clone, Copy, Debug, PartialEq, Eq)]
+pub enum Found {
+    /// What is of a kind.
+    Kind(Known),
+    /// The name of such an object.
+    Object(Sort),
+    /// A local or an argument, where it is not read.
+    Slot,
+    /// A name that the body makes further on.
+    Unmade,
+}
+
+/// Which sort of object a name means.
+#[derive(Clone, Copy, Debug, PartialEq, Eq)]
+pub enum Sort {
+    Scope,
+    Device,
+    Processor,
+    PowerResource,
+    ThermalZone,
+    Method,
+    Data,
+    Region,
+    Field,
+    BufferField,
+    Mutex,
+    Event,
+    Nothing,
+}
+
+/// What was wanted.
+#[derive(Clone, Copy, Debug, PartialEq, Eq)]
+pub enum Wanted {
+    Integer,
+    Buffer,
+    Text,
+    IntegerOrBuffer,
+    BufferOrText,
+    /// A buffer, a string or a package.
+    Sized,
+    /// An integer, a buffer or a string.
+    Comparable,
+    /// A buffer that is not empty.
+    FilledBuffer,
+    /// An integer literal that is not zero.
+    Divisor,
+    /// What is within a kind.
+    Within(Known),
+    /// An integer, or what is within a kind.
+    IntegerOr(Known),
+    /// What has a value.
+    Value,
+    /// What is stored into.
+    Target,
+    /// Nothing: a package that a name holds is not replaced.
+    NoStore,
+    Mutex,
+    /// A device, a processor or a thermal zone.
+    Notifiable,
+}
