@@ -1,15 +1,16 @@
 -- The places of one segment on one chain, which stand together in the order of places.
-use Rattle.std.proofs.Common.{◌≡◌, ℕ, ◌≤◌, List, [], ◌∷◌, ◌++◌, Option, Some, None, true, false, refl, sym, ap, ◌∙◌, arith}
+use Rattle.std.proofs.Common.{◌≡◌, ℕ, ◌≤◌, Bool, List, [], ◌∷◌, ◌++◌, Option, Some, None, true, false, nat_eq, not, refl, sym, ap, ◌∙◌, arith}
 use Rattle.std.specs.declared.cmp.Ordering.{Ordering}
 use Rattle.std.specs.declared.cmp.Ordering.TheVariants.{Less, Equal, Greater}
-use Rattle.std.specs.declared.ops.Bound.TheVariants.{Included}
+use Rattle.std.specs.declared.ops.Bound.TheVariants.{Included, Unbounded}
 use Rattle.std.specs.Ordering.{is_eq, is_gt, is_lt, nat_cmp, ordering_reverse, ordering_then}
 use Rattle.std.specs.Prelude.{IsSome}
 use Rattle.std.specs.BTreeMap.{BTreeMap, get}
-use Rattle.std.specs.BTreeMap.Range.{IsLeBy, IsRangeOf}
-use Rattle.std.specs.Cmp.Lexicographic.{bytes_decides, texts_ties}
+use Rattle.std.specs.BTreeMap.Range.{IsInRange, IsLeBy, IsRangeOf}
+use Rattle.std.specs.Cmp.Lexicographic.{bytes_decides, pointwise, texts_ties}
 use Rattle.std.proofs.lemmas.Bool.Decides.{nat_tests}
-use Rattle.std.proofs.lemmas.Cmp.{nat_cmp_total, nat_list_cmp_total, tied_itself}
+use Rattle.std.specs.Cmp.{IsTotalOrder}
+use Rattle.std.proofs.lemmas.Cmp.{nat_cmp_total, nat_list_cmp_total, on_total, then_total, tied_itself}
 use Rattle.aml_lex.specs.declared.names.NameSeg.{NameSeg}
 use Rattle.aml_tree.specs.Owns.{segment_order}
 use Rattle.aml_paths.specs.declared.paths.Place.{Place}
@@ -81,15 +82,43 @@ up_to a b e = grind (arith, nat_tests)
 not_below : (a b : ℕ) → is_lt (nat_cmp a b) ≡ false → b ≤ a
 not_below a b e = grind (arith, nat_tests)
 
+differs : (b : Bool) → false ≡ not b → b ≡ true
+differs true e = refl
+differs false e = absurd cc
+
+-- a place of a segment on a chain
+pub is_place_at : (place : Place) (s : NameSeg) (t : ℕ) → place.top ≡ t → false ≡ not (pointwise nat_eq place.segment.bytes s.bytes) → place ≡ place_at s t place.depth
+is_place_at place s t top same =
+    let bytes = (bytes_decides place.segment.bytes s.bytes).0 (differs (pointwise nat_eq place.segment.bytes s.bytes) same) in
+    λ i. record { segment = record { bytes = bytes i }; top = top i; depth = place.depth }
+
+-- a place whose segment is another
+pub is_of_another : (place : Place) (s : NameSeg) (t : ℕ) → true ≡ not (pointwise nat_eq place.segment.bytes s.bytes) → place ≡ place_at s t place.depth → ⊥
+is_of_another place s t other one =
+    let same = (bytes_decides place.segment.bytes s.bytes).1 (ap (λ (p : Place). p.segment.bytes) one) in
+    absurd cc
+
+place_total : IsTotalOrder place_order
+place_total = then_total (on_total (λ (p : Place). p.segment.bytes) nat_list_cmp_total) (then_total (on_total (λ (p : Place). p.top) nat_cmp_total) (on_total (λ (p : Place). p.depth) nat_cmp_total))
+
+behind_by : (o u : Ordering) → o ≡ ordering_reverse u → is_lt u ≡ false → is_gt o ≡ false
+behind_by o Less e past = absurd cc
+behind_by o Equal e past = ap is_gt e
+behind_by o Greater e past = ap is_gt e
+
+-- what is not behind a place is at it or before it
+behind : (p q : Place) → is_lt (place_order p q) ≡ false → IsLeBy place_order q p
+behind p q past = behind_by (place_order q p) (place_order p q) (place_total.antisymm q p) past
+
 module _ (numbers : BTreeMap Place ℕ) (segment : NameSeg) (top last : ℕ) where
   abbrev find : ℕ → Option ℕ
   find depth = get place_order numbers (place_at segment top depth)
 
   abbrev Range : List (Place × ℕ) → Type 0
-  Range found = IsRangeOf place_order (Included (place_at segment top 0)) (Included (place_at segment top last)) numbers found
+  Range found = IsRangeOf place_order Unbounded (Included (place_at segment top last)) numbers found
 
-  within : (n : ℕ) → n ≤ last → IsLeBy place_order (place_at segment top 0) (place_at segment top n) × IsLeBy place_order (place_at segment top n) (place_at segment top last)
-  within n le = (places_forward segment top 0 n (omega arith), places_forward segment top n last le)
+  within : (n : ℕ) → n ≤ last → IsInRange place_order Unbounded (Included (place_at segment top last)) (place_at segment top n)
+  within n le = (tt, places_forward segment top n last le)
 
   -- no place is found
   pub none_found : (found : List (Place × ℕ)) → Range found → found ≡ [] → greatest find last ≡ None
@@ -99,14 +128,22 @@ module _ (numbers : BTreeMap Place ℕ) (segment : NameSeg) (top last : ℕ) whe
   absent_by n None is none = refl
   absent_by n (Some x) is none = absurd (none refl)
 
-  -- the last that is found
-  pub last_found : (found rest : List (Place × ℕ)) (place : Place) (number : ℕ) → Range found → found ≡ rest ++ (place, number) ∷ [] → greatest find last ≡ Some number
-  last_found found rest place number range is =
-      let there = range.3 (place, number) rest is in
-      let one = one_place segment top 0 last place there.0.0 there.0.1 in
-      let up : place.depth ≤ last = up_to place.depth last (sym (ap is_gt (ap (λ (p : Place). place_order p (place_at segment top last)) one ∙ places_ordered segment top place.depth last)) ∙ there.0.1) in
-      greatest_last find place.depth last number up (sym (ap (get place_order numbers) one) ∙ there.1)
-      (λ n after le. absent_by n (find n) refl (λ some.
-      let past = range.4 (place, number) rest is (place_at segment top n) (within n le) some in
-      let before = not_below place.depth n (sym (ap is_lt (ap (λ (p : Place). place_order p (place_at segment top n)) one ∙ places_ordered segment top place.depth n)) ∙ past) in
-      omega (arith, before, after)))
+  module _ (found rest : List (Place × ℕ)) (place : Place) (number : ℕ) (range : Range found) (is : found ≡ rest ++ (place, number) ∷ []) where
+    -- the last that is found, where it is of the segment and on the chain
+    pub last_found : place ≡ place_at segment top place.depth → greatest find last ≡ Some number
+    last_found one =
+        let there = range.3 (place, number) rest is in
+        let up : place.depth ≤ last = up_to place.depth last (sym (ap is_gt (ap (λ (p : Place). place_order p (place_at segment top last)) one ∙ places_ordered segment top place.depth last)) ∙ there.0.1) in
+        greatest_last find place.depth last number up (sym (ap (get place_order numbers) one) ∙ there.1)
+        (λ n after le. absent_by n (find n) refl (λ some.
+        let past = range.4 (place, number) rest is (place_at segment top n) (within n le) some in
+        let before = not_below place.depth n (sym (ap is_lt (ap (λ (p : Place). place_order p (place_at segment top n)) one ∙ places_ordered segment top place.depth n)) ∙ past) in
+        omega (arith, before, after)))
+
+    -- none of the segment is on the chain, where it is another
+    pub other_found : (place ≡ place_at segment top place.depth → ⊥) → greatest find last ≡ None
+    other_found other =
+        let there = range.3 (place, number) rest is in
+        greatest_none find last (λ n le. absent_by n (find n) refl (λ some.
+        let past = range.4 (place, number) rest is (place_at segment top n) (within n le) some in
+        other (one_place segment top n last place (behind place (place_at segment top n) past) there.0.1)))

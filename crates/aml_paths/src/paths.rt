@@ -163,17 +163,15 @@ impl Paths {
             let find = number_below_chain (paths_seen self.now) spots spot.top segment.bytes in
             result ≡ greatest find spot.depth }
     {
-        let least = Place {
-            segment,
-            top: spot.top,
-            depth: 0,
-        };
         let greatest = Place {
             segment,
             top: spot.top,
             depth: spot.depth,
         };
-        let (_, number) = self.numbers.range(least..=greatest).next_back()?;
+        let (place, number) = self.numbers.range(..=greatest).next_back()?;
+        if place.top != spot.top || place.segment != segment {
+            return None;
+        }
         Some(*number)
     }
 

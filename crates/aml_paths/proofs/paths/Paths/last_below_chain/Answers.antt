@@ -1,33 +1,36 @@
-use Rattle.std.proofs.Common.{sym, subst, ◌∙◌, arith}
-use Rattle.std.specs.declared.ops.Bound.TheVariants.{Included}
-use Rattle.std.specs.BTreeMap.Range.{IsRangeOf}
-use Rattle.std.specs.Range.{range_inclusive_end}
+use Rattle.std.proofs.Common.{sym, ap, ◌∙◌}
 use Rattle.aml_paths.specs.declared.paths.Place.{Place}
 use Rattle.aml_paths.specs.Steps.{paths_seen}
-use Rattle.aml_paths.specs.Trie.{place_order}
-use Rattle.aml_paths.proofs.Places.{known_on_chain, last_found, none_found, place_at, places_forward}
+use Rattle.aml_paths.proofs.Places.{is_of_another, is_place_at, known_on_chain, last_found, none_found, other_found}
 use Rattle.aml_paths.proofs.paths.Paths.last_below_chain.Goals as goal
+use Rattle.aml_paths.proofs.paths.Paths.last_below_chain.Goals.{then-place-spot-via-then-place-spot, then-place-spot-via-else-place-spot+then-ne}
 
-pub range-requires : goal.range-requires
-range-requires c = rw (c.new.ensures.start, c.new.ensures.end) (places_forward c.args.segment c.args.spot.top 0 c.args.spot.depth (omega arith))
-
-pub returns-in_err-number : goal.returns-in_err-number
-returns-in_err-number c =
+pub returns-in_err-place : goal.returns-in_err-place
+returns-in_err-place c =
     let held = c.args.self.now in
     let segment = c.args.segment in
     let spot = c.args.spot in
-    let found = c.range.result in
-    let from_least = subst (λ (a : Place). IsRangeOf place_order (Included a) (Included (range_inclusive_end c.new.result)) held.numbers found) c.new.ensures.start (c.range.ensures.in_range c.new.ensures.exhausted) in
-    let range = subst (λ (b : Place). IsRangeOf place_order (Included (place_at segment spot.top 0)) (Included b) held.numbers found) c.new.ensures.end from_least in
-    c.from_residual.ensures ∙ sym (sym (known_on_chain held.numbers held.steps.items (paths_seen held) held.numbered.known segment spot.top spot.depth) ∙ none_found held.numbers segment spot.top spot.depth found range c.in_err-number.ensures.steps.0)
+    c.from_residual.ensures ∙ sym (sym (known_on_chain held.numbers held.steps.items (paths_seen held) held.numbered.known segment spot.top spot.depth) ∙ none_found held.numbers segment spot.top spot.depth c.range.result (c.range.ensures.in_range tt) c.in_err-place.ensures.steps.0)
+
+pub returns-then-place-spot : goal.returns-then-place-spot
+returns-then-place-spot c =
+    let held = c.args.self.now in
+    let segment = c.args.segment in
+    let spot = c.args.spot in
+    let place = c.in_ok-place.place.now in
+    sym (sym (known_on_chain held.numbers held.steps.items (paths_seen held) held.numbered.known segment spot.top spot.depth)
+    ∙ other_found held.numbers segment spot.top spot.depth c.range.result c.next_back.new.self place c.in_ok-place.number.now (c.range.ensures.in_range tt) c.in_ok-place.ensures.steps
+    (λ one. elim c.then-place-spot.branch [
+      then-place-spot-via-then-place-spot w ↦ w.if-place-spot.true (ap (λ (p : Place). p.top) one)
+    | then-place-spot-via-else-place-spot+then-ne w ↦ is_of_another place segment spot.top w.if-ne.ensures one
+    ]))
 
 pub returns : goal.returns
 returns c =
     let held = c.args.self.now in
     let segment = c.args.segment in
     let spot = c.args.spot in
-    let found = c.range.result in
-    let from_least = subst (λ (a : Place). IsRangeOf place_order (Included a) (Included (range_inclusive_end c.new.result)) held.numbers found) c.new.ensures.start (c.range.ensures.in_range c.new.ensures.exhausted) in
-    let range = subst (λ (b : Place). IsRangeOf place_order (Included (place_at segment spot.top 0)) (Included b) held.numbers found) c.new.ensures.end from_least in
+    let place = c.in_ok-place.place.now in
     sym (sym (known_on_chain held.numbers held.steps.items (paths_seen held) held.numbered.known segment spot.top spot.depth)
-    ∙ last_found held.numbers segment spot.top spot.depth found c.next_back.new.self c.in_ok-number.field-0-0.now c.in_ok-number.number.now range c.in_ok-number.ensures.steps)
+    ∙ last_found held.numbers segment spot.top spot.depth c.range.result c.next_back.new.self place c.in_ok-place.number.now (c.range.ensures.in_range tt) c.in_ok-place.ensures.steps
+    (is_place_at place segment spot.top c.if-place-spot.false c.if-ne.ensures))
