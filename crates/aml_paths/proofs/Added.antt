@@ -35,16 +35,16 @@ both_tied Greater u e = absurd cc
 
 same_place : (p q : Place) → is_at (place_order p) q ≡ true → p ≡ q
 same_place p q e =
-    let tied = both_tied (segment_order p.segment q.segment) (ordering_then (nat_cmp p.top q.top) (nat_cmp p.depth q.depth)) e in
-    let chain = both_tied (nat_cmp p.top q.top) (nat_cmp p.depth q.depth) tied.1 in
-    let bytes : p.segment.bytes ≡ q.segment.bytes = (bytes_decides p.segment.bytes q.segment.bytes).0 (texts_ties p.segment.bytes q.segment.bytes ∙ tied.0) in
-    let tops = nat_tied p.top q.top chain.0 in
-    let depths = nat_tied p.depth q.depth chain.1 in
+    let tied = both_tied (nat_cmp p.top q.top) (ordering_then (segment_order p.segment q.segment) (nat_cmp p.depth q.depth)) e in
+    let segment = both_tied (segment_order p.segment q.segment) (nat_cmp p.depth q.depth) tied.1 in
+    let bytes : p.segment.bytes ≡ q.segment.bytes = (bytes_decides p.segment.bytes q.segment.bytes).0 (texts_ties p.segment.bytes q.segment.bytes ∙ segment.0) in
+    let tops = nat_tied p.top q.top tied.0 in
+    let depths = nat_tied p.depth q.depth segment.1 in
     λ i. record { segment = record { bytes = bytes i }; top = tops i; depth = depths i }
 
 itself : (p : Place) → is_at (place_order p) p ≡ true
-itself p = ap is_eq (ap (λ (o : Ordering). ordering_then o (ordering_then (nat_cmp p.top p.top) (nat_cmp p.depth p.depth))) (tied_itself nat_list_cmp_total p.segment.bytes)
-    ∙ ap (λ (o : Ordering). ordering_then o (nat_cmp p.depth p.depth)) (tied_itself nat_cmp_total p.top)
+itself p = ap is_eq (ap (λ (o : Ordering). ordering_then o (ordering_then (segment_order p.segment p.segment) (nat_cmp p.depth p.depth))) (tied_itself nat_cmp_total p.top)
+    ∙ ap (λ (o : Ordering). ordering_then o (nat_cmp p.depth p.depth)) (tied_itself nat_list_cmp_total p.segment.bytes)
     ∙ tied_itself nat_cmp_total p.depth)
 
 module _ (paths : List Path) (distinct : AreDistinct paths) (step : Step) (there : step.parent < length paths) (new : path_number paths (path_of paths step) ≡ None) where

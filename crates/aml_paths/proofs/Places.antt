@@ -27,8 +27,8 @@ place_at segment top depth = record { segment = segment; top = top; depth = dept
 -- places of one segment on one chain stand in the order of their depths
 places_ordered : (s : NameSeg) (t a b : ℕ) → place_order (place_at s t a) (place_at s t b) ≡ nat_cmp a b
 places_ordered s t a b =
-    ap (λ (o : Ordering). ordering_then o (ordering_then (nat_cmp t t) (nat_cmp a b))) (tied_itself nat_list_cmp_total s.bytes)
-    ∙ ap (λ (o : Ordering). ordering_then o (nat_cmp a b)) (tied_itself nat_cmp_total t)
+    ap (λ (o : Ordering). ordering_then o (ordering_then (segment_order s s) (nat_cmp a b))) (tied_itself nat_cmp_total t)
+    ∙ ap (λ (o : Ordering). ordering_then o (nat_cmp a b)) (tied_itself nat_list_cmp_total s.bytes)
 
 pub places_forward : (s : NameSeg) (t a b : ℕ) → a ≤ b → IsLeBy place_order (place_at s t a) (place_at s t b)
 places_forward s t a b le = ap is_gt (places_ordered s t a b) ∙ grind (arith, nat_tests)
@@ -45,28 +45,28 @@ tied a b e = grind (arith, nat_tests)
 
 -- what is between two places of one segment on one chain is of that segment and on that chain
 module _ (s : NameSeg) (t a b : ℕ) (place : Place) (first : IsLeBy place_order (place_at s t a) place) (last : IsLeBy place_order place (place_at s t b)) where
-  abbrev on : ℕ → ℕ → ℕ → ℕ → Ordering
-  on x y d e = ordering_then (nat_cmp x y) (nat_cmp d e)
+  abbrev on : NameSeg → NameSeg → ℕ → ℕ → Ordering
+  on x y d e = ordering_then (segment_order x y) (nat_cmp d e)
 
-  segments : segment_order s place.segment ≡ Equal
-  segments = alike_by (segment_order s place.segment) (segment_order place.segment s) (on t place.top a place.depth) (on place.top t place.depth b)
-      (nat_list_cmp_total.antisymm s.bytes place.segment.bytes) first last
+  chains : nat_cmp t place.top ≡ Equal
+  chains = alike_by (nat_cmp t place.top) (nat_cmp place.top t) (on s place.segment a place.depth) (on place.segment s place.depth b)
+      (nat_cmp_total.antisymm t place.top) first last
 
-  segments_back : segment_order place.segment s ≡ Equal
-  segments_back = alike_by (segment_order place.segment s) (segment_order s place.segment) (on place.top t place.depth b) (on t place.top a place.depth)
-      (nat_list_cmp_total.antisymm place.segment.bytes s.bytes) last first
+  chains_back : nat_cmp place.top t ≡ Equal
+  chains_back = alike_by (nat_cmp place.top t) (nat_cmp t place.top) (on place.segment s place.depth b) (on s place.segment a place.depth)
+      (nat_cmp_total.antisymm place.top t) last first
+
+  one_chain : t ≡ place.top
+  one_chain = tied t place.top (ap is_eq chains)
 
   one_segment : s ≡ place.segment
   one_segment =
-      let bytes = (bytes_decides s.bytes place.segment.bytes).0 (texts_ties s.bytes place.segment.bytes ∙ ap is_eq segments) in
+      let up = sym (ap (λ (o : Ordering). is_gt (ordering_then o (on s place.segment a place.depth))) chains) ∙ first in
+      let down = sym (ap (λ (o : Ordering). is_gt (ordering_then o (on place.segment s place.depth b))) chains_back) ∙ last in
+      let equal = alike_by (segment_order s place.segment) (segment_order place.segment s) (nat_cmp a place.depth) (nat_cmp place.depth b)
+          (nat_list_cmp_total.antisymm s.bytes place.segment.bytes) up down in
+      let bytes = (bytes_decides s.bytes place.segment.bytes).0 (texts_ties s.bytes place.segment.bytes ∙ ap is_eq equal) in
       λ i. record { bytes = bytes i }
-
-  one_chain : t ≡ place.top
-  one_chain =
-      let up = sym (ap (λ (o : Ordering). is_gt (ordering_then o (on t place.top a place.depth))) segments) ∙ first in
-      let down = sym (ap (λ (o : Ordering). is_gt (ordering_then o (on place.top t place.depth b))) segments_back) ∙ last in
-      let equal = alike_by (nat_cmp t place.top) (nat_cmp place.top t) (nat_cmp a place.depth) (nat_cmp place.depth b) (nat_cmp_total.antisymm t place.top) up down in
-      tied t place.top (ap is_eq equal)
 
   pub one_place : place ≡ place_at s t place.depth
   one_place = λ i. record { segment = sym one_segment i; top = sym one_chain i; depth = place.depth }
@@ -99,7 +99,7 @@ is_of_another place s t other one =
     absurd cc
 
 place_total : IsTotalOrder place_order
-place_total = then_total (on_total (λ (p : Place). p.segment.bytes) nat_list_cmp_total) (then_total (on_total (λ (p : Place). p.top) nat_cmp_total) (on_total (λ (p : Place). p.depth) nat_cmp_total))
+place_total = then_total (on_total (λ (p : Place). p.top) nat_cmp_total) (then_total (on_total (λ (p : Place). p.segment.bytes) nat_list_cmp_total) (on_total (λ (p : Place). p.depth) nat_cmp_total))
 
 behind_by : (o u : Ordering) → o ≡ ordering_reverse u → is_lt u ≡ false → is_gt o ≡ false
 behind_by o Less e past = absurd cc

@@ -10,9 +10,9 @@ use Rattle.aml_paths.specs.declared.paths.Step.{Step}
 use Rattle.aml_paths.specs.Chains.{AreChained, number_below_chain, spots_of}
 use Rattle.aml_paths.specs.Paths.{Path, root, path_at, AreDistinct}
 
--- by the segment, and then by the chain and the depth
+-- by the chain, and then by the segment and the depth
 abbrev pub place_order : Place → Place → Ordering
-place_order a b = ordering_then (segment_order a.segment b.segment) (ordering_then (nat_cmp a.top b.top) (nat_cmp a.depth b.depth))
+place_order a b = ordering_then (nat_cmp a.top b.top) (ordering_then (segment_order a.segment b.segment) (nat_cmp a.depth b.depth))
 
 -- the path to which a step leads
 abbrev pub path_of : List Path → Step → Path

@@ -35,12 +35,13 @@ pub struct Step {
 }
 
 /// A segment below a path. In the order of places, those of one segment below the paths of one chain
-/// stand together by depth, so that one look-up searches a chain.
+/// stand together by depth, so that one look-up searches a chain. The chain comes first, since two
+/// numbers are compared sooner than two segments.
 #[derive(Clone, Copy, Debug, PartialEq, Eq, PartialOrd, Ord)]
 pub(crate) struct Place {
-    pub segment: NameSeg,
     /// The number of the first path on the chain.
     pub top: usize,
+    pub segment: NameSeg,
     /// How many segments the path on the chain has.
     pub depth: usize,
 }
