@@ -1,22 +1,14 @@
 -- An accepted method that gives a value takes no arguments.
-use Rattle.std.proofs.Common.{◌≡◌, ℕ, List, [], ◌∷◌, map, Option, Some, None, Ok, Err, refl, sym, ap, subst, ◌∙◌}
+use Rattle.std.proofs.Common.{◌≡◌, ℕ, List, [], ◌∷◌, Option, Some, None, refl, ap, ◌∙◌}
 use Rattle.std.proofs.lemmas.Option.{same_Some}
 use Rattle.std.proofs.lemmas.Bool.{eqb-true}
 use Rattle.std.specs.Option.{option_and_then}
-use Rattle.std.specs.Prelude.{Bool, true, false}
+use Rattle.std.specs.Prelude.{true}
 use Rattle.acpi_objects.specs.Gives.{gives_value}
-use Rattle.aml_bounds.specs.Chains.{is_short}
-use Rattle.aml_judged.specs.Bodies.{entry, judged_method}
-use Rattle.aml_judged.specs.Causes.{Refusal}
-use Rattle.aml_judged.specs.Judged as judged
-use Rattle.aml_judged.specs.Judged.{Judged, Goes, Stops}
-use Rattle.aml_judged.specs.Verdicts as judgement
-use Rattle.aml_judged.specs.Verdicts.{around_for, bounded, called_from, Judging, too_large, verdict_by, verdict_of}
-use Rattle.aml_kinds.specs.Kinds.{Kind, Shape}
+use Rattle.aml_kinds.specs.Kinds.{Shape}
 use Rattle.aml_known.specs.Views.{accepted_of, kinds_of}
 use Rattle.aml_known.specs.declared.accepted.Accepted.{Accepted}
 use Rattle.aml_known.specs.declared.known.Known.{Known}
-use Rattle.aml_meaning.specs.Within.{Callee}
 use Rattle.aml_methods.proofs.JudgingsThere.{judgings_are_there}
 use Rattle.aml_methods.specs.Judgings.{Told, arguments_of}
 use Rattle.aml_namespace.specs.Entries.{object_at}
@@ -28,32 +20,13 @@ use Rattle.aml_namespace.specs.declared.object.Object.{Object}
 use Rattle.aml_namespace.specs.declared.object.Object.TheVariants as object
 use Rattle.aml_shapes.specs.Numbers.{numbered}
 use Rattle.aml_verdict_laws.proofs.Known.{verdicts_are_there}
+use Rattle.aml_verify.proofs.Accepting.{by_callee}
 use Rattle.aml_verify.specs.Accepts.{are_of, takes}
 use Rattle.aml_verify.specs.Said.{verdict_at}
 use Rattle.aml_verify.specs.Verdicts.{IsChecked}
 use Rattle.aml_verify.specs.declared.checked.Checked.{Checked}
 use Rattle.aml_verify.specs.declared.verdict.Verdict.{Verdict}
 use Rattle.aml_verify.specs.declared.verdict.Verdict.TheVariants as verdict
-
--- a verdict has the kinds that its method's arguments have
-bounded_args : (b : Bool) (r : Refusal) (y x : judged.Accepted) → bounded b r y ≡ Ok x → x.args ≡ y.args
-bounded_args true r y x e = ap (args_in y) (sym e)
-  where
-    args_in : judged.Accepted → judgement.Verdict → List Kind
-    args_in d (Ok z) = z.args
-    args_in d (Err f) = d.args
-bounded_args false r y x e = absurd cc
-
-verdict_args : (short : Bool) (late : Refusal) (args : List Kind) (j : Judged (Unit {0})) (x : judged.Accepted) → verdict_of short late args j ≡ Ok x → x.args ≡ args
-verdict_args short late args (Goes u env out n) x e = bounded_args _ late _ x e
-verdict_args short late args (Stops r) x e = absurd cc
-
-by_callee : (all : Judging) (known : ℕ → Option judged.Accepted) (k : ℕ) (o : Option Callee) (x : judged.Accepted) → verdict_by all known k o ≡ Some (Ok x) → x.args ≡ all.args k
-by_callee all known k None x e = absurd cc
-by_callee all known k (Some m) x e =
-    let judgement_is = judged_method (around_for all known k m) m.opcode m.body (entry (all.args k)) in
-    verdict_args (is_short (called_from all) 64 k) (too_large all m) (all.args k) judgement_is x
-    (same_Some (verdict_of (is_short (called_from all) 64 k) (too_large all m) (all.args k) judgement_is) (Ok x) e)
 
 -- a method without arguments has none of any kind
 no_arguments : (ns : Shown) (told : Told) (k : ℕ) (m : Method) → m.args ≡ 0 → arguments_of ns told k m ≡ []

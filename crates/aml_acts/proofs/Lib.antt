@@ -12,3 +12,4 @@ pub mod Within
 pub mod Written
 pub mod Slept
 pub mod Stored
+pub mod Bodies

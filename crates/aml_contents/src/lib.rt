@@ -14,3 +14,4 @@ mod told;
 
 pub use bodies::{body_data, computed_size};
 pub use names::Names;
+pub use told::content_in;

@@ -56,8 +56,8 @@ fn sized_package_content(parts: &[Term]) -> Content
     }
 }
 
-/// What a term of data is, by its operator and its parts.
-pub(crate) fn content_in(op: Op, parts: &[Term]) -> Content
+/// What a term of data is, by its operator and its parts (ACPI 6.5, 19.6, Buffer and Package).
+pub fn content_in(op: Op, parts: &[Term]) -> Content
     ensures { result ≡ content_in op (views parts.now) }
 {
     match op {

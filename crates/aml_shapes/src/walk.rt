@@ -11,7 +11,7 @@ ghost use Rattle.aml_shapes.specs.Literals.{literal_kind};
 
 use crate::key::{Part, ShapeKey};
 use crate::numbering::Numbering;
-use crate::told::content_in;
+use aml_contents::content_in;
 use aml_known::{Known, ShapeNumber};
 use aml_namespace::{Content, Width};
 use aml_operators::{Op, Term, behind_first, literal_in};

@@ -83,7 +83,7 @@ verdict_args : (short : Bool) (late : Refusal) (args : List Kind) (j : Judged (U
 verdict_args short late args (Goes u env out n) x e = bounded_args _ late _ x e
 verdict_args short late args (Stops r) x e = absurd cc
 
-by_callee : (all : Judging) (known : ℕ → Option judged.Accepted) (k : ℕ) (o : Option Callee) (x : judged.Accepted) → verdict_by all known k o ≡ Some (Ok x) → x.args ≡ all.args k
+pub by_callee : (all : Judging) (known : ℕ → Option judged.Accepted) (k : ℕ) (o : Option Callee) (x : judged.Accepted) → verdict_by all known k o ≡ Some (Ok x) → x.args ≡ all.args k
 by_callee all known k None x e = absurd cc
 by_callee all known k (Some m) x e =
     let judgement_is = judged_method (around_for all known k m) m.opcode m.body (entry (all.args k)) in
