@@ -1,15 +1,5 @@
-pub mod Letters
 pub mod Elsewhere
-pub mod Outcomes
-pub mod Ruled
 pub mod Statements
-pub mod Stores
-pub mod Spots
-pub mod Grown
-pub mod Known
-pub mod OwnFields
-pub mod Within
-pub mod Written
 pub mod Slept
 pub mod Stored
 pub mod Bodies

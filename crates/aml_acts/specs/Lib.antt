@@ -1,6 +1,1 @@
-pub mod Tells
-pub mod Outcomes
-pub mod Stores
 pub mod Mutexes
-pub mod Standing
-pub mod Letters

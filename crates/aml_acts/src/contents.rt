@@ -9,12 +9,12 @@ ghost use Rattle.aml_meaning.specs.Owns.{define_field, define_own, set_own};
 ghost use Rattle.aml_meaning.specs.Parts.{set_name};
 ghost use Rattle.aml_meaning.specs.Runs.{Runs, content};
 ghost use Rattle.aml_machine.specs.Views.{made, now};
-ghost use Rattle.aml_acts.specs.Tells.{IsOrNoMemory, is_package, told, went};
+ghost use Rattle.aml_scene.specs.Tells.{IsOrNoMemory, is_package, told, went};
 
-use crate::halt::{Halt, Scene, fails};
 use aml_machine::Machine;
 use aml_meaning::{AmlCause, BufferPart};
 use aml_paths::{NoMemory, ObjectId};
+use aml_scene::halt::{Halt, Scene, fails};
 use aml_values::{Value, copy};
 use std::alloc::Global;
 

@@ -7,15 +7,15 @@ ghost use Rattle.aml_regions.specs.Events.{Event};
 ghost use Rattle.aml_meaning.specs.Definitions.{field_source, make_field};
 ghost use Rattle.aml_meaning.specs.Runs.{Runs};
 ghost use Rattle.aml_machine.specs.Views.{now};
-ghost use Rattle.aml_acts.specs.Tells.{itself, setting_in, told, went};
+ghost use Rattle.aml_scene.specs.Tells.{itself, setting_in, told, went};
 
 use crate::contents;
-use crate::halt::{Halt, Scene, fails};
-use crate::own::link_of;
 use aml_fields::made_part;
 use aml_machine::Machine;
 use aml_meaning::AmlCause;
 use aml_namespace::{BufferFieldSize, Link};
+use aml_scene::halt::{Halt, Scene, fails};
+use aml_scene::own::link_of;
 use std::alloc::Global;
 
 /// What a field is made of, by what its source's name means: a data name, also an own one that is no

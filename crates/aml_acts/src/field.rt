@@ -12,16 +12,16 @@ ghost use Rattle.aml_meaning.specs.Meaning.{bits_stored, field_read, field_store
 ghost use Rattle.aml_meaning.specs.Reached.{field_numbered};
 ghost use Rattle.aml_meaning.specs.Runs.{Runs, ruled};
 ghost use Rattle.aml_machine.specs.Views.{now, value_of};
-ghost use Rattle.aml_acts.specs.Tells.{itself, place_in, setting_in, told, went};
+ghost use Rattle.aml_scene.specs.Tells.{itself, place_in, setting_in, told, went};
 
-use crate::halt::{Halt, Scene, fails};
-use crate::steps::take_step;
 use aml_fields::{BitBytes, Bits, field_in, read_count, read_field, write_count, write_field};
 use aml_machine::Machine;
 use aml_meaning::AmlCause;
 use aml_namespace::{Namespace, Object, Width};
 use aml_paths::ObjectId;
 use aml_regions::{AnyField, World};
+use aml_scene::halt::{Halt, Scene, fails};
+use aml_scene::steps::take_step;
 use aml_values::Value;
 use std::alloc::Global;
 

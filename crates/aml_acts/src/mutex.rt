@@ -7,15 +7,15 @@ ghost use Rattle.aml_meaning.specs.Mutexes.{acquire, none_held, release};
 ghost use Rattle.aml_meaning.specs.Runs.{Runs};
 ghost use Rattle.aml_acts.specs.Mutexes.{acquired, released};
 ghost use Rattle.aml_machine.specs.Views.{now, value_of};
-ghost use Rattle.aml_acts.specs.Tells.{itself, setting_in, told, went};
+ghost use Rattle.aml_scene.specs.Tells.{itself, setting_in, told, went};
 
-use crate::halt::{Halt, Scene, fails};
-use crate::own::link_of;
-use crate::steps::take_step;
 use aml_machine::Machine;
 use aml_meaning::{Action, AmlCause, TakenMutex};
 use aml_namespace::{Link, Object};
 use aml_paths::ObjectId;
+use aml_scene::halt::{Halt, Scene, fails};
+use aml_scene::own::link_of;
+use aml_scene::steps::take_step;
 use aml_values::Value;
 
 /// The mutex that an object with a number is, named at a place. A2 there where it is none; A6 at the

@@ -8,16 +8,16 @@ ghost use Rattle.aml_meaning.specs.Notices.{is_notifiable, notice, paused};
 ghost use Rattle.aml_meaning.specs.Parts.{make_event, sleep};
 ghost use Rattle.aml_meaning.specs.Runs.{Runs, ruled};
 ghost use Rattle.aml_machine.specs.Views.{now};
-ghost use Rattle.aml_acts.specs.Tells.{itself, place_in, setting_in, told, went};
+ghost use Rattle.aml_scene.specs.Tells.{itself, place_in, setting_in, told, went};
 
-use crate::halt::{Halt, Scene, fails};
-use crate::own::link_of;
-use crate::steps::take_step;
 use aml_machine::Machine;
 use aml_meaning::{Action, AmlCause, Pause};
 use aml_namespace::{Link, Object};
 use aml_paths::ObjectId;
 use aml_regions::World;
+use aml_scene::halt::{Halt, Scene, fails};
+use aml_scene::own::link_of;
+use aml_scene::steps::take_step;
 
 /// Whether an object can be notified.
 fn is_notifiable(object: Option<Object>) -> bool

@@ -8,19 +8,19 @@ ghost use Rattle.aml_meaning.specs.declared.action.Action.TheVariants as does;
 ghost use Rattle.aml_meaning.specs.Meaning.{act, asked, changed_in_place, is_there, measured, named_seen, sizeless, takes_operand, untargeted};
 ghost use Rattle.aml_meaning.specs.Runs.{Runs};
 ghost use Rattle.aml_machine.specs.Views.{now, value_of};
-ghost use Rattle.aml_acts.specs.Tells.{setting_in, told, went};
+ghost use Rattle.aml_scene.specs.Tells.{setting_in, told, went};
 
 use crate::contents;
-use crate::halt::{Halt, Scene, fails};
-use crate::own::link_of;
 use crate::own_name::own_seen;
-use crate::rules::sized;
 use crate::slots::{held, seen};
-use crate::steps::take_step;
 use aml_machine::Machine;
 use aml_meaning::{Action, AmlCause};
 use aml_namespace::Link;
 use aml_rules::truth;
+use aml_scene::halt::{Halt, Scene, fails};
+use aml_scene::own::link_of;
+use aml_scene::rules::sized;
+use aml_scene::steps::take_step;
 use aml_values::Value;
 use std::alloc::Global;
 

@@ -6,14 +6,14 @@ ghost use Rattle.aml_regions.specs.Events.{Event};
 ghost use Rattle.aml_meaning.specs.Meaning.{own_held, own_seen, own_stored};
 ghost use Rattle.aml_meaning.specs.Runs.{Runs};
 ghost use Rattle.aml_machine.specs.Views.{now, value_of};
-ghost use Rattle.aml_acts.specs.Tells.{setting_in, told, went};
+ghost use Rattle.aml_scene.specs.Tells.{setting_in, told, went};
 
 use crate::contents;
-use crate::halt::{Halt, Scene, fails};
 use crate::part::{part_read, part_stored};
 use aml_fields::usable_part;
 use aml_machine::Machine;
 use aml_meaning::AmlCause;
+use aml_scene::halt::{Halt, Scene, fails};
 use aml_values::Value;
 use std::alloc::Global;
 

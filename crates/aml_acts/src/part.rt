@@ -15,17 +15,17 @@ ghost use Rattle.aml_meaning.specs.Changes.{change, held_by};
 ghost use Rattle.aml_meaning.specs.Meaning.{part_changed, part_read};
 ghost use Rattle.aml_meaning.specs.Runs.{Runs, ruled};
 ghost use Rattle.aml_machine.specs.Views.{names_of, now, value_of};
-ghost use Rattle.aml_acts.specs.Tells.{IsChanged, IsOrNoMemory, itself, place_in, setting_in, told, went};
+ghost use Rattle.aml_scene.specs.Tells.{IsChanged, IsOrNoMemory, itself, place_in, setting_in, told, went};
 
 use crate::field::takes_buffer;
-use crate::halt::{Halt, Scene, fails};
-use crate::steps::take_step;
 use aml_contents::Names;
 use aml_fields::{BitBytes, part_numbered, part_value};
 use aml_machine::{Machine, held_by, lies_in, put_bits};
 use aml_meaning::{AmlCause, BufferPart};
 use aml_namespace::Link;
 use aml_paths::ObjectId;
+use aml_scene::halt::{Halt, Scene, fails};
+use aml_scene::steps::take_step;
 use aml_values::Value;
 use std::alloc::Global;
 

@@ -4,10 +4,10 @@ ghost use Rattle.std.specs.Prelude.{◌≡◌, map, slice_get, Some};
 ghost use Rattle.aml_values.specs.Views.{view};
 ghost use Rattle.aml_meaning.specs.Runs.{content};
 ghost use Rattle.aml_machine.specs.Views.{value_of};
-ghost use Rattle.aml_acts.specs.Tells.{IsOrNoMemory, told};
+ghost use Rattle.aml_scene.specs.Tells.{IsOrNoMemory, told};
 
-use crate::halt::{Halt, Scene, fails};
 use aml_meaning::AmlCause;
+use aml_scene::halt::{Halt, Scene, fails};
 use aml_values::{Value, copy};
 use std::alloc::Global;
 

@@ -5,19 +5,19 @@ ghost use Rattle.aml_values.specs.Views as values;
 ghost use Rattle.aml_meaning.specs.Meaning.{named, named_target, put, unwritable};
 ghost use Rattle.aml_meaning.specs.Runs.{Runs};
 ghost use Rattle.aml_machine.specs.Views.{now, value_of};
-ghost use Rattle.aml_acts.specs.Tells.{setting_in, told, went};
+ghost use Rattle.aml_scene.specs.Tells.{setting_in, told, went};
 
 use crate::contents;
 use crate::field::{field_read, field_stored};
-use crate::halt::{Halt, Scene, fails};
-use crate::own::link_of;
 use crate::own_name::{own_held, own_stored};
 use crate::part::{named_part, part_read, part_stored};
-use crate::steps::take_step;
 use aml_machine::Machine;
 use aml_meaning::{Action, AmlCause};
 use aml_namespace::Link;
 use aml_regions::World;
+use aml_scene::halt::{Halt, Scene, fails};
+use aml_scene::own::link_of;
+use aml_scene::steps::take_step;
 use aml_values::Value;
 use std::alloc::Global;
 

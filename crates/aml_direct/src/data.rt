@@ -9,10 +9,10 @@ ghost use Rattle.aml_direct.specs.Tells.{Acts, count_of};
 
 use crate::computed::computed_at;
 use crate::here::Here;
-use aml_acts::halt::{Halt, fails};
 use aml_literals::data_value;
 use aml_meaning::AmlCause;
 use aml_operators::Op;
+use aml_scene::halt::{Halt, fails};
 use aml_values::Value;
 use std::alloc::Global;
 

@@ -6,14 +6,14 @@ ghost use Rattle.aml_regions.specs.Events.{Event};
 ghost use Rattle.aml_meaning.specs.Meaning.{indexed};
 ghost use Rattle.aml_meaning.specs.Runs.{Runs};
 ghost use Rattle.aml_machine.specs.Views.{now};
-ghost use Rattle.aml_acts.specs.Tells.{itself, told};
+ghost use Rattle.aml_scene.specs.Tells.{itself, told};
 ghost use Rattle.aml_direct.specs.Tells.{count_of, setting_of};
 
 use crate::here::Here;
-use aml_acts::halt::Halt;
-use aml_acts::index::{bound, refused};
 use aml_machine::Machine;
 use aml_meaning::{Action, AmlCause};
+use aml_scene::halt::Halt;
+use aml_scene::index::{bound, refused};
 use aml_tree::op_at;
 
 /// The place of the name that a written Index is of, alone or with arguments, which are not

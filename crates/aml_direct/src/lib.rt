@@ -4,7 +4,8 @@
 //! Rooms: `body` is an evaluation's beginning and end, `eval` the cycle over terms, each function one form
 //! of the meaning; `here` where a body stands and what may be called; `kept_in` what is kept of a method's
 //! body; what reads terms beside the cycle are `computed`, `data`, `define`, `index`, `mutex`, `operand`,
-//! `past`, `placed`, `quiet` and `standing`. What terms do once their operands are values is aml_acts.
+//! `past`, `placed`, `quiet` and `standing`. What terms do once their operands are values is
+//! aml_scene and aml_acts.
 #![tactic(auto)]
 
 mod body;

@@ -5,15 +5,15 @@ ghost use Rattle.aml_regions.specs.Events.{Event};
 ghost use Rattle.aml_meaning.specs.declared.action.Action.TheVariants as does;
 ghost use Rattle.aml_machine.specs.Views.{now};
 ghost use Rattle.aml_places.specs.Lies.{StandParts};
-ghost use Rattle.aml_acts.specs.Letters.{name_and_word, one_name};
+ghost use Rattle.aml_scene.specs.Letters.{name_and_word, one_name};
 ghost use Rattle.aml_direct.specs.Tells.{Acts, count_of};
 
 use crate::here::Here;
-use aml_acts::halt::Halt;
 use aml_acts::mutex::{acquired, released};
 use aml_machine::Machine;
 use aml_meaning::action_of;
 use aml_places::target_at;
+use aml_scene::halt::Halt;
 use aml_values::Value;
 
 /// A mutex is taken: Zero.

@@ -9,17 +9,15 @@ ghost use Rattle.aml_meaning.specs.Actions.{action};
 ghost use Rattle.aml_meaning.specs.declared.action.Action.TheVariants as does;
 ghost use Rattle.aml_meaning.specs.Meaning.{given, value};
 ghost use Rattle.aml_machine.specs.Views.{now, value_of};
-ghost use Rattle.aml_acts.specs.Letters.{name_and_target, one_name};
+ghost use Rattle.aml_scene.specs.Letters.{name_and_target, one_name};
 ghost use Rattle.aml_places.specs.Lies.{LiesTarget, StandParts, Stands};
-ghost use Rattle.aml_acts.specs.Tells.{told};
+ghost use Rattle.aml_scene.specs.Tells.{told};
 ghost use Rattle.aml_values.specs.Views as values;
 ghost use Rattle.aml_meaning.specs.Runs.{Runs};
 ghost use Rattle.aml_direct.specs.Tells.{Acts, count_of, setting_of};
 
 use crate::here::Here;
-use aml_acts::halt::{Halt, fails, want};
 use aml_acts::operand::{argument, asked, local, measured};
-use aml_acts::steps::take_step;
 use aml_acts::target::named;
 use aml_literals::literal_number;
 use aml_machine::Machine;
@@ -27,6 +25,8 @@ use aml_meaning::{Action, AmlCause, action_of};
 use aml_operators::Op;
 use aml_places::target_at;
 use aml_regions::World;
+use aml_scene::halt::{Halt, fails, want};
+use aml_scene::steps::take_step;
 use aml_values::Value;
 use std::alloc::Global;
 

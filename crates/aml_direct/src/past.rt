@@ -11,14 +11,14 @@ ghost use Rattle.aml_places.specs.Lies.{Lies, LieArguments, LieParts, StandParts
 ghost use Rattle.aml_direct.specs.Past.{PieceLies, StandArguments};
 ghost use Rattle.aml_direct.specs.Tells.{count_of};
 
-use aml_acts::own::link_of;
-use aml_acts::scene::Scene;
 use aml_counts::count;
 use aml_lex::{pkg_length, string_data};
 use aml_namespace::Link;
 use aml_operators::{Code, Letter, Naming, Piece, Spot, naming_of, row_of};
 use aml_paths::NoMemory;
 use aml_places::{name_end, package, past_else};
+use aml_scene::own::link_of;
+use aml_scene::scene::Scene;
 use aml_tree::op_at;
 
 /// The place behind the term that stands at a place of some sort.

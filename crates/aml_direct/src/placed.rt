@@ -1,12 +1,12 @@
 // Answers with places.
 
 ghost use Rattle.aml_direct.specs.Tells.{Did, behind_it, given, itself, nothing};
-ghost use Rattle.aml_acts.specs.Stores.{dropped};
-ghost use Rattle.aml_acts.specs.Tells.{told};
+ghost use Rattle.aml_scene.specs.Stores.{dropped};
+ghost use Rattle.aml_scene.specs.Tells.{told};
 ghost use Rattle.aml_machine.specs.Views.{value_of};
 ghost use Rattle.aml_meaning.specs.Runs.{Runs};
 
-use aml_acts::halt::Halt;
+use aml_scene::halt::Halt;
 use aml_values::Value;
 
 /// The place behind a term whose value is dropped.

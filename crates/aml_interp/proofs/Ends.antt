@@ -1,6 +1,6 @@
 -- How an evaluation that ends well is answered.
 use Rattle.std.proofs.Common.{◌≡◌, ℕ, List, Option, Some, None, Result, Ok, Err, sym, ap, ◌∙◌, subst, zero-le, arith}
-use Rattle.aml_acts.specs.Outcomes.{EvaluatesBody, IsTold, Leaves, Tells}
+use Rattle.aml_scene.specs.Outcomes.{EvaluatesBody, IsTold, Leaves, Tells}
 use Rattle.aml_contents.specs.Contents.{ContentKinds}
 use Rattle.aml_contents.specs.FirstContents.{first_kinds}
 use Rattle.aml_interp.specs.Headline.{EndsWell, IsDoneWell}

@@ -7,13 +7,13 @@ ghost use Rattle.aml_meaning.specs.Meaning.{act};
 ghost use Rattle.aml_meaning.specs.Runs.{Runs};
 ghost use Rattle.aml_machine.specs.Views.{value_of};
 ghost use Rattle.aml_plain.specs.Tells.{setting_of};
-ghost use Rattle.aml_acts.specs.Tells.{told};
+ghost use Rattle.aml_scene.specs.Tells.{told};
 
 use crate::setting::Setting;
-use aml_acts::halt::{Halt, fails};
 use aml_contents::{body_data, computed_size};
 use aml_meaning::AmlCause;
 use aml_operators::{Op, Term};
+use aml_scene::halt::{Halt, fails};
 use aml_values::Value;
 use std::alloc::Global;
 

@@ -7,20 +7,20 @@ ghost use Rattle.aml_meaning.specs.declared.definition.Definition.TheVariants as
 ghost use Rattle.aml_meaning.specs.Definitions.{defined, source_of};
 ghost use Rattle.aml_meaning.specs.Runs.{Runs};
 ghost use Rattle.aml_machine.specs.Views.{now};
-ghost use Rattle.aml_acts.specs.Letters.{HasParts, counted_field, sized_field};
-ghost use Rattle.aml_acts.specs.Tells.{went};
+ghost use Rattle.aml_scene.specs.Letters.{HasParts, counted_field, sized_field};
+ghost use Rattle.aml_scene.specs.Tells.{went};
 ghost use Rattle.aml_plain.specs.Tells.{setting_of};
 
 use crate::form::first_place_if_any;
 use crate::setting::Setting;
 use aml_acts::define::{counted, make_field};
-use aml_acts::halt::{Halt, fails};
-use aml_acts::own::makes_own;
-use aml_acts::steps::take_step;
 use aml_machine::Machine;
 use aml_meaning::{Action, AmlCause, action_of};
 use aml_namespace::BufferFieldSize;
 use aml_operators::{Term, four, literal_of, three};
+use aml_scene::halt::{Halt, fails};
+use aml_scene::own::makes_own;
+use aml_scene::steps::take_step;
 use std::alloc::Global;
 
 /// The place of the name that the source of a field is, where it is one.

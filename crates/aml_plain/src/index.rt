@@ -10,15 +10,15 @@ ghost use Rattle.aml_meaning.specs.Meaning.{indexed, name_indexed};
 ghost use Rattle.aml_meaning.specs.Actions.{action};
 ghost use Rattle.aml_meaning.specs.Runs.{Runs};
 ghost use Rattle.aml_machine.specs.Views.{now};
-ghost use Rattle.aml_acts.specs.Tells.{itself, told};
+ghost use Rattle.aml_scene.specs.Tells.{itself, told};
 ghost use Rattle.aml_plain.specs.Tells.{setting_of};
 
 use crate::setting::Setting;
-use aml_acts::halt::Halt;
-use aml_acts::index::{bound, refused};
 use aml_machine::Machine;
 use aml_meaning::{Action, AmlCause, action_of};
 use aml_operators::{Term, first_and_rest};
+use aml_scene::halt::Halt;
+use aml_scene::index::{bound, refused};
 
 /// The place of the name that a written Index is of, alone or with arguments, which are not
 /// evaluated. A6 at the Index, with a step, where it is of no name.

@@ -4,7 +4,7 @@
 //! function one form of the meaning; `setting` where a body stands and what may be called; `callee` the
 //! body of a method that is called; what reads terms beside the cycle are `form`, `data`, `define`,
 //! `index`, `mutex`, `operand`, `standing` and `quiet`. What terms do once their operands are values is
-//! aml_acts.
+//! aml_scene and aml_acts.
 #![tactic(auto)]
 
 mod body;

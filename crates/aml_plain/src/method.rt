@@ -12,13 +12,13 @@ ghost use Rattle.aml_machine.specs.Views.{names_of};
 
 use crate::body::evaluate_body;
 use crate::setting::Setting;
-use aml_acts::scene::Scene;
 use aml_bodies::{Bodies, prepare_body};
 use aml_contents::Names;
 use aml_meaning::Outcome;
 use aml_namespace::Namespace;
 use aml_paths::{NoMemory, ObjectId};
 use aml_regions::World;
+use aml_scene::scene::Scene;
 use aml_tree::{Term, TreeFault};
 use aml_values::Value;
 use std::alloc::Global;

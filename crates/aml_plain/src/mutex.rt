@@ -7,16 +7,16 @@ ghost use Rattle.aml_meaning.specs.declared.action.Action.TheVariants as does;
 ghost use Rattle.aml_meaning.specs.Meaning.{act};
 ghost use Rattle.aml_meaning.specs.Runs.{Runs};
 ghost use Rattle.aml_machine.specs.Views.{now, value_of};
-ghost use Rattle.aml_acts.specs.Letters.{HasParts, name_and_word, one_name};
-ghost use Rattle.aml_acts.specs.Tells.{told};
+ghost use Rattle.aml_scene.specs.Letters.{HasParts, name_and_word, one_name};
+ghost use Rattle.aml_scene.specs.Tells.{told};
 ghost use Rattle.aml_plain.specs.Tells.{setting_of};
 
 use crate::setting::Setting;
-use aml_acts::halt::Halt;
 use aml_acts::mutex::{acquired, released};
 use aml_machine::Machine;
 use aml_meaning::action_of;
 use aml_operators::{Term, one, two};
+use aml_scene::halt::Halt;
 use aml_values::Value;
 
 /// A mutex is taken: Zero.

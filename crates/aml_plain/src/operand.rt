@@ -8,17 +8,17 @@ ghost use Rattle.aml_meaning.specs.declared.action.Action.TheVariants as does;
 ghost use Rattle.aml_meaning.specs.Meaning.{act};
 ghost use Rattle.aml_meaning.specs.Runs.{Runs};
 ghost use Rattle.aml_machine.specs.Views.{now, value_of};
-ghost use Rattle.aml_acts.specs.Letters.{HasParts, name_and_target, one_name};
-ghost use Rattle.aml_acts.specs.Tells.{told};
+ghost use Rattle.aml_scene.specs.Letters.{HasParts, name_and_target, one_name};
+ghost use Rattle.aml_scene.specs.Tells.{told};
 ghost use Rattle.aml_plain.specs.Tells.{setting_of};
 
 use crate::form::number_of_literal;
 use crate::setting::Setting;
-use aml_acts::halt::Halt;
 use aml_acts::operand::{asked, measured};
 use aml_machine::Machine;
 use aml_meaning::action_of;
 use aml_operators::{Op, Term, one, two};
+use aml_scene::halt::Halt;
 use aml_values::Value;
 
 /// A literal's value.

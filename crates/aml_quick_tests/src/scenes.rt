@@ -1,7 +1,6 @@
 // A body of its own bytes, in the namespace of a table without names.
 
 use acpi_samples::{HOST, table_of};
-use aml_acts::scene::Scene;
 use aml_bodies::Links;
 use aml_contents::Names;
 use aml_machine::{Arguments, Frame, Machine};
@@ -9,6 +8,7 @@ use aml_namespace::{LoadFault, Namespace, Width};
 use aml_own_names::OwnNames;
 use aml_paths::{NoMemory, ObjectId};
 use aml_quick::{Made, integer_statement, integer_term, put_integer};
+use aml_scene::scene::Scene;
 use aml_values::{Element, Package, Value};
 use std::alloc::{AllocError, Global};
 

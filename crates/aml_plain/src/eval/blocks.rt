@@ -10,19 +10,19 @@ ghost use Rattle.aml_meaning.specs.Meaning.{mean_all, tested, value};
 ghost use Rattle.aml_meaning.specs.Definitions.{statement};
 ghost use Rattle.aml_meaning.specs.Loops.{loop};
 ghost use Rattle.aml_meaning.specs.Runs.{Runs};
-ghost use Rattle.aml_acts.specs.Letters.{HasParts, branch, test_and_statements};
+ghost use Rattle.aml_scene.specs.Letters.{HasParts, branch, test_and_statements};
 ghost use Rattle.aml_machine.specs.Views.{now};
 ghost use Rattle.aml_plain.specs.Tells.{Acts, setting_of};
-ghost use Rattle.aml_acts.specs.Tells.{place_in, went};
+ghost use Rattle.aml_scene.specs.Tells.{place_in, went};
 
 use crate::eval::terms::{run, test};
 use crate::form::branches;
 use crate::operand::condition;
 use crate::setting::Setting;
-use aml_acts::halt::Halt;
 use aml_machine::Machine;
 use aml_operators::{Term, first_and_rest};
 use aml_regions::World;
+use aml_scene::halt::Halt;
 use aml_values::Value;
 use std::alloc::Global;
 

@@ -4,7 +4,7 @@ use Rattle.aml_meaning.proofs.Runs.{runs_set_name, runs_set_name_spent, runs_set
 use Rattle.aml_acts.proofs.Statements.{never_stored, of_err, of_ok, stored_as_held}
 use Rattle.aml_values.specs.Views.{view}
 use Rattle.aml_machine.specs.Views.{names_of}
-use Rattle.aml_acts.specs.Tells.{is_package}
+use Rattle.aml_scene.specs.Tells.{is_package}
 use Rattle.aml_acts.proofs.contents.set_name.Goals as goal
 
 pub returns-then-machine-eq0-clause-means : goal.returns-then-machine-eq0-clause-means

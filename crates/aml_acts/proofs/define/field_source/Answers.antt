@@ -1,8 +1,8 @@
 use Rattle.std.proofs.Common.{None}
 use Rattle.aml_meaning.proofs.Runs.{runs_give, runs_stop_with, runs_then}
 use Rattle.aml_machine.specs.Views.{now}
-use Rattle.aml_acts.specs.Tells.{setting_in}
-use Rattle.aml_acts.proofs.OwnFields.{runs_found, source_elsewhere}
+use Rattle.aml_scene.specs.Tells.{setting_in}
+use Rattle.aml_scene.proofs.OwnFields.{runs_found, source_elsewhere}
 use Rattle.aml_acts.proofs.define.field_source.Goals as goal
 
 pub returns-in-Data : goal.returns-in-Data

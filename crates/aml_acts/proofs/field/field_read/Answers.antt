@@ -1,6 +1,6 @@
 use Rattle.std.proofs.lemmas.Result.{err_from_is_err_and}
 use Rattle.aml_meaning.proofs.Runs.{runs_give, runs_stop, runs_then}
-use Rattle.aml_acts.proofs.Ruled.{runs_rule}
+use Rattle.aml_scene.proofs.Ruled.{runs_rule}
 use Rattle.aml_acts.proofs.field.field_read.Goals as goal
 
 pub returns-in_err-field-clause-means : goal.returns-in_err-field-clause-means

@@ -1,8 +1,8 @@
 use Rattle.std.proofs.lemmas.Result.{err_from_is_err_and}
 use Rattle.aml_meaning.proofs.Runs.{runs_give, runs_stop, runs_stop_with, runs_then}
-use Rattle.aml_acts.proofs.Ruled.{runs_rule}
+use Rattle.aml_scene.proofs.Ruled.{runs_rule}
 use Rattle.aml_acts.proofs.Stored.{none_taken}
-use Rattle.aml_acts.specs.Tells.{setting_in}
+use Rattle.aml_scene.specs.Tells.{setting_in}
 use Rattle.aml_acts.proofs.field.field_stored.Goals as goal
 
 pub returns-in_err-take_step-clause-means : goal.returns-in_err-take_step-clause-means

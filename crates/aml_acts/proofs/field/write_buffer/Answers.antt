@@ -1,6 +1,6 @@
 use Rattle.aml_meaning.proofs.Runs.{runs_give, runs_stop, runs_stop_with, runs_then}
 use Rattle.aml_acts.proofs.Stored.{buffer_refused, buffer_taken}
-use Rattle.aml_acts.specs.Tells.{setting_in}
+use Rattle.aml_scene.specs.Tells.{setting_in}
 use Rattle.aml_acts.proofs.field.write_buffer.Goals as goal
 
 pub returns-then-not-takes_buffer-clause-means : goal.returns-then-not-takes_buffer-clause-means

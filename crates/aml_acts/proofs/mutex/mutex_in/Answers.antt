@@ -1,6 +1,6 @@
 use Rattle.aml_meaning.proofs.Runs.{runs_give, runs_stop_with}
 use Rattle.aml_acts.proofs.Elsewhere.{no_mutex}
-use Rattle.aml_acts.specs.Tells.{setting_in}
+use Rattle.aml_scene.specs.Tells.{setting_in}
 use Rattle.aml_acts.proofs.mutex.mutex_in.Goals as goal
 
 pub returns-in-Mutex : goal.returns-in-Mutex

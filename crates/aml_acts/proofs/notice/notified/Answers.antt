@@ -1,7 +1,7 @@
 use Rattle.std.proofs.lemmas.Result.{err_from_is_err_and}
 use Rattle.aml_meaning.proofs.Runs.{runs_give, runs_stop, runs_stop_with, runs_then}
 use Rattle.aml_acts.proofs.Elsewhere.{notified_elsewhere}
-use Rattle.aml_acts.specs.Tells.{setting_in}
+use Rattle.aml_scene.specs.Tells.{setting_in}
 use Rattle.aml_acts.proofs.notice.notified.Goals as goal
 
 pub returns-in-Name-clause-means : goal.returns-in-Name-clause-means

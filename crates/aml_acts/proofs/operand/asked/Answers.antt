@@ -1,6 +1,6 @@
 use Rattle.aml_meaning.proofs.Runs.{runs_stop_with}
 use Rattle.aml_acts.proofs.Elsewhere.{asked_elsewhere}
-use Rattle.aml_acts.specs.Tells.{setting_in}
+use Rattle.aml_scene.specs.Tells.{setting_in}
 use Rattle.aml_acts.proofs.operand.asked.Goals as goal
 
 pub returns-in-Name : goal.returns-in-Name

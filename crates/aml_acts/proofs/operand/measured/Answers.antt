@@ -1,8 +1,8 @@
 use Rattle.std.proofs.lemmas.Result.{err_from_is_err_and}
 use Rattle.aml_meaning.proofs.Runs.{runs_then, runs_stop, runs_get_local, runs_get_arg, runs_stop_with}
 use Rattle.aml_acts.proofs.Elsewhere.{not_seen}
-use Rattle.aml_acts.proofs.Ruled.{runs_as, runs_rule}
-use Rattle.aml_acts.specs.Tells.{setting_in}
+use Rattle.aml_scene.proofs.Ruled.{runs_as, runs_rule}
+use Rattle.aml_scene.specs.Tells.{setting_in}
 use Rattle.aml_acts.proofs.operand.measured.Goals as goal
 
 pub returns-in_err-held-in-Local-clause-means : goal.returns-in_err-held-in-Local-clause-means

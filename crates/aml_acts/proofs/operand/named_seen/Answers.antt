@@ -1,8 +1,8 @@
 use Rattle.aml_meaning.proofs.Runs.{runs_get_name, runs_stop_with}
 use Rattle.aml_acts.proofs.Elsewhere.{seen_elsewhere}
-use Rattle.aml_acts.proofs.Ruled.{runs_as}
+use Rattle.aml_scene.proofs.Ruled.{runs_as}
 use Rattle.aml_machine.specs.Views.{now}
-use Rattle.aml_acts.specs.Tells.{setting_in}
+use Rattle.aml_scene.specs.Tells.{setting_in}
 use Rattle.aml_acts.proofs.operand.named_seen.Goals as goal
 
 pub returns-in-Data : goal.returns-in-Data

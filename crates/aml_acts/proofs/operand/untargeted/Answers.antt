@@ -1,6 +1,6 @@
 use Rattle.aml_meaning.proofs.Runs.{runs_give, runs_stop_with}
 use Rattle.aml_acts.proofs.Elsewhere.{targeted}
-use Rattle.aml_acts.specs.Tells.{setting_in}
+use Rattle.aml_scene.specs.Tells.{setting_in}
 use Rattle.aml_acts.proofs.operand.untargeted.Goals as goal
 
 pub returns-in-NoTarget : goal.returns-in-NoTarget

@@ -3,8 +3,8 @@ use Rattle.std.proofs.lemmas.Result.{err_from_is_err_and}
 use Rattle.aml_meaning.proofs.Owned.{runs_get_own}
 use Rattle.aml_meaning.proofs.Runs.{runs_give, runs_stop, runs_then}
 use Rattle.aml_machine.specs.Views.{now}
-use Rattle.aml_acts.proofs.OwnFields.{runs_found}
-use Rattle.aml_acts.proofs.Ruled.{runs_or_memory}
+use Rattle.aml_scene.proofs.OwnFields.{runs_found}
+use Rattle.aml_scene.proofs.Ruled.{runs_or_memory}
 use Rattle.aml_acts.proofs.own_name.own_held.Goals as goal
 
 pub returns-in-Some : goal.returns-in-Some

@@ -2,8 +2,8 @@ use Rattle.std.proofs.Common.{None}
 use Rattle.aml_meaning.proofs.Owned.{runs_get_own}
 use Rattle.aml_meaning.proofs.Runs.{runs_stop_with, runs_then}
 use Rattle.aml_machine.specs.Views.{now}
-use Rattle.aml_acts.proofs.OwnFields.{runs_found}
-use Rattle.aml_acts.proofs.Ruled.{runs_as}
+use Rattle.aml_scene.proofs.OwnFields.{runs_found}
+use Rattle.aml_scene.proofs.Ruled.{runs_as}
 use Rattle.aml_acts.proofs.own_name.own_seen.Goals as goal
 
 pub returns-in-Some : goal.returns-in-Some

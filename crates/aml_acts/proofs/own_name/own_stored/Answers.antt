@@ -1,7 +1,7 @@
 use Rattle.std.proofs.Common.{None}
 use Rattle.aml_meaning.proofs.Runs.{runs_then}
 use Rattle.aml_machine.specs.Views.{now}
-use Rattle.aml_acts.proofs.OwnFields.{runs_found}
+use Rattle.aml_scene.proofs.OwnFields.{runs_found}
 use Rattle.aml_acts.proofs.own_name.own_stored.Goals as goal
 
 pub returns-in-Some-clause-means : goal.returns-in-Some-clause-means

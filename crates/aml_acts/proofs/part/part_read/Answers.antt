@@ -1,7 +1,7 @@
 use Rattle.std.proofs.lemmas.Result.{err_from_is_err_and}
 use Rattle.aml_meaning.proofs.Changed.{runs_peek}
 use Rattle.aml_meaning.proofs.Runs.{runs_give, runs_stop, runs_then}
-use Rattle.aml_acts.proofs.Ruled.{runs_or_memory, runs_rule}
+use Rattle.aml_scene.proofs.Ruled.{runs_or_memory, runs_rule}
 use Rattle.aml_acts.proofs.part.part_read.Goals as goal
 
 pub returns-in_err-part : goal.returns-in_err-part

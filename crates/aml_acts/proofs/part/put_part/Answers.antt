@@ -1,6 +1,6 @@
 use Rattle.std.proofs.Common.{arith, refl}
 use Rattle.aml_meaning.proofs.Changed.{runs_change_spent, runs_change_stop}
-use Rattle.aml_acts.proofs.Written.{changed_data, changed_own, none_held}
+use Rattle.aml_scene.proofs.Written.{changed_data, changed_own, none_held}
 use Rattle.aml_acts.proofs.part.put_part.Goals as goal
 
 pub returns-then-machine-eq0-clause-means : goal.returns-then-machine-eq0-clause-means

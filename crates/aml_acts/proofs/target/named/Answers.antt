@@ -1,8 +1,8 @@
 use Rattle.std.proofs.lemmas.Result.{err_from_is_err_and}
 use Rattle.aml_meaning.proofs.Runs.{runs_then, runs_stop, runs_give, runs_get_name, runs_stop_with}
 use Rattle.aml_acts.proofs.Elsewhere.{named_elsewhere}
-use Rattle.aml_acts.proofs.Ruled.{runs_or_memory}
-use Rattle.aml_acts.specs.Tells.{setting_in}
+use Rattle.aml_scene.proofs.Ruled.{runs_or_memory}
+use Rattle.aml_scene.specs.Tells.{setting_in}
 use Rattle.aml_acts.proofs.target.named.Goals as goal
 
 pub returns-in_err-content-in-Data-clause-means : goal.returns-in_err-content-in-Data-clause-means

@@ -2,7 +2,7 @@ use Rattle.std.proofs.lemmas.Result.{err_from_is_err_and}
 use Rattle.aml_values.specs.Views.{view}
 use Rattle.aml_meaning.proofs.Runs.{runs_then, runs_stop, runs_give, runs_set_local, runs_set_arg, runs_stop_with}
 use Rattle.aml_acts.proofs.Elsewhere.{put_elsewhere}
-use Rattle.aml_acts.specs.Tells.{setting_in}
+use Rattle.aml_scene.specs.Tells.{setting_in}
 use Rattle.aml_acts.proofs.target.put.Goals as goal
 
 pub returns-in-NoTarget-clause-means : goal.returns-in-NoTarget-clause-means

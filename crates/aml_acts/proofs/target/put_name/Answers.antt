@@ -1,7 +1,7 @@
 use Rattle.std.proofs.lemmas.Result.{err_from_is_err_and}
 use Rattle.aml_meaning.proofs.Runs.{runs_then, runs_stop, runs_stop_with}
 use Rattle.aml_acts.proofs.Elsewhere.{target_elsewhere}
-use Rattle.aml_acts.specs.Tells.{setting_in}
+use Rattle.aml_scene.specs.Tells.{setting_in}
 use Rattle.aml_acts.proofs.target.put_name.Goals as goal
 
 pub returns-in-Data-clause-means : goal.returns-in-Data-clause-means

@@ -1,6 +1,6 @@
 use Rattle.std.proofs.Common.{◌∙◌, sym}
 use Rattle.aml_namespace.specs.Shows.{shown}
-use Rattle.aml_acts.specs.Tells.{link_in}
+use Rattle.aml_scene.specs.Tells.{link_in}
 use Rattle.aml_places.proofs.Inversion.{called}
 use Rattle.aml_direct.specs.Tells.{count_of, setting_of}
 use Rattle.aml_direct.proofs.Calls.{is_read}

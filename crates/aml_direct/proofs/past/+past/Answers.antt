@@ -11,7 +11,7 @@ use Rattle.aml_namespace.specs.Load.{Shown}
 use Rattle.aml_namespace.specs.Names.{link_args}
 use Rattle.aml_namespace.specs.Shows.{shown}
 use Rattle.aml_counts.specs.Counts.{args_by}
-use Rattle.aml_acts.specs.Tells.{link_in}
+use Rattle.aml_scene.specs.Tells.{link_in}
 use Rattle.aml_operators.specs.Tree.{Tree, stop_of}
 use Rattle.aml_operators.specs.declared.row.Letter.{Letter}
 use Rattle.aml_operators.specs.declared.row.Letter.TheVariants.{One, Sized, Package, Branch, Terms, Fields, Bytes}

@@ -3,7 +3,7 @@ use Rattle.std.proofs.Common.{refl}
 use Rattle.std.proofs.lemmas.Result.{err_from_is_err_and}
 use Rattle.aml_operators.specs.declared.row.Code.TheVariants as code
 use Rattle.aml_meaning.proofs.Runs.{runs_stop, runs_stop_with, runs_then}
-use Rattle.aml_acts.specs.Letters.{sized_field}
+use Rattle.aml_scene.specs.Letters.{sized_field}
 use Rattle.aml_operators.proofs.PartsOf.{part_count}
 use Rattle.aml_plain.proofs.Forms.{at_out}
 use Rattle.aml_plain.proofs.define.sized_field.Goals as goal

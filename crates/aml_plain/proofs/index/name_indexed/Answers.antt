@@ -2,9 +2,9 @@ use Rattle.std.proofs.Common.{◌∙◌, sym}
 use Rattle.aml_operators.specs.Tree.{views}
 use Rattle.aml_operators.proofs.Views.{view_out}
 use Rattle.aml_operators.specs.declared.term.Term.TheViews.{out-Term}
-use Rattle.aml_acts.proofs.Letters.{invoked_letters}
+use Rattle.aml_scene.proofs.Letters.{invoked_letters}
 use Rattle.aml_plain.proofs.Forms.{some_arguments}
-use Rattle.aml_acts.proofs.Written.{indexed_elsewhere}
+use Rattle.aml_scene.proofs.Written.{indexed_elsewhere}
 use Rattle.aml_plain.proofs.Written.{indexed_invoked}
 use Rattle.aml_plain.specs.Tells.{calls_of, setting_of}
 use Rattle.aml_plain.proofs.index.name_indexed.Goals as goal

@@ -1,7 +1,7 @@
 use Rattle.aml_namespace.specs.Shows.{shown}
 use Rattle.aml_bodies.proofs.Methods.{are_statements, there}
 use Rattle.aml_plain.proofs.Methods.{evaluated_body}
-use Rattle.aml_acts.proofs.Outcomes.{unread}
+use Rattle.aml_scene.proofs.Outcomes.{unread}
 use Rattle.aml_plain.proofs.method.evaluate_plain.Goals as goal
 
 pub unreachable-requires : goal.unreachable-requires

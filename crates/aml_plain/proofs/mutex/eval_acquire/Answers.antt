@@ -1,7 +1,7 @@
 use Rattle.std.proofs.Common.{refl}
 use Rattle.aml_operators.specs.declared.row.Code.TheVariants as code
 use Rattle.aml_operators.proofs.PartsOf.{part_count}
-use Rattle.aml_acts.specs.Letters.{name_and_word}
+use Rattle.aml_scene.specs.Letters.{name_and_word}
 use Rattle.aml_plain.specs.Tells.{calls_of}
 use Rattle.aml_plain.proofs.Forms.{at_out, op_out}
 use Rattle.aml_plain.proofs.mutex.eval_acquire.Goals as goal

@@ -2,7 +2,7 @@ use Rattle.std.proofs.Common.{refl}
 use Rattle.aml_operators.specs.declared.row.Code.TheVariants as code
 use Rattle.aml_operators.proofs.PartsOf.{part_count}
 use Rattle.aml_plain.proofs.Forms.{condition_out}
-use Rattle.aml_acts.specs.Letters.{name_and_target}
+use Rattle.aml_scene.specs.Letters.{name_and_target}
 use Rattle.aml_plain.specs.Tells.{calls_of, setting_of}
 use Rattle.aml_plain.proofs.operand.condition.Goals as goal
 

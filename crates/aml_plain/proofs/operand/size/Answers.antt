@@ -5,7 +5,7 @@ use Rattle.aml_operators.specs.declared.row.Code.TheVariants as code
 use Rattle.aml_operators.proofs.PartsOf.{part_count}
 use Rattle.aml_operators.proofs.Views.{view_out}
 use Rattle.aml_meaning.proofs.Runs.{runs_give, runs_stop, runs_then}
-use Rattle.aml_acts.specs.Letters.{one_name}
+use Rattle.aml_scene.specs.Letters.{one_name}
 use Rattle.aml_plain.proofs.operand.size.Goals as goal
 
 pub one-a-requires : goal.one-a-requires

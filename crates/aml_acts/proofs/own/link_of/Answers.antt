@@ -1,5 +1,0 @@
-use Rattle.aml_acts.specs.Tells.{link_in}
-use Rattle.aml_acts.proofs.own.link_of.Goals as goal
-
-pub returns-in-Some : goal.returns-in-Some
-returns-in-Some c = c.in-Some.ensures (link_in c.args.scene.now) c.args.scene.now.meant

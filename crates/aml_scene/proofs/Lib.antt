@@ -1,0 +1,10 @@
+pub mod Letters
+pub mod Outcomes
+pub mod Ruled
+pub mod Stores
+pub mod Spots
+pub mod Grown
+pub mod Known
+pub mod OwnFields
+pub mod Within
+pub mod Written
