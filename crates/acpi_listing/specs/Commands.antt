@@ -1,12 +1,12 @@
 -- What the commands do, from words that were read to what is printed.
 use Rattle.std.specs.Prelude.{◌≡◌, ◌⊎◌, ◌&&◌, ℕ, List, [], ◌∷◌, ◌++◌, Bool, true, false, IsTrue, nat_le, option_and_then, length, if◌then◌else◌, Option, Some, None, Result, Ok, Err, IfOk, map, option_map, vec_items}
 use Rattle.std.specs.Io.KnownBytes.{Appends}
-use Rattle.aml_namespace.specs.declared.width.Width.{Width}
+use Rattle.aml_objects.specs.declared.width.Width.{Width}
 use Rattle.aml_operators.specs.Tree.{Tree, Trees, trees}
 use Rattle.aml_tree.specs.declared.fault.Refusal.{Refusal}
 use Rattle.aml_tree.specs.declared.fault.TreeFault.TheVariants.{Refused}
-use Rattle.aml_namespace.specs.declared.object.Method.{Method}
-use Rattle.aml_namespace.specs.Entries.{Entries, object_at}
+use Rattle.aml_objects.specs.declared.object.Method.{Method}
+use Rattle.aml_objects.specs.Entries.{Entries, object_at}
 use Rattle.aml_namespace.specs.Load.{Shown}
 use Rattle.aml_namespace.specs.Names.{method_at, IsBodyOf, ReadsBodyOf}
 use Rattle.aml_paths.specs.Printed.{path_text}

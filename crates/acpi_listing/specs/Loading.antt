@@ -1,7 +1,7 @@
 -- The namespace of a command's tables.
 use Rattle.std.specs.Prelude.{◌≡◌, ℕ, List, [], ◌∷◌, codes, Option, Some, None, Result}
 use Rattle.aml_namespace.specs.Load.{Shown, IsLoaded, FaultyLoad}
-use Rattle.aml_namespace.specs.declared.fault.LoadRefusal.{LoadRefusal}
+use Rattle.aml_objects.specs.declared.fault.LoadRefusal.{LoadRefusal}
 use Rattle.acpi_sources.specs.Faults.{Tries, in_table}
 use Rattle.acpi_sources.specs.declared.fault.Fault.{Fault}
 use Rattle.acpi_sources.specs.declared.fault.FaultCause.TheVariants as cause

@@ -1,7 +1,7 @@
 -- What is told of tables that cannot be loaded.
 use Rattle.std.specs.Prelude.{◌≡◌, ◌++◌, ℕ, List, [], ◌∷◌, codes, decimal, slice_get, unwrap_or}
-use Rattle.aml_namespace.specs.declared.fault.LoadCause.{LoadCause}
-use Rattle.aml_namespace.specs.declared.fault.LoadCause.TheVariants.{Table, Tree, Duplicate, ScopeMissing, TooMany, AliasMissing}
+use Rattle.aml_objects.specs.declared.fault.LoadCause.{LoadCause}
+use Rattle.aml_objects.specs.declared.fault.LoadCause.TheVariants.{Table, Tree, Duplicate, ScopeMissing, TooMany, AliasMissing}
 use Rattle.acpi_notes.specs.Text.{joined}
 use Rattle.acpi_notes.specs.Table.{table_note}
 use Rattle.acpi_notes.specs.Tree.{tree_note}

@@ -11,13 +11,13 @@ use Rattle.aml_known.specs.declared.accepted.Accepted.{Accepted}
 use Rattle.aml_known.specs.declared.known.Known.{Known}
 use Rattle.aml_methods.proofs.JudgingsThere.{judgings_are_there}
 use Rattle.aml_methods.specs.Judgings.{Told, arguments_of}
-use Rattle.aml_namespace.specs.Entries.{object_at}
+use Rattle.aml_objects.specs.Entries.{object_at}
 use Rattle.aml_namespace.specs.Load.{Shown}
 use Rattle.aml_namespace.specs.Names.{method_at, method_in}
 use Rattle.aml_namespace.specs.Shows.{shown}
-use Rattle.aml_namespace.specs.declared.object.Method.{Method}
-use Rattle.aml_namespace.specs.declared.object.Object.{Object}
-use Rattle.aml_namespace.specs.declared.object.Object.TheVariants as object
+use Rattle.aml_objects.specs.declared.object.Method.{Method}
+use Rattle.aml_objects.specs.declared.object.Object.{Object}
+use Rattle.aml_objects.specs.declared.object.Object.TheVariants as object
 use Rattle.aml_shapes.specs.Numbers.{numbered}
 use Rattle.aml_verdict_laws.proofs.Known.{verdicts_are_there}
 use Rattle.aml_verify.proofs.Accepting.{by_callee}

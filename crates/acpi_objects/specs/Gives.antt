@@ -6,9 +6,9 @@ use Rattle.acpi_verdicts.specs.Verdicts.{said_of}
 use Rattle.aml_contents.specs.Contents.{content_at}
 use Rattle.aml_interp.specs.Answers.{IsDone}
 use Rattle.aml_meaning.specs.State.{Names}
-use Rattle.aml_namespace.specs.declared.object.Method.{Method}
-use Rattle.aml_namespace.specs.declared.object.Object.{Object}
-use Rattle.aml_namespace.specs.declared.object.Object.TheVariants as object
+use Rattle.aml_objects.specs.declared.object.Method.{Method}
+use Rattle.aml_objects.specs.declared.object.Object.{Object}
+use Rattle.aml_objects.specs.declared.object.Object.TheVariants as object
 use Rattle.aml_paths.specs.declared.memory.NoMemory.{NoMemory}
 use Rattle.aml_regions.specs.Events.{Event}
 use Rattle.aml_values.specs.Values.{Value}

@@ -5,7 +5,7 @@ use Rattle.std.specs.Option.{option_and_then}
 use Rattle.std.specs.Prelude.{true, false, if◌then◌else◌}
 use Rattle.acpi_objects.specs.Gives.{gives_value}
 use Rattle.acpi_routing.specs.Crs.{crs_of, giving}
-use Rattle.aml_namespace.specs.Entries.{object_at}
+use Rattle.aml_objects.specs.Entries.{object_at}
 use Rattle.aml_namespace.specs.Load.{Shown}
 
 chosen : (b : Bool) (id k : ℕ) → (if b then Some id else None) ≡ Some k → (b ≡ true) × (id ≡ k)

@@ -11,7 +11,7 @@ use Rattle.acpi_routing.specs.Faults.{link_refusal}
 use Rattle.acpi_routing.specs.declared.fault.LinkRefusal.{LinkRefusal}
 use Rattle.acpi_verdicts.specs.Verdicts.{said_of}
 use Rattle.aml_meaning.specs.State.{Names}
-use Rattle.aml_namespace.specs.Entries.{object_at}
+use Rattle.aml_objects.specs.Entries.{object_at}
 use Rattle.aml_namespace.specs.Load.{Shown}
 use Rattle.aml_namespace.specs.PrintedObjects.{printed_object}
 use Rattle.aml_namespace.specs.Shows.{shown}

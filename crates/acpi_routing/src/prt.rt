@@ -8,7 +8,7 @@ ghost use Rattle.aml_contents.specs.Belongs.{Belong};
 ghost use Rattle.aml_contents.specs.Held.{content_kinds};
 ghost use Rattle.aml_interp.specs.Answers.{WereChecked};
 ghost use Rattle.aml_machine.specs.Views.{names_of};
-ghost use Rattle.aml_namespace.specs.Entries.{object_at};
+ghost use Rattle.aml_objects.specs.Entries.{object_at};
 ghost use Rattle.aml_namespace.specs.Shows.{shown};
 
 use crate::devices::devices_in;

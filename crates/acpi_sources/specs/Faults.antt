@@ -6,9 +6,9 @@ use Rattle.acpi_resources.specs.declared.fault.ResourceFault.TheVariants as reso
 use Rattle.acpi_resources.specs.declared.route_fault.RouteFault.{RouteFault}
 use Rattle.acpi_resources.specs.declared.route_fault.RouteFault.TheVariants as routes
 use Rattle.acpi_tables.specs.Causes.{table_cause_text}
-use Rattle.aml_namespace.specs.Causes.{load_cause_text}
-use Rattle.aml_namespace.specs.declared.fault.LoadFault.{LoadFault}
-use Rattle.aml_namespace.specs.declared.fault.LoadFault.TheVariants as load
+use Rattle.aml_objects.specs.Causes.{load_cause_text}
+use Rattle.aml_objects.specs.declared.fault.LoadFault.{LoadFault}
+use Rattle.aml_objects.specs.declared.fault.LoadFault.TheVariants as load
 use Rattle.aml_regions.specs.declared.fault.RegistersFault.{RegistersFault}
 use Rattle.aml_regions.specs.declared.fault.RegistersFault.TheVariants as registers
 use Rattle.aml_signatures.specs.declared.fault.SignatureFault.{SignatureFault}

@@ -2,7 +2,7 @@
 use Rattle.std.specs.Prelude.{◌≡◌, ℕ, List, [], ◌∷◌, ◌++◌}
 use Rattle.std.specs.List.{flat_map}
 use Rattle.std.proofs.Common.{refl, ap}
-use Rattle.aml_namespace.specs.Entries.{Entries}
+use Rattle.aml_objects.specs.Entries.{Entries}
 use Rattle.aml_regions.specs.declared.event.Event as program
 use Rattle.aml_regions.specs.EventViews.{event_of, events_of}
 use Rattle.acpi_text.specs.Events.{event_line, events_text}

@@ -4,7 +4,7 @@ use Rattle.std.proofs.lemmas.List.{length-take-le, map_push, take_more, length-m
 use Rattle.acpi_text.specs.Values.{element_text, element_texts, listed}
 use Rattle.aml_values.specs.Views.{element, elements_of}
 use Rattle.aml_values.specs.declared.value.Element as program
-use Rattle.aml_namespace.specs.Entries.{Entries}
+use Rattle.aml_objects.specs.Entries.{Entries}
 
 -- the texts of a list's elements
 pub texts_of : (entries : Entries) (es : List program.Element) → element_texts entries (elements_of es) ≡ map (λ e. element_text entries (element e)) es

@@ -3,7 +3,7 @@ use Rattle.std.specs.Prelude.{ℕ, List, [], ◌∷◌, ◌==◌, codes, decimal
 use Rattle.std.specs.List.{flat_map}
 use Rattle.acpi_text.specs.Names.{object_text}
 use Rattle.acpi_text.specs.Text.{joined, hex}
-use Rattle.aml_namespace.specs.Entries.{Entries}
+use Rattle.aml_objects.specs.Entries.{Entries}
 use Rattle.aml_regions.specs.declared.access.Access.{Access}
 use Rattle.aml_regions.specs.Events.{Event, Read, Written, Notified, Slept, Stalled}
 

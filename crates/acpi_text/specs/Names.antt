@@ -2,18 +2,18 @@
 use Rattle.std.specs.Prelude.{ℕ, List, [], ◌∷◌, ◌++◌, codes, decimal, is_some, if◌then◌else◌}
 use Rattle.std.specs.List.{flat_map}
 use Rattle.acpi_text.specs.Text.{joined}
-use Rattle.aml_namespace.specs.Entries.{Entries, object_at}
+use Rattle.aml_objects.specs.Entries.{Entries, object_at}
 use Rattle.aml_namespace.specs.Load.{Shown}
 use Rattle.aml_path_text.specs.Paths.{path_of}
 use Rattle.aml_paths.specs.Paths.{Path}
 use Rattle.aml_paths.specs.Printed.{path_text}
-use Rattle.aml_namespace.specs.Widths.{bits_of, size_bits}
-use Rattle.aml_namespace.specs.declared.object.Content.{Content}
-use Rattle.aml_namespace.specs.declared.object.Content.TheVariants as content
-use Rattle.aml_namespace.specs.declared.object.Entry.{Entry}
-use Rattle.aml_namespace.specs.declared.object.Entry.TheVariants.{Own, Alias}
-use Rattle.aml_namespace.specs.declared.object.Object.{Object}
-use Rattle.aml_namespace.specs.declared.object.Object.TheVariants as object
+use Rattle.aml_objects.specs.Widths.{bits_of, size_bits}
+use Rattle.aml_objects.specs.declared.object.Content.{Content}
+use Rattle.aml_objects.specs.declared.object.Content.TheVariants as content
+use Rattle.aml_objects.specs.declared.object.Entry.{Entry}
+use Rattle.aml_objects.specs.declared.object.Entry.TheVariants.{Own, Alias}
+use Rattle.aml_objects.specs.declared.object.Object.{Object}
+use Rattle.aml_objects.specs.declared.object.Object.TheVariants as object
 use Rattle.aml_paths.specs.declared.scope.ObjectId.{ObjectId}
 
 -- the first path of the object with a number, where there is one

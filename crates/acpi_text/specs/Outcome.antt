@@ -8,7 +8,7 @@ use Rattle.acpi_text.specs.Verdicts.{verdict_line}
 use Rattle.acpi_text.specs.declared.verdict.VerdictLine.TheVariants.{Unreadable}
 use Rattle.aml_values.specs.Values.{Value}
 use Rattle.aml_values.specs.Views.{view}
-use Rattle.aml_namespace.specs.Entries.{Entries}
+use Rattle.aml_objects.specs.Entries.{Entries}
 use Rattle.aml_tree.specs.declared.fault.Refusal.{Refusal}
 use Rattle.aml_meaning.specs.declared.outcome.Outcome.{Outcome}
 use Rattle.aml_meaning.specs.declared.outcome.Outcome.TheVariants as outcome

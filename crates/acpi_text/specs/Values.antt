@@ -4,7 +4,7 @@ use Rattle.hex.specs.Hex.{encode_lower}
 use Rattle.acpi_text.specs.Names.{object_text}
 use Rattle.acpi_text.specs.Text.{joined, hex, escaped}
 use Rattle.aml_values.specs.Values.{Value, Int, Buf, Str, Pkg, Element, Elements, Holds, Named, Unset, none, more}
-use Rattle.aml_namespace.specs.Entries.{Entries}
+use Rattle.aml_objects.specs.Entries.{Entries}
 use Rattle.aml_paths.specs.declared.scope.ObjectId.{ObjectId}
 
 -- these pieces with `, ` between each two

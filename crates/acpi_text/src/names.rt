@@ -6,7 +6,7 @@ ghost use Rattle.acpi_text.specs.Names.{content_text, entry_line, entry_text, ki
 ghost use Rattle.aml_path_text.specs.Paths.{path_of};
 ghost use Rattle.aml_paths.specs.Paths.{Path};
 ghost use Rattle.aml_namespace.specs.Shows.{shown};
-ghost use Rattle.aml_namespace.specs.Widths.{bits_of};
+ghost use Rattle.aml_objects.specs.Widths.{bits_of};
 
 use crate::writing::{RunFault, put};
 use aml_namespace::{Content, Entry, Namespace, Object, Width};

@@ -5,7 +5,7 @@ use Rattle.std.specs.Option.{option_map_or}
 use Rattle.acpi_text.specs.Verdicts.{verdict_line}
 use Rattle.acpi_text.specs.declared.verdict.VerdictLine.{VerdictLine}
 use Rattle.acpi_text.specs.declared.verdict.VerdictLine.TheVariants as line
-use Rattle.aml_namespace.specs.LookUp.{methods_in}
+use Rattle.aml_objects.specs.LookUp.{methods_in}
 use Rattle.aml_namespace.specs.Shows.{shown}
 use Rattle.aml_path_text.specs.Paths.{path_of}
 use Rattle.aml_paths.specs.Printed.{path_text}

@@ -2,7 +2,7 @@
 
 ghost use Rattle.std.specs.Prelude.{◌≡◌, IfOk, string_bytes};
 ghost use Rattle.acpi_verdicts.specs.Findings as spec;
-ghost use Rattle.aml_namespace.specs.Widths.{bits_of};
+ghost use Rattle.aml_objects.specs.Widths.{bits_of};
 
 use aml_judging::{Finding, Found, NumberedSlot, Sort, Wanted};
 use aml_known::{Known, Yield};

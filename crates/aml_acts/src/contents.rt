@@ -4,7 +4,7 @@ ghost use Rattle.std.specs.Prelude.{◌≡◌, ◌≤◌, List, None, Some};
 ghost use Rattle.aml_values.specs.Views.{view};
 ghost use Rattle.aml_contents.specs.Contents.{content_at};
 ghost use Rattle.aml_regions.specs.Events.{Event};
-ghost use Rattle.aml_namespace.specs.Widths.{bits_of};
+ghost use Rattle.aml_objects.specs.Widths.{bits_of};
 ghost use Rattle.aml_meaning.specs.Owns.{define_field, define_own, set_own};
 ghost use Rattle.aml_meaning.specs.Parts.{set_name};
 ghost use Rattle.aml_meaning.specs.Runs.{Runs, content};

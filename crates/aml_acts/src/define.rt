@@ -2,7 +2,7 @@
 
 ghost use Rattle.std.specs.Prelude.{◌≡◌, List};
 ghost use Rattle.std.specs.Option.{option_map};
-ghost use Rattle.aml_namespace.specs.declared.object.BufferFieldSize.TheVariants as size;
+ghost use Rattle.aml_objects.specs.declared.object.BufferFieldSize.TheVariants as size;
 ghost use Rattle.aml_regions.specs.Events.{Event};
 ghost use Rattle.aml_meaning.specs.Definitions.{field_source, make_field};
 ghost use Rattle.aml_meaning.specs.Runs.{Runs};

@@ -4,7 +4,7 @@ ghost use Rattle.std.specs.Prelude.{◌≡◌, ◌≤◌, IfOk, IfSome};
 ghost use Rattle.aml_values.specs.Values.{Buf};
 ghost use Rattle.aml_values.specs.Views.{view};
 ghost use Rattle.aml_namespace.specs.Shows.{shown};
-ghost use Rattle.aml_namespace.specs.Widths.{bits_of};
+ghost use Rattle.aml_objects.specs.Widths.{bits_of};
 ghost use Rattle.aml_regions.specs.Fields.{IsSoundField};
 ghost use Rattle.aml_meaning.specs.Fields.{read_value, write_bits};
 ghost use Rattle.aml_meaning.specs.FieldValues.{takes_buffer, wanted_field};

@@ -7,7 +7,7 @@ ghost use Rattle.aml_values.specs.Views.{view};
 ghost use Rattle.aml_contents.specs.Contents.{content_at};
 ghost use Rattle.aml_contents.specs.Held.{contents};
 ghost use Rattle.aml_namespace.specs.Shows.{shown};
-ghost use Rattle.aml_namespace.specs.Widths.{bits_of};
+ghost use Rattle.aml_objects.specs.Widths.{bits_of};
 ghost use Rattle.aml_regions.specs.BufferFields.{stored};
 ghost use Rattle.aml_regions.specs.Events.{Event};
 ghost use Rattle.aml_meaning.specs.BufferFields.{IsLaidOut, buffer_field_numbered, bytes_around, first_bit, read_part, wanted_part, written_part};

@@ -2,7 +2,7 @@
 
 ghost use Rattle.std.specs.Prelude.{◌≡◌, ◌||◌, Some};
 ghost use Rattle.aml_operators.specs.Tree.{view, views};
-ghost use Rattle.aml_namespace.specs.Widths.{bits_of};
+ghost use Rattle.aml_objects.specs.Widths.{bits_of};
 ghost use Rattle.aml_meaning.specs.Actions.{action};
 ghost use Rattle.aml_meaning.specs.declared.action.Action.TheVariants as does;
 ghost use Rattle.aml_meaning.specs.declared.action.Arithmetic.TheVariants as arithmetic;

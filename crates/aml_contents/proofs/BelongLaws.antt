@@ -1,7 +1,7 @@
 -- Going over the names of a namespace.
 use Rattle.std.proofs.Common.{◌≡◌, ◌<◌, ◌≤◌, ◌+◌, ◌⊎◌, ◌∙◌, ◌∷◌, ℕ, zero, suc, Bool, true, [], length, Option, Some, None, refl, sym, subst, ap, arith, inl, inr}
 use Rattle.std.proofs.Math.Nat.{eq-or-lt_of_le}
-use Rattle.aml_namespace.specs.Entries.{Entries, object_at, own_object}
+use Rattle.aml_objects.specs.Entries.{Entries, object_at, own_object}
 use Rattle.aml_namespace.specs.Load.{Shown}
 use Rattle.aml_kinds.specs.Kinds.{Kind}
 use Rattle.aml_kinds.specs.SameKinds.{same_content_kind}

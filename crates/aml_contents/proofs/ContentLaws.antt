@@ -9,8 +9,8 @@ use Rattle.aml_values.specs.Values.{Value, Int, Buf, Str, Pkg, Elements, none, m
 use Rattle.aml_kinds.specs.Kinds.{Kind, IntUpTo, BufOf, StrOf, PkgOf, AnyPkg, Mixed}
 use Rattle.aml_kinds.specs.Fits.{fits, fits_shape, fits_place}
 use Rattle.aml_contents.specs.FirstKinds.{kind_by, shape_by, place_by, first_kind, greatest_of, held_first}
-use Rattle.aml_namespace.specs.declared.width.Width.{Width}
-use Rattle.aml_namespace.specs.Widths.{bits_of}
+use Rattle.aml_objects.specs.declared.width.Width.{Width}
+use Rattle.aml_objects.specs.Widths.{bits_of}
 use Rattle.aml_values.specs.declared.value.Value as program
 use Rattle.aml_values.specs.Views.{view}
 use Rattle.aml_values.proofs.Same.{number_same, both_first, both_second}

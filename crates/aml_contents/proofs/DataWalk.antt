@@ -16,9 +16,9 @@ use Rattle.aml_tree.specs.Fault.{refusal, ◌>>=◌}
 use Rattle.aml_tree.specs.Heads.{IsHead, IsPackage, told_count}
 use Rattle.aml_tree.specs.Leaf.{byte_at}
 use Rattle.aml_tree.specs.Reading.{deepest_at, term_at, terms_until}
-use Rattle.aml_namespace.specs.declared.object.Content.TheVariants as content
-use Rattle.aml_namespace.specs.declared.width.Width.{Width}
-use Rattle.aml_namespace.specs.declared.width.Width.TheVariants.{Bits64}
+use Rattle.aml_objects.specs.declared.object.Content.TheVariants as content
+use Rattle.aml_objects.specs.declared.width.Width.{Width}
+use Rattle.aml_objects.specs.declared.width.Width.TheVariants.{Bits64}
 use Rattle.aml_namespace.specs.Made.{package_content}
 use Rattle.aml_kinds.specs.declared.kind.ElementKind as program_kind
 use Rattle.aml_kinds.specs.KindViews.{element_kind, shape_of}

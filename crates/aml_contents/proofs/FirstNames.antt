@@ -5,19 +5,19 @@ use Rattle.std.proofs.Math.Nat.{mod-mod}
 use Rattle.std.proofs.lemmas.List.{length-replicate, length-take, map-append, take_all}
 use Rattle.std.proofs.Common.{length-append}
 use Rattle.aml_operators.specs.Tree.{Tree, Node}
-use Rattle.aml_namespace.specs.declared.object.Content.{Content}
-use Rattle.aml_namespace.specs.declared.object.Content.TheVariants as content
-use Rattle.aml_namespace.specs.declared.object.Entry.{Entry}
-use Rattle.aml_namespace.specs.declared.object.Object.{Object}
-use Rattle.aml_namespace.specs.declared.object.Object.TheVariants as object
+use Rattle.aml_objects.specs.declared.object.Content.{Content}
+use Rattle.aml_objects.specs.declared.object.Content.TheVariants as content
+use Rattle.aml_objects.specs.declared.object.Entry.{Entry}
+use Rattle.aml_objects.specs.declared.object.Object.{Object}
+use Rattle.aml_objects.specs.declared.object.Object.TheVariants as object
 use Rattle.aml_paths.specs.declared.scope.Scope.{Scope}
-use Rattle.aml_namespace.specs.declared.object.Source.{Source}
-use Rattle.aml_namespace.specs.declared.object.Source.TheVariants as source
-use Rattle.aml_namespace.specs.declared.width.Width.{Width}
-use Rattle.aml_namespace.specs.Entries.{Entries, object_at, own_object}
+use Rattle.aml_objects.specs.declared.object.Source.{Source}
+use Rattle.aml_objects.specs.declared.object.Source.TheVariants as source
+use Rattle.aml_objects.specs.declared.width.Width.{Width}
+use Rattle.aml_objects.specs.Entries.{Entries, object_at, own_object}
 use Rattle.aml_namespace.specs.Load.{Shown}
 use Rattle.aml_paths.specs.Paths.{Path}
-use Rattle.aml_namespace.specs.Widths.{bits_of}
+use Rattle.aml_objects.specs.Widths.{bits_of}
 use Rattle.aml_values.specs.Values.{Elements, Value, none}
 use Rattle.aml_contents.specs.Contents.{Contents, ContentKinds}
 use Rattle.aml_contents.specs.FirstContents.{filled, first_content, first_contents, first_kinds, value_from, value_in, value_told}

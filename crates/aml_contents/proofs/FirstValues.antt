@@ -4,7 +4,7 @@ use Rattle.std.specs.Prelude.{replicate}
 use Rattle.std.proofs.lemmas.List.{length-map, replicate_more, take-map}
 use Rattle.aml_operators.specs.declared.term.Term.{Term}
 use Rattle.aml_operators.specs.Tree.{view, views}
-use Rattle.aml_namespace.specs.declared.object.Content.TheVariants as content
+use Rattle.aml_objects.specs.declared.object.Content.TheVariants as content
 use Rattle.aml_paths.specs.declared.scope.Scope.{Scope}
 use Rattle.aml_namespace.specs.Load.{Shown}
 use Rattle.aml_namespace.specs.Made.{buffer_content}

@@ -6,17 +6,17 @@ use Rattle.aml_operators.specs.Tree.{Tree, Trees, Node, none, more, trees, stop_
 use Rattle.aml_tree.specs.declared.fault.Refusal.{Refusal}
 use Rattle.aml_tree.specs.declared.head.Head.{Head}
 use Rattle.aml_tree.specs.declared.head.Head.TheVariants as head
-use Rattle.aml_namespace.specs.declared.object.Content.{Content}
-use Rattle.aml_namespace.specs.declared.object.Content.TheVariants as content
-use Rattle.aml_namespace.specs.declared.object.Object.{Object}
-use Rattle.aml_namespace.specs.declared.object.Object.TheVariants as object
-use Rattle.aml_namespace.specs.declared.object.Source.{Source}
-use Rattle.aml_namespace.specs.declared.object.Source.TheVariants as source
-use Rattle.aml_namespace.specs.declared.width.Width.{Width}
+use Rattle.aml_objects.specs.declared.object.Content.{Content}
+use Rattle.aml_objects.specs.declared.object.Content.TheVariants as content
+use Rattle.aml_objects.specs.declared.object.Object.{Object}
+use Rattle.aml_objects.specs.declared.object.Object.TheVariants as object
+use Rattle.aml_objects.specs.declared.object.Source.{Source}
+use Rattle.aml_objects.specs.declared.object.Source.TheVariants as source
+use Rattle.aml_objects.specs.declared.width.Width.{Width}
 use Rattle.aml_namespace.specs.Bodies.{bytes_of}
 use Rattle.aml_namespace.specs.Load.{Shown}
 use Rattle.aml_namespace.specs.Made.{content_in}
-use Rattle.aml_namespace.specs.Widths.{bits_of}
+use Rattle.aml_objects.specs.Widths.{bits_of}
 use Rattle.aml_kinds.specs.Kinds.{Kind, IntUpTo, BufOf, StrOf, PkgOf, Shape, bare, with, ElementKind, ValueOf, AnyName, Anything}
 use Rattle.aml_kinds.specs.SameKinds.{same_element_kind, same_shape}
 use Rattle.aml_contents.specs.FirstContents.{data_in, number_of}

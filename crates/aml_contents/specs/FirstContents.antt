@@ -8,23 +8,23 @@ use Rattle.aml_operators.specs.Tree.{Tree, Trees, Node, none, more, stop_of}
 use Rattle.aml_tree.specs.declared.body.Span.{Span}
 use Rattle.aml_tree.specs.declared.fault.Refusal.{Refusal}
 use Rattle.aml_tree.specs.Data.{data_at}
-use Rattle.aml_namespace.specs.declared.object.Content.{Content}
-use Rattle.aml_namespace.specs.declared.object.Content.TheVariants as content
-use Rattle.aml_namespace.specs.declared.object.Entry.{Entry}
-use Rattle.aml_namespace.specs.declared.object.Object.{Object}
-use Rattle.aml_namespace.specs.declared.object.Object.TheVariants as object
+use Rattle.aml_objects.specs.declared.object.Content.{Content}
+use Rattle.aml_objects.specs.declared.object.Content.TheVariants as content
+use Rattle.aml_objects.specs.declared.object.Entry.{Entry}
+use Rattle.aml_objects.specs.declared.object.Object.{Object}
+use Rattle.aml_objects.specs.declared.object.Object.TheVariants as object
 use Rattle.aml_paths.specs.declared.scope.ObjectId.{ObjectId}
 use Rattle.aml_paths.specs.declared.scope.Scope.{Scope}
-use Rattle.aml_namespace.specs.declared.object.Source.{Source}
-use Rattle.aml_namespace.specs.declared.object.Source.TheVariants as source
-use Rattle.aml_namespace.specs.declared.width.Width.{Width}
+use Rattle.aml_objects.specs.declared.object.Source.{Source}
+use Rattle.aml_objects.specs.declared.object.Source.TheVariants as source
+use Rattle.aml_objects.specs.declared.width.Width.{Width}
 use Rattle.aml_namespace.specs.Bodies.{bytes_of}
-use Rattle.aml_namespace.specs.Entries.{own_object}
+use Rattle.aml_objects.specs.Entries.{own_object}
 use Rattle.aml_namespace.specs.Load.{Shown}
 use Rattle.aml_namespace.specs.Made.{at_of, content_in}
 use Rattle.aml_paths.specs.Paths.{Path}
-use Rattle.aml_namespace.specs.Settled.{named_at}
-use Rattle.aml_namespace.specs.Widths.{bits_of}
+use Rattle.aml_objects.specs.Settled.{named_at}
+use Rattle.aml_objects.specs.Widths.{bits_of}
 use Rattle.aml_values.specs.Values as value
 use Rattle.aml_values.specs.Values.{Value, Int, Buf, Str, Pkg, Elements, Element, Holds, Named, Unset}
 use Rattle.aml_contents.specs.Contents.{Contents, ContentKinds}

@@ -1,8 +1,8 @@
 -- The kinds that names have by their first contents.
 use Rattle.std.specs.Prelude.{ℕ, ◌-◌, ◌^◌, ◌%◌, length, Option}
 use Rattle.std.specs.Option.{option_map}
-use Rattle.aml_namespace.specs.declared.width.Width.{Width}
-use Rattle.aml_namespace.specs.Widths.{bits_of}
+use Rattle.aml_objects.specs.declared.width.Width.{Width}
+use Rattle.aml_objects.specs.Widths.{bits_of}
 use Rattle.aml_values.specs.Values.{Value, Int, Buf, Str, Pkg, Elements, none, more, Element, Holds, Named, Unset}
 use Rattle.aml_kinds.specs.Kinds.{Kind, IntUpTo, BufOf, StrOf, PkgOf, Shape, bare, with, ElementKind, ValueOf, AnyName, Anything}
 

@@ -3,7 +3,7 @@
 ghost use Rattle.std.specs.Prelude.{◌≡◌, IfOk};
 ghost use Rattle.aml_operators.specs.Tree.{Node, none, view};
 ghost use Rattle.aml_operators.specs.declared.op.Op.TheVariants.{Zero};
-ghost use Rattle.aml_namespace.specs.Entries.{object_at};
+ghost use Rattle.aml_objects.specs.Entries.{object_at};
 ghost use Rattle.aml_namespace.specs.Shows.{shown};
 ghost use Rattle.aml_values.specs.Views as seen;
 ghost use Rattle.aml_contents.specs.ContentViews.{content};

@@ -2,7 +2,7 @@
 
 ghost use Rattle.std.specs.Prelude.{◌≡◌, ◌%◌, ◌^◌, IfOk, map};
 ghost use Rattle.aml_contents.specs.FirstKinds.{first_kind, held_first, kind_by, name_kind, place_by, shape_by, within_width};
-ghost use Rattle.aml_namespace.specs.Widths.{bits_of};
+ghost use Rattle.aml_objects.specs.Widths.{bits_of};
 ghost use Rattle.aml_values.specs.Views.{element, elements_of, view};
 ghost use Rattle.aml_kinds.specs.KindViews.{element_kind, kind_of, shape_of};
 ghost use Rattle.aml_contents.specs.ContentViews.{content, content_kind};

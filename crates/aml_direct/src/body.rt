@@ -3,7 +3,7 @@
 ghost use Rattle.std.specs.Prelude.{◌≡◌, IfNone, IfSome, IsSome, List, Some, map};
 ghost use Rattle.aml_values.specs.Views as values;
 ghost use Rattle.aml_operators.specs.Tree.{Tree, trees};
-ghost use Rattle.aml_namespace.specs.declared.object.Method.{Method};
+ghost use Rattle.aml_objects.specs.declared.object.Method.{Method};
 ghost use Rattle.aml_namespace.specs.Names.{IsBodyOf, method_at};
 ghost use Rattle.aml_namespace.specs.Shows.{shown};
 ghost use Rattle.aml_machine.specs.Views.{names_of};

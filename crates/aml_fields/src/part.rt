@@ -3,7 +3,7 @@
 ghost use Rattle.std.specs.Prelude.{◌≡◌, ◌<◌, ◌≤◌, ◌+◌, ◌*◌, ◌^◌, length, IfOk, IfSome, IsOk, IsTrue};
 ghost use Rattle.aml_values.specs.Views.{view};
 ghost use Rattle.aml_namespace.specs.Shows.{shown};
-ghost use Rattle.aml_namespace.specs.Widths.{bits_of};
+ghost use Rattle.aml_objects.specs.Widths.{bits_of};
 ghost use Rattle.aml_regions.specs.BufferFields.{in_bytes};
 ghost use Rattle.aml_regions.specs.Fields.{mixed};
 ghost use Rattle.aml_meaning.specs.BufferFields.{IsLaidOut, bit_in_byte, buffer_field_numbered, byte_at, first_bit, is_laid_out, made_part, part_of, part_value, source_link, usable_part};

@@ -1,7 +1,7 @@
 // Reads of fields as values.
 
 ghost use Rattle.std.specs.Prelude.{◌≡◌, ◌-◌, ◌≤◌, IfOk};
-ghost use Rattle.aml_namespace.specs.Widths.{bits_of};
+ghost use Rattle.aml_objects.specs.Widths.{bits_of};
 ghost use Rattle.aml_regions.specs.Fields.{IsSoundField, layout_of};
 ghost use Rattle.aml_regions.specs.Worlds.{CountsRefusal};
 ghost use Rattle.aml_meaning.specs.Fields.{read_count, read_value};

@@ -26,7 +26,7 @@ use Rattle.aml_methods.specs.Judgings.{IsJudging, Told}
 use Rattle.aml_namespace.specs.Load.{Shown}
 use Rattle.aml_namespace.specs.Names.{IsBodyOf, method_at}
 use Rattle.aml_namespace.specs.Shows.{shown}
-use Rattle.aml_namespace.specs.declared.object.Method.{Method}
+use Rattle.aml_objects.specs.declared.object.Method.{Method}
 use Rattle.aml_operators.specs.Tree.{Tree, Trees, trees}
 use Rattle.aml_regions.specs.Events.{Event}
 use Rattle.aml_shapes.specs.Numbers.{numbered}

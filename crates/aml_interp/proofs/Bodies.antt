@@ -4,7 +4,7 @@ use Rattle.aml_bodies.specs.Methods.{Around}
 use Rattle.aml_meaning.specs.Methods.{callee_in, methods_of}
 use Rattle.aml_namespace.specs.Load.{Shown}
 use Rattle.aml_namespace.specs.Names.{method_at}
-use Rattle.aml_namespace.specs.declared.object.Method.{Method}
+use Rattle.aml_objects.specs.declared.object.Method.{Method}
 use Rattle.aml_operators.specs.Tree.{Trees}
 
 module _ (ns : Shown) (a b : Around ns) where

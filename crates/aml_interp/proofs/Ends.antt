@@ -16,7 +16,7 @@ use Rattle.aml_meaning.specs.declared.outcome.Outcome.{Outcome}
 use Rattle.aml_meaning.specs.declared.outcome.Outcome.TheVariants as outcome
 use Rattle.aml_meaning.proofs.Runs.{prefix_refl}
 use Rattle.aml_namespace.specs.Load.{Shown}
-use Rattle.aml_namespace.specs.Widths.{bits_of}
+use Rattle.aml_objects.specs.Widths.{bits_of}
 use Rattle.aml_operators.specs.Tree.{Trees}
 use Rattle.aml_paths.specs.declared.memory.NoMemory.{NoMemory}
 use Rattle.aml_regions.specs.Events.{Event}

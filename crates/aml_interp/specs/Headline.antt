@@ -19,8 +19,8 @@ use Rattle.aml_methods.specs.Judgings.{Told}
 use Rattle.aml_namespace.specs.Load.{Shown}
 use Rattle.aml_namespace.specs.Names.{IsBodyOf, method_at}
 use Rattle.aml_namespace.specs.Shows.{shown}
-use Rattle.aml_namespace.specs.Widths.{bits_of}
-use Rattle.aml_namespace.specs.declared.object.Method.{Method}
+use Rattle.aml_objects.specs.Widths.{bits_of}
+use Rattle.aml_objects.specs.declared.object.Method.{Method}
 use Rattle.aml_operators.specs.Tree.{Tree, trees}
 use Rattle.aml_regions.specs.Events.{Event}
 use Rattle.aml_shapes.specs.Numbers.{numbered}

@@ -3,9 +3,9 @@ use Rattle.std.proofs.Common.{◌+◌, ◌≡◌, ℕ, zero, suc, ◌^◌, ◌<�
 use Rattle.std.proofs.lemmas.Bool.{and_parts}
 use Rattle.std.specs.Prelude.{Ok, Err, nat_lt, Bool, true, false, ◌&&◌, if◌then◌else◌}
 use Rattle.aml_operators.specs.Tree.{Tree, Trees, Node, none, more}
-use Rattle.aml_namespace.specs.declared.width.Width.{Width}
-use Rattle.aml_namespace.specs.declared.width.Width.TheVariants as width_of
-use Rattle.aml_namespace.specs.Widths.{bits_of}
+use Rattle.aml_objects.specs.declared.width.Width.{Width}
+use Rattle.aml_objects.specs.declared.width.Width.TheVariants as width_of
+use Rattle.aml_objects.specs.Widths.{bits_of}
 use Rattle.aml_values.specs.Values.{Value}
 use Rattle.aml_kinds.specs.Kinds.{Kind}
 use Rattle.aml_contents.specs.Contents.{ContentKinds}

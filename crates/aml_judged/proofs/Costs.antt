@@ -9,8 +9,8 @@ use Rattle.aml_operators.specs.Shape.{operator_of}
 use Rattle.aml_operators.specs.Tree.{Tree, Trees, Node, none, more}
 use Rattle.aml_namespace.specs.declared.link.Link.{Link}
 use Rattle.aml_namespace.specs.declared.link.Link.TheVariants as link
-use Rattle.aml_namespace.specs.declared.object.Object.{Object}
-use Rattle.aml_namespace.specs.declared.object.Object.TheVariants as object
+use Rattle.aml_objects.specs.declared.object.Object.{Object}
+use Rattle.aml_objects.specs.declared.object.Object.TheVariants as object
 use Rattle.aml_kinds.specs.Kinds.{Kind, IntUpTo}
 use Rattle.aml_regions.specs.Fields.{layout_of}
 use Rattle.aml_regions.specs.declared.field.AnyField.{AnyField}

@@ -7,8 +7,8 @@ use Rattle.aml_operators.specs.Shape.{operator_of}
 use Rattle.aml_operators.specs.Tree.{Tree, Trees, Node, none, more}
 use Rattle.aml_namespace.specs.declared.link.Link.{Link}
 use Rattle.aml_namespace.specs.declared.link.Link.TheVariants as link
-use Rattle.aml_namespace.specs.declared.object.Object.{Object}
-use Rattle.aml_namespace.specs.declared.object.Object.TheVariants as object
+use Rattle.aml_objects.specs.declared.object.Object.{Object}
+use Rattle.aml_objects.specs.declared.object.Object.TheVariants as object
 use Rattle.aml_paths.specs.declared.scope.ObjectId.{ObjectId}
 use Rattle.aml_values.specs.Values.{Value, Int, Buf, Str, Pkg}
 use Rattle.aml_contents.specs.Contents.{Contents, ContentKinds, content_at, kind_at}

@@ -4,7 +4,7 @@ use Rattle.aml_operators.specs.declared.op.Op.{Op}
 use Rattle.aml_operators.specs.declared.op.Op.TheVariants as op
 use Rattle.aml_operators.specs.Tree.{Tree, Trees, Node}
 use Rattle.aml_namespace.specs.declared.link.Link.TheVariants as link
-use Rattle.aml_namespace.specs.declared.object.Object.TheVariants as object
+use Rattle.aml_objects.specs.declared.object.Object.TheVariants as object
 use Rattle.aml_kinds.specs.Kinds.{Kind, IntUpTo, BufOf, Mixed}
 use Rattle.aml_values.specs.Values.{Str}
 use Rattle.aml_judged.specs.Causes as cause

@@ -38,8 +38,8 @@ use Rattle.aml_judged.proofs.KindRules.{plain}
 use Rattle.std.specs.Option.{option_map}
 use Rattle.aml_namespace.specs.declared.link.Link.{Link}
 use Rattle.aml_namespace.specs.declared.link.Link.TheVariants as link
-use Rattle.aml_namespace.specs.declared.object.BufferFieldSize.{BufferFieldSize}
-use Rattle.aml_namespace.specs.declared.object.BufferFieldSize.TheVariants as size
+use Rattle.aml_objects.specs.declared.object.BufferFieldSize.{BufferFieldSize}
+use Rattle.aml_objects.specs.declared.object.BufferFieldSize.TheVariants as size
 use Rattle.aml_meaning.specs.BufferFields.{made_part}
 
 first_is : (width : ℕ) (v : Value) → IsWord width v → IsOf width (first_held width v) (name_kind (greatest width) v)

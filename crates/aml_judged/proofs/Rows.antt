@@ -7,13 +7,13 @@ use Rattle.aml_namespace.specs.declared.link.Link.{Link}
 use Rattle.aml_namespace.specs.declared.link.Link.TheVariants as link
 use Rattle.aml_paths.specs.declared.scope.Scope.TheVariants as scope
 use Rattle.aml_namespace.specs.Load.{Shown}
-use Rattle.aml_namespace.specs.declared.object.AccessType.TheVariants as access
-use Rattle.aml_namespace.specs.declared.object.Entry.TheVariants as entry_is
-use Rattle.aml_namespace.specs.declared.object.Object.TheVariants as object
-use Rattle.aml_namespace.specs.declared.object.Reference.{Reference}
-use Rattle.aml_namespace.specs.declared.object.Through.TheVariants as through
-use Rattle.aml_namespace.specs.declared.object.UpdateRule.TheVariants as update
-use Rattle.aml_namespace.specs.declared.width.Width.TheVariants as width_of
+use Rattle.aml_objects.specs.declared.object.AccessType.TheVariants as access
+use Rattle.aml_objects.specs.declared.object.Entry.TheVariants as entry_is
+use Rattle.aml_objects.specs.declared.object.Object.TheVariants as object
+use Rattle.aml_objects.specs.declared.object.Reference.{Reference}
+use Rattle.aml_objects.specs.declared.object.Through.TheVariants as through
+use Rattle.aml_objects.specs.declared.object.UpdateRule.TheVariants as update
+use Rattle.aml_objects.specs.declared.width.Width.TheVariants as width_of
 use Rattle.aml_values.specs.Values.{Buf}
 use Rattle.aml_kinds.specs.Kinds.{Kind, IntUpTo, BufOf}
 use Rattle.aml_regions.specs.declared.field.AnyField.{AnyField}

@@ -10,8 +10,8 @@ use Rattle.std.specs.Option.{option_map}
 use Rattle.aml_operators.specs.Literal.{literal_of}
 use Rattle.aml_namespace.specs.declared.link.Link.{Link}
 use Rattle.aml_namespace.specs.declared.link.Link.TheVariants as link
-use Rattle.aml_namespace.specs.declared.object.BufferFieldSize.{BufferFieldSize}
-use Rattle.aml_namespace.specs.declared.object.BufferFieldSize.TheVariants as size
+use Rattle.aml_objects.specs.declared.object.BufferFieldSize.{BufferFieldSize}
+use Rattle.aml_objects.specs.declared.object.BufferFieldSize.TheVariants as size
 use Rattle.aml_kinds.specs.Kinds.{Kind, IntUpTo}
 use Rattle.aml_contents.specs.BodyData.{computed_size}
 use Rattle.aml_meaning.specs.declared.action.Action.{Action}

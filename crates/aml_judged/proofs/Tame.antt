@@ -35,8 +35,8 @@ use Rattle.aml_meaning.specs.Mutexes.{acquire, acquired_or, ended_or, none_held,
 use Rattle.aml_meaning.specs.declared.mutex.TakenMutex.{TakenMutex}
 use Rattle.aml_meaning.specs.declared.action.Pause.{Pause as PauseKind}
 use Rattle.aml_meaning.specs.declared.action.Pause.TheVariants as pause
-use Rattle.aml_namespace.specs.declared.object.Object.{Object}
-use Rattle.aml_namespace.specs.declared.object.Object.TheVariants as object
+use Rattle.aml_objects.specs.declared.object.Object.{Object}
+use Rattle.aml_objects.specs.declared.object.Object.TheVariants as object
 use Rattle.aml_meaning.specs.Elements.{byte_written, element_at}
 use Rattle.aml_meaning.specs.Buffers.{size_of}
 use Rattle.aml_meaning.specs.Interfaces.{answered}

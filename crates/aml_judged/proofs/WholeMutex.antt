@@ -5,8 +5,8 @@ use Rattle.std.specs.Prelude.{List, Bool, true, false, ◌==◌, if◌then◌els
 use Rattle.aml_operators.specs.declared.op.Op.TheVariants as op
 use Rattle.aml_operators.specs.Tree.{Node}
 use Rattle.aml_namespace.specs.declared.link.Link.TheVariants as link
-use Rattle.aml_namespace.specs.declared.object.Object.TheVariants as object
-use Rattle.aml_namespace.specs.declared.width.Width.TheVariants as width_of
+use Rattle.aml_objects.specs.declared.object.Object.TheVariants as object
+use Rattle.aml_objects.specs.declared.width.Width.TheVariants as width_of
 use Rattle.aml_values.specs.Values.{Int}
 use Rattle.aml_kinds.specs.Kinds.{IntUpTo}
 use Rattle.aml_regions.specs.Events.{Event}

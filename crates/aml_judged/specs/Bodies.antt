@@ -19,9 +19,9 @@ use Rattle.aml_judged.specs.Causes as cause
 use Rattle.std.specs.Option.{option_map}
 use Rattle.aml_operators.specs.Literal.{literal_of}
 use Rattle.aml_namespace.specs.declared.link.Link.{Link}
-use Rattle.aml_namespace.specs.declared.object.BufferFieldSize.{BufferFieldSize}
+use Rattle.aml_objects.specs.declared.object.BufferFieldSize.{BufferFieldSize}
 use Rattle.aml_namespace.specs.declared.link.Link.TheVariants as link
-use Rattle.aml_namespace.specs.declared.object.BufferFieldSize.TheVariants as size
+use Rattle.aml_objects.specs.declared.object.BufferFieldSize.TheVariants as size
 use Rattle.aml_meaning.specs.declared.part.BufferPart.{BufferPart}
 use Rattle.aml_meaning.specs.BufferFields.{made_part}
 use Rattle.aml_meaning.specs.Owns.{field_at}

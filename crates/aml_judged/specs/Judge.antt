@@ -5,7 +5,7 @@ use Rattle.aml_operators.specs.Shape.{operator_of}
 use Rattle.aml_operators.specs.Literal.{literal_in}
 use Rattle.aml_operators.specs.Tree.{Tree, Trees, Node, none, more}
 use Rattle.aml_namespace.specs.declared.link.Link.{Link}
-use Rattle.aml_namespace.specs.declared.object.Object.{Object}
+use Rattle.aml_objects.specs.declared.object.Object.{Object}
 use Rattle.aml_kinds.specs.Kinds.{Kind, IntUpTo}
 use Rattle.aml_contents.specs.Contents.{kind_at}
 use Rattle.aml_contents.specs.FirstKinds.{kind_by}
@@ -32,7 +32,7 @@ use Rattle.aml_judged.specs.KindRules.{integer_kind, combined_kind, transformed_
 use Rattle.aml_bounds.specs.Loops as loops
 use Rattle.aml_bounds.specs.Shapes.{is_operand, Shape, Once, Up, Down, Endless, is_local, is_arg, assigns_in}
 use Rattle.aml_namespace.specs.declared.link.Link.TheVariants as link
-use Rattle.aml_namespace.specs.declared.object.Object.TheVariants as object
+use Rattle.aml_objects.specs.declared.object.Object.TheVariants as object
 use Rattle.aml_meaning.specs.declared.action.Comparison.TheVariants as comparison
 use Rattle.aml_judged.specs.Causes as cause
 use Rattle.aml_meaning.specs.declared.definition.Definition.{Definition}

@@ -1,7 +1,7 @@
 -- What a verdict means, and that there is one: the laws.
 use Rattle.std.specs.Prelude.{◌==◌, ◌≡◌, ℕ, ◌≤◌, List, [], ◌∷◌, Option, Some, None, false, if◌then◌else◌, true, false}
-use Rattle.aml_namespace.specs.declared.width.Width.{Width}
-use Rattle.aml_namespace.specs.Widths.{bits_of}
+use Rattle.aml_objects.specs.declared.width.Width.{Width}
+use Rattle.aml_objects.specs.Widths.{bits_of}
 use Rattle.aml_values.specs.Values.{Value}
 use Rattle.aml_regions.specs.Events.{Event}
 use Rattle.aml_meaning.specs.State.{State, held_level, Out, Halts, NoAnswer, Spent}

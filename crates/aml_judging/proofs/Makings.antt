@@ -6,8 +6,8 @@ use Rattle.aml_operators.specs.declared.op.Op.{Op}
 use Rattle.aml_operators.specs.declared.term.Term.{Term}
 use Rattle.aml_operators.specs.Literal.{literal_of}
 use Rattle.aml_operators.specs.Tree.{Tree, Trees, Node, none, more, views}
-use Rattle.aml_namespace.specs.declared.object.BufferFieldSize.{BufferFieldSize}
-use Rattle.aml_namespace.specs.declared.object.BufferFieldSize.TheVariants as size
+use Rattle.aml_objects.specs.declared.object.BufferFieldSize.{BufferFieldSize}
+use Rattle.aml_objects.specs.declared.object.BufferFieldSize.TheVariants as size
 use Rattle.aml_meaning.specs.Actions.{action}
 use Rattle.aml_meaning.specs.Definitions.{definition, source_of}
 use Rattle.aml_meaning.specs.declared.definition.Definition.{Definition}

@@ -3,7 +3,7 @@
 ghost use Rattle.std.specs.Prelude.{◌≡◌, IfOk, OnOk};
 ghost use Rattle.std.specs.Option.{option_map};
 ghost use Rattle.aml_operators.specs.Tree.{views};
-ghost use Rattle.aml_namespace.specs.Widths.{bits_of};
+ghost use Rattle.aml_objects.specs.Widths.{bits_of};
 ghost use Rattle.aml_contents.specs.Contents.{kind_at};
 ghost use Rattle.aml_contents.specs.FirstKinds.{kind_by};
 ghost use Rattle.aml_judged.specs.Bodies.{grown};

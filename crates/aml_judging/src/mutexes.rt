@@ -1,7 +1,7 @@
 // Mutexes that are taken and released.
 
 ghost use Rattle.std.specs.Prelude.{◌≡◌, Option};
-ghost use Rattle.aml_namespace.specs.declared.object.Object.{Object};
+ghost use Rattle.aml_objects.specs.declared.object.Object.{Object};
 ghost use Rattle.aml_meaning.specs.Actions.{action};
 ghost use Rattle.aml_judged.specs.Judge.{judged_mutex, judged_mutex_named, judged_mutex_numbered, judged_none_held, judged_released, judged_taken};
 ghost use Rattle.aml_judging.specs.Follows.{Gives, Judges};

@@ -6,7 +6,7 @@ ghost use Rattle.aml_kinds.specs.Kinds.{Shape};
 ghost use Rattle.aml_operators.specs.Tree.{more, none, view, views};
 ghost use Rattle.aml_meaning.specs.declared.action.Action.TheVariants as does;
 ghost use Rattle.aml_meaning.specs.declared.action.Comparison.TheVariants as comparison;
-ghost use Rattle.aml_namespace.specs.Widths.{bits_of};
+ghost use Rattle.aml_objects.specs.Widths.{bits_of};
 ghost use Rattle.aml_meaning.specs.declared.mutex.TakenMutex.{TakenMutex};
 ghost use Rattle.aml_judged.specs.Judge.{begun, comes_back, exit_holds, exit_within, holds_back, narrowed, narrowed_act, narrowed_by};
 ghost use Rattle.aml_known.specs.Views.{AreApart, Says, env_of, exits_of};

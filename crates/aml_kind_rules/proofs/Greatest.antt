@@ -12,9 +12,9 @@ use Rattle.aml_judged.specs.KindRules.{applied, capped, inside, quotient_most}
 use Rattle.aml_kinds.specs.Kinds.{Kind}
 use Rattle.aml_meaning.specs.Rules.{Place}
 use Rattle.aml_meaning.specs.declared.action.Arithmetic.TheVariants as operation
-use Rattle.aml_namespace.specs.Widths.{bits_of}
-use Rattle.aml_namespace.specs.declared.width.Width.{Width}
-use Rattle.aml_namespace.specs.declared.width.Width.TheVariants.{Bits32, Bits64}
+use Rattle.aml_objects.specs.Widths.{bits_of}
+use Rattle.aml_objects.specs.declared.width.Width.{Width}
+use Rattle.aml_objects.specs.declared.width.Width.TheVariants.{Bits32, Bits64}
 
 -- what lies beyond 64 bits lies beyond each width
 pub greatest_below : (w : Width) → greatest (bits_of w) < 2 ^ 64

@@ -3,7 +3,7 @@
 ghost use Rattle.std.specs.Prelude.{◌≡◌, ◌≤◌, ◌+◌, ◌-◌, ◌*◌, ◌/◌, ◌^◌, ℕ, max};
 ghost use Rattle.aml_judged.specs.KindRules as rule;
 ghost use Rattle.aml_meaning.specs.declared.action.Arithmetic.TheVariants as operation;
-ghost use Rattle.aml_namespace.specs.Widths.{bits_of};
+ghost use Rattle.aml_objects.specs.Widths.{bits_of};
 
 use aml_meaning::{Arithmetic, Bitwise};
 use aml_namespace::Width;

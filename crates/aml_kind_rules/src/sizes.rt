@@ -4,7 +4,7 @@ ghost use Rattle.std.specs.Prelude.{◌≡◌, ◌+◌, ℕ};
 ghost use Rattle.aml_kinds.specs.Kinds.{Kind, Shape};
 ghost use Rattle.aml_judged.specs.KindRules as rule;
 ghost use Rattle.aml_known.specs.Views.{kind_of};
-ghost use Rattle.aml_namespace.specs.Widths.{bits_of};
+ghost use Rattle.aml_objects.specs.Widths.{bits_of};
 ghost use Rattle.aml_rules.specs.Tells.{place_of};
 ghost use Rattle.aml_kind_rules.specs.Tells.{Obeys, told};
 

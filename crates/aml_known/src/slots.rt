@@ -3,7 +3,7 @@
 ghost use Rattle.std.specs.Prelude.{◌≡◌, ◌<◌, ℕ, Bool, Some, false, if◌then◌else◌, length, slice_get, slice_set, unwrap_or};
 ghost use Rattle.aml_kinds.specs.Kinds.{Shape};
 ghost use Rattle.aml_judged.specs.Known as judged;
-ghost use Rattle.aml_namespace.specs.Widths.{bits_of};
+ghost use Rattle.aml_objects.specs.Widths.{bits_of};
 ghost use Rattle.aml_known.specs.Views.{AreApart, held_kind, kind_of, slot_of, slots_of};
 
 use crate::known::Known;

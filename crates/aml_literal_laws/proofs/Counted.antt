@@ -25,8 +25,8 @@ use Rattle.aml_tree.specs.Opening.{Opening, NoTarget, PlainName, InvokedName, Op
 use Rattle.aml_tree.specs.Reading.{is_above, item_next}
 use Rattle.aml_tree.specs.Grammar.{AreTerms, IsConnection, IsPiece, ArePieces, IsItem, AreItems, IsElse, Meets, Follows, IsNameLeaf, IsTerm}
 use Rattle.aml_tree.specs.Body.{AreStatements, IsBody, with_owns, owns_behind, greatest_depth}
-use Rattle.aml_namespace.specs.declared.object.Content.{Content}
-use Rattle.aml_namespace.specs.declared.object.Content.TheVariants as content
+use Rattle.aml_objects.specs.declared.object.Content.{Content}
+use Rattle.aml_objects.specs.declared.object.Content.TheVariants as content
 use Rattle.aml_namespace.specs.Made.{buffer_content, content_in, string_content}
 use Rattle.aml_kinds.specs.Fits.{most_elements}
 use Rattle.aml_judged.specs.Safe.{AreBytes}

@@ -5,12 +5,12 @@ use Rattle.aml_operators.specs.declared.op.Op.TheVariants as op
 use Rattle.aml_operators.specs.Tree.{Tree, Trees, Node, none, more}
 use Rattle.aml_paths.specs.declared.scope.ObjectId.{ObjectId}
 use Rattle.aml_paths.specs.declared.scope.Scope.{Scope}
-use Rattle.aml_namespace.specs.declared.object.Content.{Content}
-use Rattle.aml_namespace.specs.declared.object.Content.TheVariants as content
+use Rattle.aml_objects.specs.declared.object.Content.{Content}
+use Rattle.aml_objects.specs.declared.object.Content.TheVariants as content
 use Rattle.aml_namespace.specs.Bodies.{bytes_of}
 use Rattle.aml_namespace.specs.Load.{Shown}
 use Rattle.aml_namespace.specs.Made.{content_in}
-use Rattle.aml_namespace.specs.Widths.{bits_of}
+use Rattle.aml_objects.specs.Widths.{bits_of}
 use Rattle.aml_values.specs.Values as value
 use Rattle.aml_values.specs.Values.{Value, Elements, count}
 use Rattle.aml_kinds.specs.Fits.{most_elements}

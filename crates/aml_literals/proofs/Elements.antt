@@ -13,13 +13,13 @@ use Rattle.aml_tree.specs.Grammar.{AreTerms, IsTerm}
 use Rattle.aml_tree.specs.Heads.{IsPackage}
 use Rattle.aml_tree.specs.OperatorAt.{op_there}
 use Rattle.aml_tree.proofs.Bounds.{term_in}
-use Rattle.aml_namespace.specs.declared.object.Content.{Content}
-use Rattle.aml_namespace.specs.declared.object.Content.TheVariants as content
-use Rattle.aml_namespace.specs.declared.width.Width.{Width}
+use Rattle.aml_objects.specs.declared.object.Content.{Content}
+use Rattle.aml_objects.specs.declared.object.Content.TheVariants as content
+use Rattle.aml_objects.specs.declared.width.Width.{Width}
 use Rattle.aml_namespace.specs.Bodies.{bytes_of}
 use Rattle.aml_namespace.specs.Load.{Shown}
 use Rattle.aml_namespace.specs.Made.{content_in}
-use Rattle.aml_namespace.specs.Widths.{bits_of}
+use Rattle.aml_objects.specs.Widths.{bits_of}
 use Rattle.aml_paths.specs.declared.scope.Scope.{Scope}
 use Rattle.aml_paths.specs.declared.scope.Scope.TheVariants.{At}
 use Rattle.aml_meaning.specs.Actions.{action}

@@ -18,7 +18,7 @@ use Rattle.aml_operators.specs.Literal.{literal_of}
 use Rattle.aml_operators.specs.Tree.{Tree, Node, none, stop_of, trees}
 use Rattle.aml_tree.specs.Grammar.{IsTerm, Meets}
 use Rattle.aml_tree.specs.Heads.{IsPackage}
-use Rattle.aml_namespace.specs.declared.object.Content.TheVariants as content
+use Rattle.aml_objects.specs.declared.object.Content.TheVariants as content
 use Rattle.aml_namespace.specs.Bodies.{bytes_of}
 use Rattle.aml_namespace.specs.Load.{Shown}
 use Rattle.aml_values.specs.Values.{Value, Buf, Str}

@@ -7,8 +7,8 @@ use Rattle.aml_values.specs.declared.value.Value as program_value
 use Rattle.aml_values.specs.Values.{Value, Int, Buf, Str, Pkg}
 use Rattle.aml_contents.specs.ContentViews.{content}
 use Rattle.aml_contents.specs.FirstKinds.{first_kind, greatest_of, held_first, name_kind, within_width}
-use Rattle.aml_namespace.specs.declared.width.Width.{Width}
-use Rattle.aml_namespace.specs.Widths.{bits_of}
+use Rattle.aml_objects.specs.declared.width.Width.{Width}
+use Rattle.aml_objects.specs.Widths.{bits_of}
 use Rattle.aml_meaning.specs.Owns.{first_held}
 use Rattle.aml_machine.specs.Views.{value_of}
 

@@ -4,7 +4,7 @@ ghost use Rattle.std.specs.Prelude.{◌≡◌, List, None, Option, Some};
 ghost use Rattle.aml_values.specs.Values as values;
 ghost use Rattle.aml_values.specs.Views.{view};
 ghost use Rattle.aml_regions.specs.Events.{Event};
-ghost use Rattle.aml_namespace.specs.Widths.{bits_of};
+ghost use Rattle.aml_objects.specs.Widths.{bits_of};
 ghost use Rattle.aml_meaning.specs.Calls.{inside};
 ghost use Rattle.aml_meaning.specs.Owns.{define_field, define_own, field_at, make_own};
 ghost use Rattle.aml_meaning.specs.Parts.{with_arg, with_local};

@@ -13,12 +13,12 @@ use Rattle.aml_bounds.proofs.Among.{among_back, among_cases, among_front, first_
 use Rattle.aml_meaning.specs.Actions.{action}
 use Rattle.aml_meaning.specs.declared.action.Action.{Action}
 use Rattle.aml_namespace.specs.declared.link.Link.{Link}
-use Rattle.aml_namespace.specs.declared.object.Method.{Method}
-use Rattle.aml_namespace.specs.declared.object.Object.{Object}
-use Rattle.aml_namespace.specs.declared.object.Object.TheVariants as object
-use Rattle.aml_namespace.specs.Entries.{Entries, object_at}
+use Rattle.aml_objects.specs.declared.object.Method.{Method}
+use Rattle.aml_objects.specs.declared.object.Object.{Object}
+use Rattle.aml_objects.specs.declared.object.Object.TheVariants as object
+use Rattle.aml_objects.specs.Entries.{Entries, object_at}
 use Rattle.aml_namespace.specs.Load.{Shown}
-use Rattle.aml_namespace.specs.LookUp.{is_method, methods_before, methods_in}
+use Rattle.aml_objects.specs.LookUp.{is_method, methods_before, methods_in}
 use Rattle.aml_namespace.specs.Names.{body_bytes, IsBodyOf, link_with_owns, method_at, method_in, ReadsBodyOf}
 use Rattle.aml_operators.specs.declared.term.Term.{Term}
 use Rattle.aml_operators.specs.declared.term.Term.TheViews.{out-Term}

@@ -5,7 +5,7 @@ use Rattle.aml_judged.specs.Verdicts.{called_from, calls_by, Judging}
 use Rattle.aml_meaning.specs.Methods.{callee_in, callee_of, listed}
 use Rattle.aml_meaning.specs.Within.{Methods}
 use Rattle.aml_namespace.specs.declared.link.Link.{Link}
-use Rattle.aml_namespace.specs.declared.object.Method.{Method}
+use Rattle.aml_objects.specs.declared.object.Method.{Method}
 use Rattle.aml_namespace.specs.Load.{Shown}
 use Rattle.aml_namespace.specs.Names.{body_bytes, IsBodyOf, link_with_owns, method_at, ReadsBodyOf}
 use Rattle.aml_operators.specs.Tree.{Tree, Trees, trees}

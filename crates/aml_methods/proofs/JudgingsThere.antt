@@ -13,9 +13,9 @@ use Rattle.aml_kinds.specs.Kinds.{Kind}
 use Rattle.aml_meaning.specs.Methods.{callee_in, methods_of}
 use Rattle.aml_methods.specs.Judgings.{arguments_of, IsJudging, Told}
 use Rattle.aml_methods.specs.Laws.{JudgingsAreThere}
-use Rattle.aml_namespace.specs.declared.object.Entry.{Entry}
-use Rattle.aml_namespace.specs.declared.object.Method.{Method}
-use Rattle.aml_namespace.specs.Entries.{own_object}
+use Rattle.aml_objects.specs.declared.object.Entry.{Entry}
+use Rattle.aml_objects.specs.declared.object.Method.{Method}
+use Rattle.aml_objects.specs.Entries.{own_object}
 use Rattle.aml_namespace.specs.Load.{Shown}
 use Rattle.aml_namespace.specs.Names.{method_at, method_in}
 use Rattle.aml_paths.specs.Paths.{Path}

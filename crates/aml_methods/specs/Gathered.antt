@@ -4,7 +4,7 @@ use Rattle.aml_bounds.specs.Chains.{is_among}
 use Rattle.aml_bounds.specs.Pairs.{calls_in, named, Pair}
 use Rattle.aml_judged.specs.Verdicts.{called_from, Judging}
 use Rattle.aml_namespace.specs.declared.link.Link.{Link}
-use Rattle.aml_namespace.specs.declared.object.Method.{Method}
+use Rattle.aml_objects.specs.declared.object.Method.{Method}
 use Rattle.aml_namespace.specs.Load.{Shown}
 use Rattle.aml_namespace.specs.Names.{link_with_owns, method_at}
 use Rattle.aml_namespace.specs.Shows.{shown}

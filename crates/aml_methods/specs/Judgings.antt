@@ -9,7 +9,7 @@ use Rattle.aml_contents.specs.FirstContents.{first_kinds}
 use Rattle.aml_judged.specs.Verdicts.{called_from, Judging, TellsChains}
 use Rattle.aml_kinds.specs.Kinds.{Kind}
 use Rattle.aml_meaning.specs.Methods.{AreBodies, methods_of}
-use Rattle.aml_namespace.specs.declared.object.Method.{Method}
+use Rattle.aml_objects.specs.declared.object.Method.{Method}
 use Rattle.aml_namespace.specs.Load.{Shown}
 use Rattle.aml_namespace.specs.Names.{method_at}
 use Rattle.aml_operators.specs.Tree.{Trees}

@@ -3,7 +3,7 @@
 ghost use Rattle.std.specs.Prelude.{◌≡◌, ◌++◌, [], ℕ, IfOk, map};
 ghost use Rattle.aml_kinds.specs.Kinds.{Shape};
 ghost use Rattle.aml_known.specs.Views.{kind_of, kinds_of};
-ghost use Rattle.aml_namespace.specs.declared.object.Method.{Method};
+ghost use Rattle.aml_objects.specs.declared.object.Method.{Method};
 ghost use Rattle.aml_namespace.specs.Shows.{shown};
 ghost use Rattle.aml_signatures.specs.ArgumentKinds.{kind_of_argument};
 ghost use Rattle.aml_signatures.specs.Signed.{kinds_told};

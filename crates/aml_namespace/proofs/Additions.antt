@@ -11,21 +11,21 @@ use Rattle.aml_operators.specs.declared.row.Code.TheVariants as code
 use Rattle.aml_operators.specs.Shape.{AreShaped, GoBy, IsShaped, operator_of, part_letters}
 use Rattle.aml_operators.specs.Tree.{Tree, Trees, Node, none, more, stop_of}
 use Rattle.aml_tree.specs.Spelled.{AreSpelled, IsSpelled}
-use Rattle.aml_namespace.specs.declared.fault.LoadCause.{LoadCause}
-use Rattle.aml_namespace.specs.declared.fault.LoadRefusal.{LoadRefusal}
-use Rattle.aml_namespace.specs.declared.object.Entry.{Entry}
-use Rattle.aml_namespace.specs.declared.object.Entry.TheVariants.{Own, Alias}
-use Rattle.aml_namespace.specs.declared.object.BufferFieldSize.{BufferFieldSize}
-use Rattle.aml_namespace.specs.declared.object.Field.{Field}
-use Rattle.aml_namespace.specs.declared.object.Object.{Object}
-use Rattle.aml_namespace.specs.declared.object.Object.TheVariants as object
-use Rattle.aml_namespace.specs.declared.object.Through.{Through}
+use Rattle.aml_objects.specs.declared.fault.LoadCause.{LoadCause}
+use Rattle.aml_objects.specs.declared.fault.LoadRefusal.{LoadRefusal}
+use Rattle.aml_objects.specs.declared.object.Entry.{Entry}
+use Rattle.aml_objects.specs.declared.object.Entry.TheVariants.{Own, Alias}
+use Rattle.aml_objects.specs.declared.object.BufferFieldSize.{BufferFieldSize}
+use Rattle.aml_objects.specs.declared.object.Field.{Field}
+use Rattle.aml_objects.specs.declared.object.Object.{Object}
+use Rattle.aml_objects.specs.declared.object.Object.TheVariants as object
+use Rattle.aml_objects.specs.declared.object.Through.{Through}
 use Rattle.aml_namespace.specs.declared.fields.Cursor.{Cursor}
 use Rattle.aml_paths.specs.Paths.{Path}
-use Rattle.aml_namespace.specs.Entries.{Entries}
-use Rattle.aml_namespace.specs.Enter.{Here, aliased, alias_of, entered, named_object, new_path, opened, scope_named, scope_of, told_at}
+use Rattle.aml_objects.specs.Entries.{Entries}
+use Rattle.aml_objects.specs.Enter.{Here, aliased, alias_of, entered, named_object, new_path, opened, scope_named, scope_of, told_at}
 use Rattle.aml_namespace.specs.Define.{alias, all_defined, bank_fields, defined, field_entered, fields_from, flat, holding, index_fields, object_entered, region_fields, reopening, where_named}
-use Rattle.aml_namespace.specs.Fault.{◌>>=◌}
+use Rattle.aml_objects.specs.Fault.{◌>>=◌}
 use Rattle.aml_namespace.specs.FieldLists.{behind, field_of}
 use Rattle.aml_namespace.specs.Made.{Named, at_of, named, named_bits, named_buffer_field, named_data, named_method, named_mutex, named_region, object_of}
 

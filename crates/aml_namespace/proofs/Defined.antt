@@ -6,10 +6,10 @@ use Rattle.aml_operators.specs.declared.term.Term.{Term}
 use Rattle.aml_operators.specs.declared.term.Term.TheViews.{out-Term}
 use Rattle.aml_operators.specs.Tree.{Tree, Trees, Node, more, view, views}
 use Rattle.aml_operators.proofs.Views.{view_out}
-use Rattle.aml_namespace.specs.declared.object.Object.TheVariants as object
+use Rattle.aml_objects.specs.declared.object.Object.TheVariants as object
 use Rattle.aml_namespace.specs.Define.{all_defined, defined, holding, reopening}
-use Rattle.aml_namespace.specs.Enter.{Here}
-use Rattle.aml_namespace.specs.Entries.{Entries}
+use Rattle.aml_objects.specs.Enter.{Here}
+use Rattle.aml_objects.specs.Entries.{Entries}
 use Rattle.aml_namespace.specs.Externals.{all_declared, declared, declared_holding, declared_reopening}
 
 module _ (here : Here) (entries : Entries) (t : Term) where

@@ -8,26 +8,26 @@ use Rattle.aml_operators.specs.declared.op.Op.{Op}
 use Rattle.aml_operators.specs.declared.op.Op.TheVariants as op
 use Rattle.aml_operators.specs.Tree.{Tree, Trees, Node, none, more, trees}
 use Rattle.std.proofs.lemmas.Option.{same_Some}
-use Rattle.aml_namespace.specs.declared.fault.LoadCause.{LoadCause}
-use Rattle.aml_namespace.specs.declared.fault.LoadCause.TheVariants.{Duplicate, ScopeMissing, TooMany}
-use Rattle.aml_namespace.specs.declared.fault.LoadRefusal.{LoadRefusal}
-use Rattle.aml_namespace.specs.declared.object.Entry.{Entry}
-use Rattle.aml_namespace.specs.declared.object.Entry.TheVariants.{Own, Alias}
-use Rattle.aml_namespace.specs.declared.object.Field.{Field}
-use Rattle.aml_namespace.specs.declared.object.Object.{Object}
-use Rattle.aml_namespace.specs.declared.object.Object.TheVariants as object
-use Rattle.aml_namespace.specs.declared.object.Through.{Through}
+use Rattle.aml_objects.specs.declared.fault.LoadCause.{LoadCause}
+use Rattle.aml_objects.specs.declared.fault.LoadCause.TheVariants.{Duplicate, ScopeMissing, TooMany}
+use Rattle.aml_objects.specs.declared.fault.LoadRefusal.{LoadRefusal}
+use Rattle.aml_objects.specs.declared.object.Entry.{Entry}
+use Rattle.aml_objects.specs.declared.object.Entry.TheVariants.{Own, Alias}
+use Rattle.aml_objects.specs.declared.object.Field.{Field}
+use Rattle.aml_objects.specs.declared.object.Object.{Object}
+use Rattle.aml_objects.specs.declared.object.Object.TheVariants as object
+use Rattle.aml_objects.specs.declared.object.Through.{Through}
 use Rattle.aml_namespace.specs.declared.fields.Cursor.{Cursor}
 use Rattle.aml_paths.specs.Paths.{Path, root, path_number, AreDistinct}
-use Rattle.aml_namespace.specs.Entries.{Entries, number_of, paths_in, scope_opened}
+use Rattle.aml_objects.specs.Entries.{Entries, number_of, paths_in, scope_opened}
 use Rattle.aml_paths.specs.Resolve.{spelled}
-use Rattle.aml_namespace.specs.Enter.{Here, aliased, alias_of, entered, greatest_count, made_path, named_object, new_path, opened, parent_of, scope_named, scope_of, scope_path, told_at}
+use Rattle.aml_objects.specs.Enter.{Here, aliased, alias_of, entered, greatest_count, made_path, named_object, new_path, opened, parent_of, scope_named, scope_of, scope_path, told_at}
 use Rattle.aml_namespace.specs.Define.{alias, all_defined, bank_fields, defined, field_entered, fields_from, flat, holding, index_fields, object_entered, region_fields, reopening, where_named}
-use Rattle.aml_namespace.specs.Fault.{◌>>=◌}
+use Rattle.aml_objects.specs.Fault.{◌>>=◌}
 use Rattle.aml_namespace.specs.FieldLists.{behind, field_of}
 use Rattle.aml_namespace.specs.Load.{AllMake, at_root}
 use Rattle.aml_namespace.specs.Made.{Named, at_of, object_of}
-use Rattle.aml_namespace.specs.Predefined.{predefined_entries}
+use Rattle.aml_objects.specs.Predefined.{predefined_entries}
 use Rattle.aml_paths.proofs.PathNumbers.{path_number_new, path_number_stays}
 use Rattle.aml_paths.proofs.Positions.{slice_get_push}
 

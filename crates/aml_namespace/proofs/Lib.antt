@@ -1,9 +1,7 @@
-pub mod Kept
-pub mod Entering
+pub mod BodyPlaces
 pub mod Shapes
 pub mod Weights
 pub mod Defined
-pub mod FirstNames
 pub mod Modules
 pub mod Tables
 pub mod Additions

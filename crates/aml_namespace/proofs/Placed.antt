@@ -13,11 +13,11 @@ use Rattle.acpi_tables.specs.declared.fault.TableCause.TheVariants.{Short, BadLe
 use Rattle.acpi_tables.specs.declared.fault.TableFault.{TableFault}
 use Rattle.acpi_tables.specs.Bytes.{number_at}
 use Rattle.acpi_tables.specs.Fault.{check, first_fault}
-use Rattle.aml_namespace.specs.declared.fault.LoadRefusal.{LoadRefusal}
-use Rattle.aml_namespace.specs.Entries.{Entries}
+use Rattle.aml_objects.specs.declared.fault.LoadRefusal.{LoadRefusal}
+use Rattle.aml_objects.specs.Entries.{Entries}
 use Rattle.aml_namespace.specs.Laws.{DefinitionsStay, FaultsWithin, StandsWithin}
 use Rattle.aml_namespace.specs.Load.{AllFail, AllMake, Fails, Makes, at_root, signature_of}
-use Rattle.aml_namespace.specs.Predefined.{predefined_entries}
+use Rattle.aml_objects.specs.Predefined.{predefined_entries}
 use Rattle.aml_namespace.proofs.Additions.{Adds, adds_all}
 use Rattle.aml_namespace.proofs.Sound.{drop-drop, slice_get-drop}
 

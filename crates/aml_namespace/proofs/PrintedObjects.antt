@@ -3,7 +3,7 @@ use Rattle.std.proofs.Common.{◌≡◌, ℕ, List, Option, Some, None, refl, op
 use Rattle.aml_paths.specs.Paths.{Path}
 use Rattle.aml_paths.specs.Printed.{path_in}
 use Rattle.aml_namespace.specs.PrintedObjects.{printed_object}
-use Rattle.aml_namespace.specs.Entries.{Entries, number_of, object_number}
+use Rattle.aml_objects.specs.Entries.{Entries, number_of, object_number}
 use Rattle.aml_namespace.specs.Names.{found}
 
 found_of : (entries : Entries) (path : Option Path) → option_and_then (found entries) path ≡ option_and_then (object_number entries) (option_and_then (number_of entries) path)

@@ -1,16 +1,16 @@
 -- What objects name, found once all tables are loaded: it changes no path, and no method.
 use Rattle.std.proofs.Common.{◌≡◌, ℕ, zero, suc, List, [], ◌∷◌, map, Option, Some, refl, ap, subst, sym}
-use Rattle.aml_namespace.specs.declared.object.Entry.TheVariants.{Own, Alias}
-use Rattle.aml_namespace.specs.declared.object.Method.{Method}
+use Rattle.aml_objects.specs.declared.object.Entry.TheVariants.{Own, Alias}
+use Rattle.aml_objects.specs.declared.object.Method.{Method}
 use Rattle.aml_paths.specs.declared.scope.NamePlace.{NamePlace}
-use Rattle.aml_namespace.specs.declared.object.Object.{Object}
-use Rattle.aml_namespace.specs.declared.object.Object.TheVariants as object
+use Rattle.aml_objects.specs.declared.object.Object.{Object}
+use Rattle.aml_objects.specs.declared.object.Object.TheVariants as object
 use Rattle.aml_paths.specs.declared.scope.ObjectId.{ObjectId}
 use Rattle.aml_namespace.specs.Bodies.{BodiesWithin}
-use Rattle.aml_namespace.specs.Entries.{Entries, object_at, paths_in}
+use Rattle.aml_objects.specs.Entries.{Entries, object_at, paths_in}
 use Rattle.aml_namespace.specs.Laws.{PathsDistinct}
 use Rattle.aml_paths.specs.Paths.{AreDistinct, Path, root}
-use Rattle.aml_namespace.specs.Settled.{found_object, found_under, named_at, settled}
+use Rattle.aml_objects.specs.Settled.{found_object, found_under, named_at, settled}
 use Rattle.aml_namespace.proofs.Distinct.{made_distinct}
 
 module _ (find : NamePlace → Option ObjectId) where

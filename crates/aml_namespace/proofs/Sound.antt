@@ -5,15 +5,15 @@ use Rattle.std.proofs.lemmas.Option.{same_Some, slice_get_within}
 use Rattle.aml_operators.specs.Tree.{trees}
 use Rattle.aml_tree.proofs.Names.{module_spelled}
 use Rattle.aml_tree.proofs.Shaped.{module_shaped}
-use Rattle.aml_namespace.specs.declared.object.Entry.{Entry}
-use Rattle.aml_namespace.specs.declared.object.Entry.TheVariants.{Own, Alias}
-use Rattle.aml_namespace.specs.declared.object.Method.{Method}
-use Rattle.aml_namespace.specs.declared.object.Object.{Object}
-use Rattle.aml_namespace.specs.declared.object.Object.TheVariants as object
+use Rattle.aml_objects.specs.declared.object.Entry.{Entry}
+use Rattle.aml_objects.specs.declared.object.Entry.TheVariants.{Own, Alias}
+use Rattle.aml_objects.specs.declared.object.Method.{Method}
+use Rattle.aml_objects.specs.declared.object.Object.{Object}
+use Rattle.aml_objects.specs.declared.object.Object.TheVariants as object
 use Rattle.aml_namespace.specs.Bodies.{BodiesWithin, bytes_of}
-use Rattle.aml_namespace.specs.Entries.{Entries, object_at}
+use Rattle.aml_objects.specs.Entries.{Entries, object_at}
 use Rattle.aml_namespace.specs.Load.{AllMake, Makes, at_root}
-use Rattle.aml_namespace.specs.Predefined.{predefined_entries}
+use Rattle.aml_objects.specs.Predefined.{predefined_entries}
 use Rattle.aml_namespace.proofs.Additions.{Adds, AreSound, IsSound, adds_all}
 
 -- a method's body lies in one of these tables

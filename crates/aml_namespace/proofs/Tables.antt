@@ -5,13 +5,13 @@ use Rattle.aml_operators.specs.Tree.{trees}
 use Rattle.aml_arities.specs.declared.external.External.{External}
 use Rattle.aml_namespace.specs.Externals.{all_declared}
 use Rattle.acpi_tables.specs.Bytes.{number_at}
-use Rattle.aml_namespace.specs.declared.fault.LoadFault.{LoadFault}
-use Rattle.aml_namespace.specs.declared.fault.LoadFault.TheVariants.{NoMemory, Refused}
+use Rattle.aml_objects.specs.declared.fault.LoadFault.{LoadFault}
+use Rattle.aml_objects.specs.declared.fault.LoadFault.TheVariants.{NoMemory, Refused}
 use Rattle.aml_namespace.specs.Loads.{LoadsAll, LoadsTable}
-use Rattle.aml_namespace.specs.declared.fault.LoadRefusal.{LoadRefusal}
-use Rattle.aml_namespace.specs.Entries.{Entries}
+use Rattle.aml_objects.specs.declared.fault.LoadRefusal.{LoadRefusal}
+use Rattle.aml_objects.specs.Entries.{Entries}
 use Rattle.aml_namespace.specs.Load.{AllDeclare, AllFail, AllMake, Fails, Makes, at_root, first_width}
-use Rattle.aml_namespace.specs.Widths.{width_by}
+use Rattle.aml_objects.specs.Widths.{width_by}
 use Rattle.aml_paths.proofs.Positions.{drop_from}
 
 -- behind the first tables: what the others make, all make, and where one of the others fails first, so do all

@@ -1,8 +1,8 @@
 -- Where the bodies of methods lie.
 use Rattle.std.specs.Prelude.{◌≡◌, ◌≤◌, ◌<◌, ℕ, List, [], length, slice_get, Some, unwrap_or}
-use Rattle.aml_namespace.specs.declared.object.Method.{Method}
-use Rattle.aml_namespace.specs.declared.object.Object.TheVariants as object
-use Rattle.aml_namespace.specs.Entries.{Entries, object_at}
+use Rattle.aml_objects.specs.declared.object.Method.{Method}
+use Rattle.aml_objects.specs.declared.object.Object.TheVariants as object
+use Rattle.aml_objects.specs.Entries.{Entries, object_at}
 
 -- the bytes of the table with a number
 abbrev pub bytes_of : List (List ℕ) → ℕ → List ℕ

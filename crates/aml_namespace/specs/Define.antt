@@ -6,17 +6,17 @@ use Rattle.aml_operators.specs.Tree.{Tree, Trees, Node, none, more}
 use Rattle.aml_operators.specs.Literal.{literal_of, number_in}
 use Rattle.aml_lex.specs.NameStrings.{NameString}
 use Rattle.aml_lex.specs.Standing.{name_there}
-use Rattle.aml_namespace.specs.declared.fault.LoadRefusal.{LoadRefusal}
-use Rattle.aml_namespace.specs.declared.object.Entry.TheVariants.{Own}
-use Rattle.aml_namespace.specs.declared.object.Field.{Field}
-use Rattle.aml_namespace.specs.declared.object.Object.{Object}
-use Rattle.aml_namespace.specs.declared.object.Object.TheVariants as object
-use Rattle.aml_namespace.specs.declared.object.Through.{Through}
-use Rattle.aml_namespace.specs.declared.object.Through.TheVariants as through
+use Rattle.aml_objects.specs.declared.fault.LoadRefusal.{LoadRefusal}
+use Rattle.aml_objects.specs.declared.object.Entry.TheVariants.{Own}
+use Rattle.aml_objects.specs.declared.object.Field.{Field}
+use Rattle.aml_objects.specs.declared.object.Object.{Object}
+use Rattle.aml_objects.specs.declared.object.Object.TheVariants as object
+use Rattle.aml_objects.specs.declared.object.Through.{Through}
+use Rattle.aml_objects.specs.declared.object.Through.TheVariants as through
 use Rattle.aml_namespace.specs.declared.fields.Cursor.{Cursor}
-use Rattle.aml_namespace.specs.Entries.{Entries}
-use Rattle.aml_namespace.specs.Enter.{Here, aliased, entered, opened}
-use Rattle.aml_namespace.specs.Fault.{◌>>=◌}
+use Rattle.aml_objects.specs.Entries.{Entries}
+use Rattle.aml_objects.specs.Enter.{Here, aliased, entered, opened}
+use Rattle.aml_objects.specs.Fault.{◌>>=◌}
 use Rattle.aml_namespace.specs.FieldLists.{behind, field_of, list_start}
 use Rattle.aml_namespace.specs.Made.{at_of, object_of, reference}
 

@@ -7,13 +7,13 @@ use Rattle.aml_operators.specs.declared.op.Op.TheVariants as op
 use Rattle.aml_operators.specs.Literal.{number_in}
 use Rattle.aml_operators.specs.Tree.{Tree, Trees, Node, none, more}
 use Rattle.aml_arities.specs.declared.external.External.{External}
-use Rattle.aml_namespace.specs.declared.fault.LoadRefusal.{LoadRefusal}
-use Rattle.aml_namespace.specs.declared.object.Entry.TheVariants.{Own}
-use Rattle.aml_namespace.specs.declared.object.Object.{Object}
-use Rattle.aml_namespace.specs.declared.object.Object.TheVariants as object
+use Rattle.aml_objects.specs.declared.fault.LoadRefusal.{LoadRefusal}
+use Rattle.aml_objects.specs.declared.object.Entry.TheVariants.{Own}
+use Rattle.aml_objects.specs.declared.object.Object.{Object}
+use Rattle.aml_objects.specs.declared.object.Object.TheVariants as object
 use Rattle.aml_namespace.specs.Define.{defined}
-use Rattle.aml_namespace.specs.Enter.{Here, entered, opened}
-use Rattle.aml_namespace.specs.Entries.{Entries}
+use Rattle.aml_objects.specs.Enter.{Here, entered, opened}
+use Rattle.aml_objects.specs.Entries.{Entries}
 use Rattle.aml_namespace.specs.Made.{at_of, name_place}
 
 -- the object type of methods

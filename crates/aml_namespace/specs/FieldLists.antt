@@ -3,13 +3,13 @@ use Rattle.std.specs.Prelude.{◌==◌, ◌+◌, ◌-◌, ◌^◌, ◌/◌, ◌%
 use Rattle.aml_operators.specs.declared.op.Op.TheVariants as op
 use Rattle.aml_operators.specs.Literal.{number_in}
 use Rattle.aml_operators.specs.Tree.{Tree, Trees, Node, none, more}
-use Rattle.aml_namespace.specs.declared.object.Field.{Field}
-use Rattle.aml_namespace.specs.declared.object.Through.{Through}
-use Rattle.aml_namespace.specs.declared.object.FieldRule.{FieldRule}
-use Rattle.aml_namespace.specs.declared.object.AccessType.{AccessType}
-use Rattle.aml_namespace.specs.declared.object.AccessType.TheVariants as access
-use Rattle.aml_namespace.specs.declared.object.UpdateRule.{UpdateRule}
-use Rattle.aml_namespace.specs.declared.object.UpdateRule.TheVariants as update
+use Rattle.aml_objects.specs.declared.object.Field.{Field}
+use Rattle.aml_objects.specs.declared.object.Through.{Through}
+use Rattle.aml_objects.specs.declared.object.FieldRule.{FieldRule}
+use Rattle.aml_objects.specs.declared.object.AccessType.{AccessType}
+use Rattle.aml_objects.specs.declared.object.AccessType.TheVariants as access
+use Rattle.aml_objects.specs.declared.object.UpdateRule.{UpdateRule}
+use Rattle.aml_objects.specs.declared.object.UpdateRule.TheVariants as update
 use Rattle.aml_namespace.specs.declared.fields.Cursor.{Cursor}
 use Rattle.aml_namespace.specs.Made.{at_of}
 

@@ -4,9 +4,9 @@ use Rattle.aml_lex.specs.NameStrings.{NameString}
 use Rattle.aml_lex.specs.Standing.{name_there}
 use Rattle.aml_own_names.specs.declared.own_names.OwnName.{OwnName}
 use Rattle.aml_own_names.specs.OwnNames.{with_standing}
-use Rattle.aml_namespace.specs.declared.fault.LoadRefusal.{LoadRefusal}
+use Rattle.aml_objects.specs.declared.fault.LoadRefusal.{LoadRefusal}
 use Rattle.aml_namespace.specs.declared.link.Link.TheVariants as link
-use Rattle.aml_namespace.specs.Entries.{Entries, paths_in}
+use Rattle.aml_objects.specs.Entries.{Entries, paths_in}
 use Rattle.aml_paths.specs.Paths.{AreDistinct}
 use Rattle.aml_namespace.specs.Load.{AllMake, FaultyLoad, IsLoaded, Shown}
 use Rattle.aml_namespace.specs.Names.{counts, link_args, link_with_owns}

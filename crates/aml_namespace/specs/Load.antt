@@ -8,16 +8,16 @@ use Rattle.aml_operators.specs.Tree.{Tree, trees}
 use Rattle.aml_tree.specs.declared.fault.Refusal.{Refusal}
 use Rattle.aml_tree.specs.Body.{IsModule, FaultyModule}
 use Rattle.aml_arities.specs.declared.external.External.{External}
-use Rattle.aml_namespace.specs.declared.fault.LoadRefusal.{LoadRefusal}
+use Rattle.aml_objects.specs.declared.fault.LoadRefusal.{LoadRefusal}
 use Rattle.aml_namespace.specs.Define.{all_defined}
-use Rattle.aml_namespace.specs.Enter.{Here}
-use Rattle.aml_namespace.specs.Entries.{Entries}
+use Rattle.aml_objects.specs.Enter.{Here}
+use Rattle.aml_objects.specs.Entries.{Entries}
 use Rattle.aml_namespace.specs.Externals.{all_declared}
-use Rattle.aml_namespace.specs.Fault.{table_refusal, tree_refusal}
-use Rattle.aml_namespace.specs.Predefined.{predefined_entries}
-use Rattle.aml_namespace.specs.Settled.{settled}
-use Rattle.aml_namespace.specs.Widths.{width_by}
-use Rattle.aml_namespace.specs.declared.width.Width.{Width}
+use Rattle.aml_objects.specs.Fault.{table_refusal, tree_refusal}
+use Rattle.aml_objects.specs.Predefined.{predefined_entries}
+use Rattle.aml_objects.specs.Settled.{settled}
+use Rattle.aml_objects.specs.Widths.{width_by}
+use Rattle.aml_objects.specs.declared.width.Width.{Width}
 
 -- the first table is a DSDT, and the others are SSDTs
 abbrev pub signature_of : ℕ → List ℕ

@@ -3,13 +3,13 @@ use Rattle.std.specs.Prelude.{◌≡◌, ℕ, List, ◌++◌, Result, Ok, Err}
 use Rattle.acpi_tables.specs.Bytes.{number_at}
 use Rattle.aml_operators.specs.Tree.{trees}
 use Rattle.aml_arities.specs.declared.external.External.{External}
-use Rattle.aml_namespace.specs.declared.fault.LoadFault.{LoadFault}
-use Rattle.aml_namespace.specs.declared.fault.LoadFault.TheVariants.{NoMemory, Refused}
+use Rattle.aml_objects.specs.declared.fault.LoadFault.{LoadFault}
+use Rattle.aml_objects.specs.declared.fault.LoadFault.TheVariants.{NoMemory, Refused}
 use Rattle.aml_namespace.specs.declared.load.Loaded.{Loaded}
-use Rattle.aml_namespace.specs.Entries.{Entries}
+use Rattle.aml_objects.specs.Entries.{Entries}
 use Rattle.aml_namespace.specs.Externals.{all_declared}
 use Rattle.aml_namespace.specs.Load.{AllDeclare, AllFail, AllMake, Fails, Makes, at_root, first_width}
-use Rattle.aml_namespace.specs.Widths.{width_by}
+use Rattle.aml_objects.specs.Widths.{width_by}
 
 -- a table was loaded behind what was there: its revision, or its first fault, unless memory ran out
 abbrev pub LoadsTable : ℕ → List ℕ → Entries → Entries → Result ℕ LoadFault → Type 0

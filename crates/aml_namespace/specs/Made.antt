@@ -4,18 +4,18 @@ use Rattle.aml_operators.specs.declared.op.Op.{Op}
 use Rattle.aml_operators.specs.declared.op.Op.TheVariants as op
 use Rattle.aml_operators.specs.Tree.{Tree, Trees, Node, none, more, size_in, stop_of}
 use Rattle.aml_operators.specs.Literal.{literal_of, number_in}
-use Rattle.aml_namespace.specs.declared.object.Object.{Object}
-use Rattle.aml_namespace.specs.declared.object.Object.TheVariants as object
+use Rattle.aml_objects.specs.declared.object.Object.{Object}
+use Rattle.aml_objects.specs.declared.object.Object.TheVariants as object
 use Rattle.aml_paths.specs.declared.scope.NamePlace.{NamePlace}
-use Rattle.aml_namespace.specs.declared.object.Reference.{Reference}
+use Rattle.aml_objects.specs.declared.object.Reference.{Reference}
 use Rattle.aml_paths.specs.declared.scope.Scope.{Scope}
 use Rattle.aml_paths.specs.declared.scope.Scope.TheVariants.{Root, At}
-use Rattle.aml_namespace.specs.declared.object.Content.{Content}
-use Rattle.aml_namespace.specs.declared.object.Content.TheVariants as content
-use Rattle.aml_namespace.specs.declared.object.Source.TheVariants as source
-use Rattle.aml_namespace.specs.declared.object.BufferFieldSize.{BufferFieldSize}
-use Rattle.aml_namespace.specs.declared.object.BufferFieldSize.TheVariants as size
-use Rattle.aml_namespace.specs.Enter.{Here}
+use Rattle.aml_objects.specs.declared.object.Content.{Content}
+use Rattle.aml_objects.specs.declared.object.Content.TheVariants as content
+use Rattle.aml_objects.specs.declared.object.Source.TheVariants as source
+use Rattle.aml_objects.specs.declared.object.BufferFieldSize.{BufferFieldSize}
+use Rattle.aml_objects.specs.declared.object.BufferFieldSize.TheVariants as size
+use Rattle.aml_objects.specs.Enter.{Here}
 
 abbrev pub at_of : Tree → ℕ
 at_of (Node o at stop parts) = at

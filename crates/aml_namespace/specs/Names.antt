@@ -8,15 +8,15 @@ use Rattle.aml_tree.specs.Body.{IsBody, ReadsBody}
 use Rattle.aml_tree.specs.declared.fault.TreeFault.{TreeFault}
 use Rattle.aml_namespace.specs.declared.link.Link.{Link}
 use Rattle.aml_namespace.specs.declared.link.Link.TheVariants as link
-use Rattle.aml_namespace.specs.declared.object.Method.{Method}
-use Rattle.aml_namespace.specs.declared.object.Object.{Object}
-use Rattle.aml_namespace.specs.declared.object.Object.TheVariants as object
+use Rattle.aml_objects.specs.declared.object.Method.{Method}
+use Rattle.aml_objects.specs.declared.object.Object.{Object}
+use Rattle.aml_objects.specs.declared.object.Object.TheVariants as object
 use Rattle.aml_paths.specs.declared.scope.Scope.TheVariants.{At}
 use Rattle.aml_own_names.specs.declared.own_names.OwnName.{OwnName}
 use Rattle.aml_namespace.specs.Bodies.{bytes_of}
-use Rattle.aml_namespace.specs.Entries.{Entries, number_of, object_at, object_number, paths_in}
+use Rattle.aml_objects.specs.Entries.{Entries, number_of, object_at, object_number, paths_in}
 use Rattle.aml_namespace.specs.Load.{Shown}
-use Rattle.aml_namespace.specs.LookUp.{looked_up, scope_path}
+use Rattle.aml_objects.specs.LookUp.{looked_up, scope_path}
 use Rattle.aml_own_names.specs.OwnNames.{own_at}
 use Rattle.aml_paths.specs.Paths.{Path}
 use Rattle.aml_paths.specs.Resolve.{resolve}

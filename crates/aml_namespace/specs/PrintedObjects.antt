@@ -1,6 +1,6 @@
 -- The objects of paths as they are printed.
 use Rattle.std.specs.Prelude.{ℕ, List, Option, option_and_then}
-use Rattle.aml_namespace.specs.Entries.{Entries}
+use Rattle.aml_objects.specs.Entries.{Entries}
 use Rattle.aml_namespace.specs.Names.{found}
 use Rattle.aml_paths.specs.Printed.{path_in}
 

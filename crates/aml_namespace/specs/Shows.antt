@@ -2,12 +2,12 @@
 use Rattle.std.specs.Prelude.{ℕ, List, map, Result, Ok, Err}
 use Rattle.std.specs.Borrow.{Bor}
 use Rattle.aml_arities.specs.declared.answered.Answered.{Answered}
-use Rattle.aml_namespace.specs.declared.fault.LoadFault.{LoadFault}
-use Rattle.aml_namespace.specs.declared.fault.LoadFault.TheVariants.{NoMemory, Refused}
+use Rattle.aml_objects.specs.declared.fault.LoadFault.{LoadFault}
+use Rattle.aml_objects.specs.declared.fault.LoadFault.TheVariants.{NoMemory, Refused}
 use Rattle.aml_namespace.specs.declared.namespace.Namespace.{Namespace}
 use Rattle.aml_arities.specs.Counted.{TellsAll}
-use Rattle.aml_namespace.specs.Entries.{paths_in}
-use Rattle.aml_namespace.specs.Kept.{entries_seen}
+use Rattle.aml_objects.specs.Entries.{paths_in}
+use Rattle.aml_objects.specs.Kept.{entries_seen}
 use Rattle.aml_namespace.specs.Load.{FaultyLoad, IsLoaded, Shown}
 
 -- the bytes of tables

@@ -7,18 +7,15 @@ ghost use Rattle.aml_operators.specs.Tree.{view, views};
 ghost use Rattle.aml_namespace.specs.Define.{alias_entered, all_defined, bank_fields, defined, field_entered, fields_from, flat, holding, index_fields, object_entered, region_fields, reopening};
 ghost use Rattle.aml_namespace.specs.Externals.{all_declared, declared, declared_flat, declared_holding, declared_method, declared_reopening};
 ghost use Rattle.aml_namespace.specs.FieldLists.{list_start};
-ghost use Rattle.aml_namespace.specs.Kept.{Makes, entries_seen, here_of};
+ghost use Rattle.aml_objects.specs.Kept.{Makes, entries_seen, here_of};
 ghost use Rattle.aml_namespace.specs.Parts.{HasParts};
 
-use crate::enter::{enter, enter_alias, open};
-use crate::fault::LoadFault;
 use crate::fields::Cursor;
-use crate::here::Here;
 use crate::made::{name_place, object_of, reference};
-use crate::object::{Entry, Field, Object, Through};
-use crate::objects::Objects;
 use aml_arities::External;
 use aml_lex::name_there;
+use aml_objects::enter::{enter, enter_alias, open};
+use aml_objects::{Entry, Field, Here, LoadFault, Object, Objects, Through};
 use aml_operators::{Op, Term, first_and_rest, literal_of, number_in, three, two};
 
 /// The object type of methods.

@@ -6,7 +6,7 @@ ghost use Rattle.aml_operators.specs.Shape.{IsShaped};
 ghost use Rattle.aml_operators.specs.Tree.{view, views};
 ghost use Rattle.aml_namespace.specs.FieldLists.{access_of, behind, behind_access, behind_bits, behind_field, connected, field_in, field_of, list_start, moved, rule_of, update_of, with_access};
 
-use crate::object::{AccessType, Field, FieldRule, Through, UpdateRule};
+use aml_objects::{AccessType, Field, FieldRule, Through, UpdateRule};
 use aml_operators::{Op, Term, number_in, two};
 
 /// What a field list has said so far, up to one of its items.

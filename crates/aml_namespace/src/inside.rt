@@ -7,9 +7,9 @@ ghost use Rattle.aml_namespace.specs.Names.{args_of};
 ghost use Rattle.aml_namespace.specs.Shows.{IsTold, shown};
 
 use crate::namespace::Namespace;
-use crate::object::Object;
 use aml_arities::Answered;
 use aml_lex::NameRef;
+use aml_objects::Object;
 use aml_paths::{ObjectId, Scope};
 use aml_tree::Arity;
 

@@ -1,16 +1,14 @@
 // Loading tables, one behind the other (ACPI 6.5, 5.2.11 and 5.3).
 
 ghost use Rattle.std.specs.Prelude.{◌≡◌, ◌<◌, length, map};
-ghost use Rattle.aml_namespace.specs.Kept.{entries_seen};
+ghost use Rattle.aml_objects.specs.Kept.{entries_seen};
 ghost use Rattle.aml_namespace.specs.Load.{signature_of};
 ghost use Rattle.aml_namespace.specs.Loads.{DeclaresTable, LoadsAll, LoadsTable};
 
 use crate::define::define_all;
-use crate::fault::{LoadFault, table_fault, tree_fault};
-use crate::here::Here;
-use crate::objects::Objects;
 use acpi_tables::read_table;
 use aml_arities::External;
+use aml_objects::{Here, LoadFault, Objects, table_fault, tree_fault};
 use aml_paths::ROOT;
 use aml_tree::read_module;
 use std::alloc::Global;

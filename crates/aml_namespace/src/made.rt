@@ -5,12 +5,12 @@ ghost use Rattle.aml_operators.specs.declared.row.Code.TheVariants as code;
 ghost use Rattle.aml_operators.specs.Shape.{AreShaped, IsShaped};
 ghost use Rattle.aml_operators.specs.Tree.{view, views};
 ghost use Rattle.aml_namespace.specs.Parts.{HasParts};
-ghost use Rattle.aml_namespace.specs.Kept.{here_of};
+ghost use Rattle.aml_objects.specs.Kept.{here_of};
 ghost use Rattle.aml_namespace.specs.Made.{buffer_content, buffer_field, content_of, data_of, literal, method_of, name_place, named, named_bits, named_buffer_field, named_data, named_method, named_mutex, named_region, object_of, package_content, reference, scope_numbered, sized_package_content, string_content};
 
-use crate::here::Here;
-use crate::object::{
-    BufferField, BufferFieldSize, Content, DataName, Method, Object, Reference, Region, Source,
+use aml_objects::{
+    BufferField, BufferFieldSize, Content, DataName, Here, Method, Object, Reference, Region,
+    Source,
 };
 use aml_operators::{Op, Term, four, literal_of, number_in, one, size_in, three, two};
 use aml_paths::{NamePlace, ObjectId, Scope};

@@ -5,21 +5,18 @@ ghost use Rattle.std.specs.Option.{ForNone, ForSome};
 ghost use Rattle.aml_lex.specs.Names.{name_of};
 ghost use Rattle.aml_namespace.specs.Bodies.{BodiesWithin, bytes_of};
 ghost use Rattle.aml_arities.specs.Counted.{TellsAll};
-ghost use Rattle.aml_namespace.specs.Entries.{paths_in};
-ghost use Rattle.aml_namespace.specs.Kept.{entries_seen, owned_kept, path_kept};
-ghost use Rattle.aml_namespace.specs.LookUp.{methods_in, owned_paths};
+ghost use Rattle.aml_objects.specs.Entries.{paths_in};
+ghost use Rattle.aml_objects.specs.Kept.{entries_seen, owned_kept, path_kept};
+ghost use Rattle.aml_objects.specs.LookUp.{methods_in, owned_paths};
 ghost use Rattle.aml_namespace.specs.Names.{link_of, method_in};
 
-use crate::fault::LoadFault;
 use crate::inside::Inside;
 use crate::link::Link;
 use crate::load::load_tables;
-use crate::object::{Entry, Method, Object};
-use crate::objects::Objects;
-use crate::predefined::predefined;
-use crate::width::Width;
 use aml_arities::{Answered, Counted, External};
 use aml_lex::{NameRef, NameSeg, name_there};
+use aml_objects::predefined::predefined;
+use aml_objects::{Entry, LoadFault, Method, Object, Objects, Width};
 use aml_own_names::OwnNames;
 use aml_paths::{NamePlace, NoMemory, ObjectId, Scope};
 use aml_tree::{Term, TreeFault, read_body};
@@ -57,12 +54,12 @@ impl<'a> Namespace<'a> {
     ghost use Rattle.std.specs.Prelude.{Option, IfOk};
     ghost use Rattle.std.specs.Option.{option_map};
     ghost use Rattle.aml_tree.specs.Body.{trees_read};
-    ghost use Rattle.aml_namespace.specs.LookUp.{looked_up};
+    ghost use Rattle.aml_objects.specs.LookUp.{looked_up};
     ghost use Rattle.aml_namespace.specs.Names.{ReadsBodyOf, body_bytes, element_at, is_interface, link_at, link_with_owns, method_at};
-    ghost use Rattle.aml_namespace.specs.Entries.{entry_numbered, object_at, path_numbered};
+    ghost use Rattle.aml_objects.specs.Entries.{entry_numbered, object_at, path_numbered};
     ghost use Rattle.aml_own_names.specs.OwnNamesSeen.{owns_seen};
     ghost use Rattle.aml_namespace.specs.PrintedObjects.{printed_object};
-    ghost use Rattle.aml_namespace.specs.Settled.{named_at};
+    ghost use Rattle.aml_objects.specs.Settled.{named_at};
     ghost use Rattle.aml_namespace.specs.Shows.{IsTold, Loads, bytes_in, shown};
 
     /// Loads a DSDT and any number of SSDTs behind it. Of each table: its header, then its whole module,
@@ -340,7 +337,6 @@ impl<'a> Namespace<'a> {
 }
 
 /// What declarations tell of the paths of a namespace; None where there is none.
-#[tactic(auto, using(crate::proofs::Kept::kept_paths))]
 fn declared_counts(
     alloc: Global,
     objects: &Objects,
@@ -355,7 +351,7 @@ fn declared_counts(
     if externals.is_empty() {
         return Ok(None);
     }
-    let counted = Counted::of(alloc, &objects.paths, tables, externals)?;
+    let counted = Counted::of(alloc, objects.paths(), tables, externals)?;
     Ok(Some(Answered::of(alloc, counted)?))
 }
 

@@ -1,6 +1,6 @@
 -- The paths of a namespace, by their numbers.
 use Rattle.std.specs.Prelude.{ℕ, unwrap_or}
-use Rattle.aml_namespace.specs.Entries.{Entries, path_numbered}
+use Rattle.aml_objects.specs.Entries.{Entries, path_numbered}
 use Rattle.aml_paths.specs.Paths.{Path, root}
 
 -- the path with a number; the root's behind the last

@@ -3,7 +3,7 @@
 ghost use Rattle.std.specs.Prelude.{◌≡◌, List, Some, IsSome, map};
 ghost use Rattle.aml_values.specs.Views as values;
 ghost use Rattle.aml_operators.specs.Tree.{Tree, trees, view, views};
-ghost use Rattle.aml_namespace.specs.declared.object.Method.{Method};
+ghost use Rattle.aml_objects.specs.declared.object.Method.{Method};
 ghost use Rattle.aml_namespace.specs.Shows.{shown};
 ghost use Rattle.aml_namespace.specs.Names.{method_at, IsBodyOf};
 ghost use Rattle.aml_bodies.specs.Methods.{AreStatementsOf};

@@ -4,7 +4,7 @@ use Rattle.std.proofs.Math.Nat.{pow-suc, div-one, div-div-eq-div-mul, div-lt_iff
 use Rattle.std.specs.Int.{byte_at, bytes_low_first}
 use Rattle.aml_values.specs.Values.{Int}
 use Rattle.aml_meaning.specs.Conversions.{bytes_integer}
-use Rattle.aml_namespace.specs.declared.width.Width.TheVariants.{Bits32, Bits64}
+use Rattle.aml_objects.specs.declared.width.Width.TheVariants.{Bits32, Bits64}
 use Rattle.aml_rules.specs.Laws.{IsGivenBack}
 
 byte : (i n : ℕ) → byte_at i n ≡ n / 256 ^ i % 256

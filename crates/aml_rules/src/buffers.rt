@@ -4,7 +4,7 @@ ghost use Rattle.std.specs.Prelude.{◌≡◌, ◌+◌, ◌++◌, nat_le};
 ghost use Rattle.aml_values.specs.Values.{Int};
 ghost use Rattle.aml_values.specs.Views.{view};
 ghost use Rattle.aml_meaning.specs.Buffers as rule;
-ghost use Rattle.aml_namespace.specs.Widths.{bits_of};
+ghost use Rattle.aml_objects.specs.Widths.{bits_of};
 ghost use Rattle.aml_rules.specs.Tells.{GrowsBy, Obeys, place_of, told};
 
 use crate::place::{Place, RuleFault, error_at};

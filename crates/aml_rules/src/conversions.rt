@@ -5,7 +5,7 @@ ghost use Rattle.std.specs.Int.{bytes_low_first};
 ghost use Rattle.aml_values.specs.Values.{Int};
 ghost use Rattle.aml_values.specs.Views.{view};
 ghost use Rattle.aml_meaning.specs.Conversions as rule;
-ghost use Rattle.aml_namespace.specs.Widths.{bits_of};
+ghost use Rattle.aml_objects.specs.Widths.{bits_of};
 ghost use Rattle.aml_rules.specs.Tells.{Obeys, place_of, told};
 
 use crate::place::{Place, RuleFault, error_at};

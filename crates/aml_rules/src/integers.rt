@@ -4,7 +4,7 @@ ghost use Rattle.std.specs.Prelude.{◌≡◌, ◌<◌, ◌*◌, ◌/◌, ◌%�
 ghost use Rattle.aml_values.specs.Values.{Int};
 ghost use Rattle.aml_meaning.specs.declared.action.Arithmetic.TheVariants as operation;
 ghost use Rattle.aml_meaning.specs.Rules.{apply, holds, transform, truth};
-ghost use Rattle.aml_namespace.specs.Widths.{bits_of};
+ghost use Rattle.aml_objects.specs.Widths.{bits_of};
 
 use aml_meaning::{Arithmetic, Bitwise, Comparison};
 use aml_namespace::Width;

@@ -8,7 +8,7 @@ ghost use Rattle.aml_meaning.specs.Meaning.{interface_asked};
 ghost use Rattle.aml_meaning.specs.Runs.{Runs, ruled};
 ghost use Rattle.aml_namespace.specs.Names.{is_interface};
 ghost use Rattle.aml_namespace.specs.Shows.{shown};
-ghost use Rattle.aml_namespace.specs.Widths.{bits_of};
+ghost use Rattle.aml_objects.specs.Widths.{bits_of};
 ghost use Rattle.aml_machine.specs.Views.{value_of};
 ghost use Rattle.aml_scene.specs.Tells.{place_in, setting_in, told};
 

@@ -5,7 +5,7 @@ ghost use Rattle.aml_values.specs.Values.{Int};
 ghost use Rattle.aml_values.specs.Views.{view};
 ghost use Rattle.aml_meaning.specs.Rules.{Place, combined, compared, divided, integer, negated, second, transformed};
 ghost use Rattle.aml_meaning.specs.Runs.{ruled};
-ghost use Rattle.aml_namespace.specs.Widths.{bits_of};
+ghost use Rattle.aml_objects.specs.Widths.{bits_of};
 ghost use Rattle.aml_meaning.specs.Buffers.{concatenated, size_of};
 ghost use Rattle.aml_meaning.specs.Elements.{byte_stored, element_at};
 ghost use Rattle.aml_meaning.specs.Conversions.{converted};

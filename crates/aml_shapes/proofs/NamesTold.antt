@@ -2,9 +2,9 @@
 use Rattle.std.proofs.Common.{◌≡◌, ◌<◌, ◌+◌, ◌++◌, ℕ, List, [], ◌∷◌, Option, Some, map, take, length, refl, sym, ap, ◌∙◌}
 use Rattle.std.specs.Option.{option_map}
 use Rattle.std.proofs.lemmas.List.{map_push}
-use Rattle.aml_namespace.specs.declared.object.DataName.{DataName}
-use Rattle.aml_namespace.specs.declared.object.Object.TheVariants as object
-use Rattle.aml_namespace.specs.Entries.{object_at}
+use Rattle.aml_objects.specs.declared.object.DataName.{DataName}
+use Rattle.aml_objects.specs.declared.object.Object.TheVariants as object
+use Rattle.aml_objects.specs.Entries.{object_at}
 use Rattle.aml_namespace.specs.Load.{Shown}
 use Rattle.aml_kinds.specs.Kinds.{Shape}
 use Rattle.aml_contents.specs.DataKinds.{name_kind_told, object_kind}

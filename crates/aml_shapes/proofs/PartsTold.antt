@@ -9,7 +9,7 @@ use Rattle.aml_operators.specs.declared.term.Term.{Term}
 use Rattle.aml_operators.specs.declared.term.Term.TheViews.{out-Term}
 use Rattle.aml_operators.specs.Tree.{Trees, view, views}
 use Rattle.aml_operators.proofs.Views.{view_out}
-use Rattle.aml_namespace.specs.declared.width.Width.{Width}
+use Rattle.aml_objects.specs.declared.width.Width.{Width}
 use Rattle.aml_kinds.specs.Kinds.{Shape, with, shaped, ElementKind, ValueOf}
 use Rattle.aml_contents.specs.DataKinds.{counted_places, place_told, shape_behind, shape_in, tree_place}
 use Rattle.aml_shapes.specs.Keys.{AreBelow, IsBelow, part_kind, shape_with}

@@ -1,6 +1,6 @@
 -- The kinds of data names.
 use Rattle.std.specs.Prelude.{◌≡◌, List, length}
-use Rattle.aml_namespace.specs.declared.object.DataName.{DataName}
+use Rattle.aml_objects.specs.declared.object.DataName.{DataName}
 use Rattle.aml_namespace.specs.Load.{Shown}
 use Rattle.aml_kinds.specs.Kinds.{Shape}
 use Rattle.aml_contents.specs.FirstContents.{value_from}

@@ -4,7 +4,7 @@ ghost use Rattle.std.specs.Prelude.{◌≡◌, IfOk, length, map};
 ghost use Rattle.std.specs.Option.{option_map};
 ghost use Rattle.aml_operators.specs.Tree.{Node, none, view, views};
 ghost use Rattle.aml_operators.specs.declared.op.Op.TheVariants.{Zero};
-ghost use Rattle.aml_namespace.specs.Entries.{object_at};
+ghost use Rattle.aml_objects.specs.Entries.{object_at};
 ghost use Rattle.aml_namespace.specs.Shows.{shown};
 ghost use Rattle.aml_contents.specs.DataKinds.{counted_places, data_shape, name_kind_told, object_kind, shape_behind, source_shape};
 ghost use Rattle.aml_contents.specs.FirstContents as first;

@@ -1,7 +1,7 @@
 -- Kinds that are filled up to a number.
 use Rattle.std.proofs.Common.{◌≡◌, ℕ, zero, suc, List, [], ◌∷◌, ◌++◌, refl, ap, get_or, map, ◌∙◌}
 use Rattle.std.proofs.lemmas.List.{map-append}
-use Rattle.aml_namespace.specs.declared.width.Width.{Width}
+use Rattle.aml_objects.specs.declared.width.Width.{Width}
 use Rattle.aml_signatures.specs.ArgumentKinds.{cut_to, filled}
 use Rattle.aml_signatures.specs.declared.argument_kind.ArgumentKind.{ArgumentKind}
 use Rattle.aml_signatures.specs.declared.argument_kind.ArgumentKind.TheVariants.{Int}

@@ -2,8 +2,8 @@
 use Rattle.std.specs.Prelude.{◌==◌, ◌-◌, ◌^◌, ◌&&◌, ℕ, zero, suc, List, [], ◌∷◌, Option, Some, None, codes, map, min, nat_eq, if◌then◌else◌}
 use Rattle.std.specs.List.{ends_with}
 use Rattle.aml_kinds.specs.Kinds as kind
-use Rattle.aml_namespace.specs.Widths.{bits_of}
-use Rattle.aml_namespace.specs.declared.width.Width.{Width}
+use Rattle.aml_objects.specs.Widths.{bits_of}
+use Rattle.aml_objects.specs.declared.width.Width.{Width}
 use Rattle.aml_signatures.specs.declared.argument_kind.ArgumentKind.{ArgumentKind}
 use Rattle.aml_signatures.specs.declared.argument_kind.ArgumentKind.TheVariants.{Int, IntUpTo, Buf, Str, Pkg}
 

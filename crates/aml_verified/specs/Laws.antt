@@ -10,7 +10,7 @@ use Rattle.aml_literal_laws.specs.Laws.{TablesAreBytes}
 use Rattle.aml_meaning.specs.State.{held_level, State}
 use Rattle.aml_meaning.specs.Within.{Callee}
 use Rattle.aml_methods.specs.Judgings.{IsJudging, Told}
-use Rattle.aml_namespace.specs.declared.object.Method.{Method}
+use Rattle.aml_objects.specs.declared.object.Method.{Method}
 use Rattle.aml_namespace.specs.Load.{Shown}
 use Rattle.aml_namespace.specs.Names.{method_at}
 use Rattle.aml_namespace.specs.Shows.{shown}

@@ -18,8 +18,8 @@ use Rattle.aml_known.specs.declared.known.Known.TheVariants as known
 use Rattle.aml_meaning.specs.Within.{Callee}
 use Rattle.aml_methods.proofs.JudgingsThere.{judgings_are_there}
 use Rattle.aml_methods.specs.Judgings.{Told}
-use Rattle.aml_namespace.specs.declared.object.Method.{Method}
-use Rattle.aml_namespace.specs.declared.width.Width.{Width}
+use Rattle.aml_objects.specs.declared.object.Method.{Method}
+use Rattle.aml_objects.specs.declared.width.Width.{Width}
 use Rattle.aml_namespace.specs.Names.{method_at}
 use Rattle.aml_namespace.specs.Shows.{shown}
 use Rattle.aml_shapes.specs.Numbers.{numbered}

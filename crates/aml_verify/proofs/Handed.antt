@@ -6,7 +6,7 @@ use Rattle.std.specs.declared.alloc.Global.{Global}
 use Rattle.aml_bodies.proofs.Around.{around_there}
 use Rattle.aml_meaning.specs.Methods.{listed}
 use Rattle.aml_methods.specs.HandedOn.{AreTrees, tree_at}
-use Rattle.aml_namespace.specs.declared.object.Method.{Method}
+use Rattle.aml_objects.specs.declared.object.Method.{Method}
 use Rattle.aml_namespace.specs.Load.{Shown}
 use Rattle.aml_namespace.specs.Names.{IsBodyOf, method_at}
 use Rattle.aml_operators.specs.declared.term.Term.{Term}

@@ -30,7 +30,7 @@ use Rattle.aml_meaning.specs.Methods.{callee_of}
 use Rattle.aml_meaning.specs.Within.{Callee, Methods}
 use Rattle.aml_methods.proofs.Judgings.{callee_there, no_callee}
 use Rattle.aml_methods.specs.Judgings.{arguments_of, IsJudging, Told}
-use Rattle.aml_namespace.specs.declared.object.Method.{Method}
+use Rattle.aml_objects.specs.declared.object.Method.{Method}
 use Rattle.aml_namespace.specs.Load.{Shown}
 use Rattle.aml_namespace.specs.Names.{body_bytes, method_at, ReadsBodyOf}
 use Rattle.aml_operators.specs.declared.term.Term.{Term}

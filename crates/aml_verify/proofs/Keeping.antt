@@ -8,7 +8,7 @@ use Rattle.aml_bodies.specs.Kept.{IsKept, kept_at}
 use Rattle.aml_bodies.specs.declared.keeping.Kept.{Kept}
 use Rattle.aml_bounds.proofs.Among.{same_number}
 use Rattle.aml_bounds.specs.Chains.{is_among}
-use Rattle.aml_namespace.specs.declared.object.Method.{Method}
+use Rattle.aml_objects.specs.declared.object.Method.{Method}
 use Rattle.aml_namespace.specs.Load.{Shown}
 use Rattle.aml_namespace.specs.Names.{IsBodyOf, method_at}
 use Rattle.aml_operators.specs.Tree.{Tree}

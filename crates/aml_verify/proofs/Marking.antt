@@ -13,7 +13,7 @@ use Rattle.aml_judged.specs.Judged.{Accepted}
 use Rattle.aml_judged.specs.Verdicts.{accepted_of, AreAccepted, called_from, calls_by, Judging, verdict_by}
 use Rattle.aml_methods.proofs.Judgings.{no_callee}
 use Rattle.aml_methods.specs.Judgings.{IsJudging, IsReady, Told}
-use Rattle.aml_namespace.specs.declared.object.Method.{Method}
+use Rattle.aml_objects.specs.declared.object.Method.{Method}
 use Rattle.aml_namespace.specs.Load.{Shown}
 use Rattle.aml_namespace.specs.Names.{method_at}
 use Rattle.aml_verify.proofs.Keeping.{by_same}

@@ -16,7 +16,7 @@ use Rattle.aml_components.specs.declared.heights.Heights.{Heights}
 use Rattle.aml_judged.specs.Verdicts.{called_from, Judging}
 use Rattle.aml_methods.specs.Gathered.{AreCalls}
 use Rattle.aml_methods.specs.Judgings.{IsJudging, TellsCalls, Told}
-use Rattle.aml_namespace.specs.declared.object.Method.{Method}
+use Rattle.aml_objects.specs.declared.object.Method.{Method}
 use Rattle.aml_namespace.specs.Load.{Shown}
 use Rattle.aml_namespace.specs.Names.{method_at}
 use Rattle.aml_paths.specs.declared.scope.ObjectId.{ObjectId}

@@ -6,8 +6,8 @@ use Rattle.std.specs.Prelude.{false, ◌==◌, ◌||◌}
 use Rattle.aml_paths.specs.Paths.{Path}
 use Rattle.aml_bounds.specs.Chains.{is_among}
 use Rattle.aml_bounds.proofs.Among.{among_append}
-use Rattle.aml_namespace.specs.declared.object.Entry.{Entry}
-use Rattle.aml_namespace.specs.declared.object.Method.{Method}
+use Rattle.aml_objects.specs.declared.object.Entry.{Entry}
+use Rattle.aml_objects.specs.declared.object.Method.{Method}
 use Rattle.aml_namespace.specs.Load.{Shown}
 use Rattle.aml_namespace.specs.Names.{method_at}
 use Rattle.aml_verify.specs.Said.{verdict_at}

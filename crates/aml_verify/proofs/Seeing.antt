@@ -17,7 +17,7 @@ use Rattle.aml_meaning.specs.Methods.{callee_of, is_lone, listed}
 use Rattle.aml_meaning.specs.Within.{Callee}
 use Rattle.aml_methods.proofs.Judgings.{listed_trees, unread}
 use Rattle.aml_methods.specs.Judgings.{IsJudging, Told}
-use Rattle.aml_namespace.specs.declared.object.Method.{Method}
+use Rattle.aml_objects.specs.declared.object.Method.{Method}
 use Rattle.aml_namespace.specs.Load.{Shown}
 use Rattle.aml_namespace.specs.Names.{body_bytes, link_with_owns, method_at}
 use Rattle.aml_operators.specs.Tree.{Tree, trees}

@@ -18,7 +18,7 @@ use Rattle.aml_judged.specs.Verdicts.{accepted_of, AreAccepted, called_from, Jud
 use Rattle.aml_judged.proofs.Order.{long_refused}
 use Rattle.aml_methods.proofs.Judgings.{no_callee}
 use Rattle.aml_methods.specs.Judgings.{IsJudging, Told}
-use Rattle.aml_namespace.specs.declared.object.Method.{Method}
+use Rattle.aml_objects.specs.declared.object.Method.{Method}
 use Rattle.aml_namespace.specs.Load.{Shown}
 use Rattle.aml_namespace.specs.Names.{method_at}
 use Rattle.aml_shapes.specs.Numbers.{numbered}

@@ -15,11 +15,11 @@ use Rattle.aml_meaning.specs.declared.part.BufferPart.{BufferPart}
 use Rattle.aml_meaning.specs.BufferFields.{buffer_field_numbered}
 use Rattle.aml_meaning.specs.Methods.{is_lone}
 use Rattle.aml_meaning.specs.Reached.{field_numbered}
-use Rattle.aml_namespace.specs.Entries.{object_at}
+use Rattle.aml_objects.specs.Entries.{object_at}
 use Rattle.aml_namespace.specs.Load.{Shown}
 use Rattle.aml_namespace.specs.Names.{link_with_owns}
 use Rattle.aml_namespace.specs.Shows.{shown}
-use Rattle.aml_namespace.specs.Widths.{bits_of}
+use Rattle.aml_objects.specs.Widths.{bits_of}
 use Rattle.aml_own_names.specs.declared.own_names.OwnName.{OwnName}
 use Rattle.aml_own_names.specs.OwnNamesSeen.{owns_seen}
 use Rattle.aml_shapes.specs.Numbers.{numbered}

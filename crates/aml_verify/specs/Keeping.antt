@@ -14,7 +14,7 @@ use Rattle.aml_meaning.specs.Methods.{AreBodies}
 use Rattle.aml_methods.specs.HandedOn.{tree_at}
 use Rattle.aml_methods.specs.Judgings.{IsJudging, Told}
 use Rattle.aml_namespace.specs.declared.link.Link.{Link}
-use Rattle.aml_namespace.specs.declared.object.Method.{Method}
+use Rattle.aml_objects.specs.declared.object.Method.{Method}
 use Rattle.aml_namespace.specs.Load.{Shown}
 use Rattle.aml_namespace.specs.Names.{IsBodyOf, body_bytes, link_with_owns, method_at}
 use Rattle.aml_operators.specs.declared.term.Term.{Term}

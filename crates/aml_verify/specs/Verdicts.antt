@@ -15,7 +15,7 @@ use Rattle.aml_judged.specs.Verdicts.{AreAccepted, Judging, verdict_by}
 use Rattle.aml_kinds.specs.Kinds.{Shape}
 use Rattle.aml_known.specs.declared.known.Known.{Known}
 use Rattle.aml_known.specs.Views.{accepted_of}
-use Rattle.aml_namespace.specs.declared.object.Method.{Method}
+use Rattle.aml_objects.specs.declared.object.Method.{Method}
 use Rattle.aml_namespace.specs.Load.{Shown}
 use Rattle.aml_namespace.specs.Names.{IsBodyOf, method_at, ReadsBodyOf}
 use Rattle.aml_namespace.specs.Shows.{shown}

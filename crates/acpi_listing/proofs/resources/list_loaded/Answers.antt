@@ -1,6 +1,6 @@
 use Rattle.std.proofs.Common.{◌≡◌, subst, sym, true}
 use Rattle.acpi_objects.specs.Gives.{gives_value}
-use Rattle.aml_namespace.specs.Entries.{object_at}
+use Rattle.aml_objects.specs.Entries.{object_at}
 use Rattle.aml_namespace.specs.Load.{Shown}
 use Rattle.aml_namespace.specs.Shows.{shown}
 use Rattle.aml_regions.specs.Registers.{contents}

@@ -1,6 +1,6 @@
 use Rattle.std.proofs.Common.{sym}
 use Rattle.aml_operators.specs.Tree.{view, views}
-use Rattle.aml_namespace.specs.Widths.{bits_of}
+use Rattle.aml_objects.specs.Widths.{bits_of}
 use Rattle.aml_bounds.specs.Loops.{moves_of, shape_for}
 use Rattle.aml_bounds.proofs.OneByOne.{not_alone}
 use Rattle.aml_bounds.proofs.shape.against_local.Goals as goal

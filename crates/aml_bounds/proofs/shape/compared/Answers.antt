@@ -1,6 +1,6 @@
 use Rattle.std.proofs.Common.{sym, arith}
 use Rattle.aml_operators.specs.Tree.{views}
-use Rattle.aml_namespace.specs.Widths.{bits_of}
+use Rattle.aml_objects.specs.Widths.{bits_of}
 use Rattle.aml_bounds.specs.Loops.{moves_of, shape_for}
 use Rattle.aml_bounds.proofs.OneByOne.{no_comparison}
 use Rattle.aml_bounds.proofs.shape.compared.Goals as goal

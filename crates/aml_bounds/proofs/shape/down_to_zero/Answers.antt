@@ -1,6 +1,6 @@
 use Rattle.std.proofs.Common.{sym}
 use Rattle.aml_operators.specs.Tree.{views}
-use Rattle.aml_namespace.specs.Widths.{bits_of}
+use Rattle.aml_objects.specs.Widths.{bits_of}
 use Rattle.aml_bounds.proofs.OneByOne.{no_local}
 use Rattle.aml_bounds.proofs.shape.down_to_zero.Goals as goal
 

@@ -1,5 +1,5 @@
 use Rattle.std.proofs.Common.{sym, arith}
-use Rattle.aml_namespace.specs.Widths.{bits_of}
+use Rattle.aml_objects.specs.Widths.{bits_of}
 use Rattle.aml_bounds.proofs.OneByOne.{no_sum}
 use Rattle.aml_bounds.proofs.shape.is_sum.Goals as goal
 

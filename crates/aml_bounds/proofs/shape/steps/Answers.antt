@@ -4,7 +4,7 @@ use Rattle.std.specs.Prelude.{not}
 use Rattle.aml_operators.specs.declared.term.Term.{Term}
 use Rattle.aml_operators.specs.declared.term.Term.TheViews.{out-Term}
 use Rattle.aml_operators.specs.Tree.{views}
-use Rattle.aml_namespace.specs.Widths.{bits_of}
+use Rattle.aml_objects.specs.Widths.{bits_of}
 use Rattle.aml_meaning.specs.Actions.{action}
 use Rattle.aml_bounds.specs.Loops.{moves_of}
 use Rattle.aml_bounds.specs.Shapes.{assigns_in, is_local}

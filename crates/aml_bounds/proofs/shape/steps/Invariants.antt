@@ -1,6 +1,6 @@
 use Rattle.std.proofs.Common.{◌≡◌, drop}
 use Rattle.aml_operators.specs.Tree.{views}
-use Rattle.aml_namespace.specs.Widths.{bits_of}
+use Rattle.aml_objects.specs.Widths.{bits_of}
 use Rattle.aml_bounds.specs.Loops.{moves_of, steps}
 use Rattle.aml_bounds.proofs.shape.steps.Given as goal
 

@@ -2,7 +2,7 @@ use Rattle.std.proofs.Common.{◌≡◌, ◌≤◌, ◌<◌, length, ap, arith}
 use Rattle.std.proofs.Math.ListN.{drop}
 use Rattle.std.proofs.Math.Seq.{take-append_seam}
 use Rattle.std.proofs.lemmas.Result.{err_from_is_err_and}
-use Rattle.aml_namespace.specs.Widths.{bits_of}
+use Rattle.aml_objects.specs.Widths.{bits_of}
 use Rattle.aml_regions.specs.Fields.{layout_of}
 use Rattle.aml_meaning.specs.Runs as runs
 use Rattle.aml_fields.proofs.Values.{narrow_value, narrow_stops, wide_value, wide_stops}

@@ -3,7 +3,7 @@ use Rattle.std.proofs.lemmas.Result.{err_from_is_err_and}
 use Rattle.aml_judged.specs.Judged.{then_rule}
 use Rattle.aml_judged.specs.KindRules as rule
 use Rattle.aml_known.specs.Views.{kind_of}
-use Rattle.aml_namespace.specs.Widths.{bits_of}
+use Rattle.aml_objects.specs.Widths.{bits_of}
 use Rattle.aml_rules.specs.Tells.{place_of}
 use Rattle.aml_kind_rules.specs.Tells.{told}
 use Rattle.aml_kind_rules.proofs.fields.part_stored_kind.Goals as goal

@@ -1,6 +1,6 @@
 use Rattle.std.proofs.Common.{◌∙◌, ap, sym}
 use Rattle.aml_judged.specs.KindRules.{applied}
-use Rattle.aml_namespace.specs.Widths.{bits_of}
+use Rattle.aml_objects.specs.Widths.{bits_of}
 use Rattle.aml_kind_rules.proofs.numbers.applied.Goals as goal
 
 pub returns-in-ShiftLeft : goal.returns-in-ShiftLeft

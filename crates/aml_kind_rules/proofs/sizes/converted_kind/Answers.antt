@@ -2,7 +2,7 @@ use Rattle.std.proofs.Common.{◌∙◌, ap, sym}
 use Rattle.aml_judged.specs.KindRules as rule
 use Rattle.aml_known.specs.Views.{kind_of}
 use Rattle.aml_meaning.specs.declared.action.Conversion.TheVariants as conversion
-use Rattle.aml_namespace.specs.Widths.{bits_of}
+use Rattle.aml_objects.specs.Widths.{bits_of}
 use Rattle.aml_rules.specs.Tells.{place_of}
 use Rattle.aml_kind_rules.proofs.sizes.converted_kind.Goals as goal
 

@@ -2,7 +2,7 @@ use Rattle.std.proofs.Common.{◌<◌, ◌∙◌, None, add-one, ap, arith, get_
 use Rattle.std.specs.Prelude.{if◌then◌else◌}
 use Rattle.std.proofs.lemmas.List.{get_or-map, length-map, map-set}
 use Rattle.aml_judged.specs.Known.{widened_slot}
-use Rattle.aml_namespace.specs.Widths.{bits_of}
+use Rattle.aml_objects.specs.Widths.{bits_of}
 use Rattle.aml_known.specs.Views.{slot_of, slots_of}
 use Rattle.aml_known.proofs.OneByOne.{one_widened, widened_from}
 use Rattle.aml_known.proofs.slots.widen.Goals as goal

@@ -2,7 +2,7 @@ use Rattle.std.proofs.Common.{◌≡◌, ◌<◌, ℕ, length}
 use Rattle.std.specs.Prelude.{Bool, false, slice_get, unwrap_or}
 use Rattle.aml_kinds.specs.Kinds.{Shape}
 use Rattle.aml_judged.specs.Known.{widened}
-use Rattle.aml_namespace.specs.Widths.{bits_of}
+use Rattle.aml_objects.specs.Widths.{bits_of}
 use Rattle.aml_known.specs.Views.{slots_of}
 use Rattle.aml_known.proofs.OneByOne.{widened_from}
 use Rattle.aml_known.proofs.slots.widen.Given as goal

@@ -1,7 +1,7 @@
 use Rattle.std.proofs.Common.{◌≡◌, List, ◌++◌, OnOk, sym, ap, ◌∙◌, subst}
 use Rattle.aml_operators.specs.Tree.{more, view, views}
 use Rattle.aml_arities.specs.declared.external.External.{External}
-use Rattle.aml_namespace.specs.Kept.{Makes, entries_seen, here_of}
+use Rattle.aml_objects.specs.Kept.{Makes, entries_seen, here_of}
 use Rattle.aml_namespace.proofs.Defined.{declared_device, declared_power, declared_processor, declared_scope, declared_zone, defined_device, defined_power, defined_processor, defined_scope, defined_zone}
 use Rattle.aml_namespace.proofs.define.+define.Goals as goal
 

@@ -2,7 +2,7 @@ use Rattle.std.proofs.Common.{◌≡◌, ◌+◌, ◌≤◌, ◌++◌, drop, len
 use Rattle.aml_operators.specs.Tree.{view, views}
 use Rattle.aml_namespace.specs.Define.{all_defined}
 use Rattle.aml_namespace.specs.Externals.{all_declared}
-use Rattle.aml_namespace.specs.Kept.{entries_seen, here_of}
+use Rattle.aml_objects.specs.Kept.{entries_seen, here_of}
 use Rattle.aml_namespace.proofs.Weights.{weight, weights}
 use Rattle.aml_namespace.proofs.define.+define.Given as goal
 

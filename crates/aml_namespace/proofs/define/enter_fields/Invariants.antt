@@ -2,7 +2,7 @@ use Rattle.std.proofs.Common.{◌≡◌, ◌≤◌, drop, length}
 use Rattle.aml_operators.specs.Tree.{views}
 use Rattle.aml_namespace.specs.Define.{fields_from}
 use Rattle.aml_namespace.specs.FieldLists.{list_start}
-use Rattle.aml_namespace.specs.Kept.{entries_seen, here_of}
+use Rattle.aml_objects.specs.Kept.{entries_seen, here_of}
 use Rattle.aml_namespace.proofs.define.enter_fields.Given as goal
 
 -- what is made so far, and the items that are left, make the whole

@@ -4,7 +4,7 @@ use Rattle.aml_operators.specs.declared.term.Term.{Term}
 use Rattle.aml_operators.specs.Tree.{view, views}
 use Rattle.aml_namespace.specs.Define.{all_defined}
 use Rattle.aml_namespace.specs.Externals.{all_declared}
-use Rattle.aml_namespace.specs.Kept.{entries_seen}
+use Rattle.aml_objects.specs.Kept.{entries_seen}
 use Rattle.aml_namespace.specs.Load.{at_root}
 use Rattle.aml_namespace.proofs.load.load_table.Goals as goal
 

@@ -1,9 +1,9 @@
 use Rattle.std.proofs.Common.{◌≡◌, List, ℕ, map, ap, ◌∙◌, arith}
 use Rattle.std.specs.Borrow.{Bor}
 use Rattle.std.proofs.lemmas.List.{length-map}
-use Rattle.aml_namespace.specs.Kept.{entries_seen}
+use Rattle.aml_objects.specs.Kept.{entries_seen}
 use Rattle.aml_namespace.specs.Load.{first_width}
-use Rattle.aml_namespace.specs.Widths.{width_by}
+use Rattle.aml_objects.specs.Widths.{width_by}
 use Rattle.aml_namespace.proofs.Tables.{LeftToDeclare-all, LeftToDeclare-more, LeftToLoad-all, LeftToLoad-more, fault_of_all, first_told, slice_get-map}
 use Rattle.aml_namespace.proofs.load.load_tables.Goals as goal
 use Rattle.aml_namespace.proofs.load.load_tables.Goals.{then-number-eq0, else-number-eq0}

@@ -1,8 +1,8 @@
 use Rattle.std.proofs.Common.{◌≡◌, ◌<◌, map}
-use Rattle.aml_namespace.specs.Kept.{entries_seen}
+use Rattle.aml_objects.specs.Kept.{entries_seen}
 use Rattle.aml_namespace.proofs.Tables.{LeftToDeclare, LeftToLoad}
 use Rattle.aml_namespace.specs.Load.{first_width}
-use Rattle.aml_namespace.specs.Widths.{width_by}
+use Rattle.aml_objects.specs.Widths.{width_by}
 use Rattle.aml_namespace.proofs.load.load_tables.Given as goal
 
 -- the tables that are left make and declare what all do, and fail as all do

@@ -1,5 +1,5 @@
 use Rattle.std.proofs.Common.{◌<◌, ◌≤◌, ◌∙◌, ◌++◌, ◌∷◌, [], length, ap, arith}
-use Rattle.aml_namespace.specs.declared.width.Width.{Width}
+use Rattle.aml_objects.specs.declared.width.Width.{Width}
 use Rattle.aml_namespace.specs.Shows.{shown}
 use Rattle.aml_contents.specs.ContentViews.{content}
 use Rattle.aml_contents.specs.FirstKinds.{first_kind, greatest_of, held_first}

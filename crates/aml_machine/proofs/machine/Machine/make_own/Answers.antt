@@ -1,4 +1,4 @@
-use Rattle.aml_namespace.specs.Widths.{bits_of}
+use Rattle.aml_objects.specs.Widths.{bits_of}
 use Rattle.aml_meaning.proofs.Owned.{runs_make_own}
 use Rattle.aml_machine.specs.Views.{frame_of, names_of, value_of}
 use Rattle.aml_machine.proofs.Firsts.{first_of_program, kind_of_program}

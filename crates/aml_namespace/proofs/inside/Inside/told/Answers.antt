@@ -1,13 +1,13 @@
 use Rattle.std.proofs.Common.{◌≡◌, suc, ◌+◌, List, [], ap, sym, ◌∙◌, arith, slice_get, option_and_then}
 use Rattle.aml_lex.specs.Names.{name_of}
 use Rattle.aml_arities.specs.declared.external.External.{External}
-use Rattle.aml_namespace.specs.Entries.{paths_in}
-use Rattle.aml_namespace.specs.Kept.{entries_seen}
+use Rattle.aml_objects.specs.Entries.{paths_in}
+use Rattle.aml_objects.specs.Kept.{entries_seen}
 use Rattle.aml_paths.specs.Paths.{Path, path_at}
 use Rattle.aml_paths.specs.Resolve.{resolve}
 use Rattle.aml_namespace.specs.Shows.{bytes_in}
 use Rattle.aml_arities.specs.Told.{first_told}
-use Rattle.aml_namespace.proofs.Kept.{scope_there}
+use Rattle.aml_objects.proofs.Kept.{scope_there}
 use Rattle.aml_arities.proofs.Telling.{none_declared, scope_within, told_as_declared}
 use Rattle.aml_namespace.proofs.inside.Inside.told.Goals as goal
 

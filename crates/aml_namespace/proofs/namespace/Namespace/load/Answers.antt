@@ -1,9 +1,9 @@
 use Rattle.std.proofs.Common.{List, ℕ, length, sym, ap, ◌∙◌, subst}
 use Rattle.aml_namespace.specs.Bodies.{BodiesWithin}
-use Rattle.aml_namespace.specs.Entries.{Entries}
-use Rattle.aml_namespace.specs.Kept.{entries_seen}
+use Rattle.aml_objects.specs.Entries.{Entries}
+use Rattle.aml_objects.specs.Kept.{entries_seen}
 use Rattle.aml_namespace.specs.Load.{AllMake}
-use Rattle.aml_namespace.specs.Settled.{settled}
+use Rattle.aml_objects.specs.Settled.{settled}
 use Rattle.aml_namespace.specs.Shows.{bytes_in}
 use Rattle.aml_namespace.proofs.Settling.{settled_bodies}
 use Rattle.aml_namespace.proofs.Sound.{bodies_within}

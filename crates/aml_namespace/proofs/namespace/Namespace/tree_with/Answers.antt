@@ -1,6 +1,6 @@
 use Rattle.std.proofs.Common.{sym, ◌∙◌}
 use Rattle.aml_namespace.specs.Shows.{shown}
-use Rattle.aml_namespace.proofs.Kept.{body_lies}
+use Rattle.aml_namespace.proofs.BodyPlaces.{body_lies}
 use Rattle.std.proofs.lemmas.Option.{same_Some}
 use Rattle.aml_namespace.proofs.namespace.Namespace.tree_with.Goals as goal
 

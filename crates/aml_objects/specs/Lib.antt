@@ -1,0 +1,9 @@
+pub mod Fault
+pub mod Widths
+pub mod Causes
+pub mod Entries
+pub mod Enter
+pub mod Kept
+pub mod Predefined
+pub mod LookUp
+pub mod Settled
