@@ -64,7 +64,7 @@ module _ (s : NameSeg) (t a b : ℕ) (place : Place) (first : IsLeBy place_order
       let up = sym (ap (λ (o : Ordering). is_gt (ordering_then o (on s place.segment a place.depth))) chains) ∙ first in
       let down = sym (ap (λ (o : Ordering). is_gt (ordering_then o (on place.segment s place.depth b))) chains_back) ∙ last in
       let equal = alike_by (segment_order s place.segment) (segment_order place.segment s) (nat_cmp a place.depth) (nat_cmp place.depth b)
-          (nat_list_cmp_total.antisymm s.bytes place.segment.bytes) up down in
+      (nat_list_cmp_total.antisymm s.bytes place.segment.bytes) up down in
       let bytes = (bytes_decides s.bytes place.segment.bytes).0 (texts_ties s.bytes place.segment.bytes ∙ ap is_eq equal) in
       λ i. record { bytes = bytes i }
 

@@ -21,8 +21,8 @@ returns-then-place-spot c =
     sym (sym (known_on_chain held.numbers held.steps.items (paths_seen held) held.numbered.known segment spot.top spot.depth)
     ∙ other_found held.numbers segment spot.top spot.depth c.range.result c.next_back.new.self place c.in_ok-place.number.now (c.range.ensures.in_range tt) c.in_ok-place.ensures.steps
     (λ one. elim c.then-place-spot.branch [
-      then-place-spot-via-then-place-spot w ↦ w.if-place-spot.true (ap (λ (p : Place). p.top) one)
-    | then-place-spot-via-else-place-spot+then-ne w ↦ is_of_another place segment spot.top w.if-ne.ensures one
+      | then-place-spot-via-then-place-spot w ↦ w.if-place-spot.true (ap (λ (p : Place). p.top) one)
+      | then-place-spot-via-else-place-spot+then-ne w ↦ is_of_another place segment spot.top w.if-ne.ensures one
     ]))
 
 pub returns : goal.returns
