@@ -7,3 +7,6 @@ pub mod Leaving
 pub mod Narrow
 pub mod Stored
 pub mod Makings
+pub mod Unmet
+pub mod Ends
+pub mod Wide

@@ -1,3 +1,4 @@
 pub mod Views
 pub mod Follows
 pub mod Turns
+pub mod Finds

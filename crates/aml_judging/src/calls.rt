@@ -94,7 +94,7 @@ fn levels<A: Around>(
     if progress.locks.takes_level(least, held)? {
         Ok(())
     } else {
-        let finding = finds::level(&progress.locks, held, least);
+        let finding = finds::level(least, progress.locks.greatest(held).ok());
         Err(Stop::Refused(refusal_for(here, Cause::Level, at, finding)))
     }
 }

@@ -87,7 +87,7 @@ pub fn taken<A: Around>(
         return Err(Stop::Refused(refusal(here, Cause::HeldDiffers, at)));
     }
     if mutex.level < progress.locks.greatest(held)? {
-        let finding = finds::level(&progress.locks, held, Some(mutex.level));
+        let finding = finds::level(Some(mutex.level), progress.locks.greatest(held).ok());
         return Err(Stop::Refused(refusal_for(here, Cause::Level, at, finding)));
     }
     progress.env.held = progress.locks.take(held, mutex)?;

@@ -1,0 +1,11 @@
+use Rattle.aml_judging.proofs.Unmet.{combined_are_unmet, compared_are_unmet, concatenated_are_unmet, converted_are_unmet, integers_are_unmet}
+use Rattle.aml_judging.proofs.finds.findings_are_unmet.Goals as goal
+
+pub returns : goal.returns
+returns c = record {
+  integers = integers_are_unmet;
+  combined = combined_are_unmet;
+  compared = compared_are_unmet;
+  converted = converted_are_unmet;
+  concatenated = concatenated_are_unmet;
+}
