@@ -6,7 +6,7 @@ ghost use Rattle.aml_judged.specs.Known.{slot_within};
 ghost use Rattle.aml_meaning.specs.Actions.{action};
 ghost use Rattle.aml_meaning.specs.Owns.{field_at};
 ghost use Rattle.aml_meaning.specs.declared.mutex.TakenMutex.{TakenMutex};
-ghost use Rattle.aml_namespace.specs.Widths.{bits_of};
+ghost use Rattle.aml_objects.specs.Widths.{bits_of};
 ghost use Rattle.aml_known.specs.Views.{AreApart, slot_of};
 ghost use Rattle.aml_judging.specs.Finds as spec;
 ghost use Rattle.aml_judging.specs.Finds.{CombinedAreUnmet, ComparedAreUnmet, ConcatenatedAreUnmet, ConvertedAreUnmet, FindsChanged, FindsEnd, FindsLed, IntegersAreUnmet};
