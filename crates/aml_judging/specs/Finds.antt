@@ -1,5 +1,5 @@
--- What rules find where they refuse, and what was wanted there, in the words of the rules. Tables say
--- what is told of which operands; the rules themselves are those of aml_judged.
+-- What rules find where they refuse, and what was wanted there, in the words of the rules. Tables
+-- say what is told of which operands; the rules themselves are those of aml_judged.
 use Rattle.std.specs.Prelude.{◌≡◌, ℕ, ◌+◌, ◌-◌, ◌*◌, ◌^◌, ◌==◌, ◌<◌, ◌⊎◌, nat_le, nat_lt, min, not, List, Bool, true, false, if◌then◌else◌, Option, Some, None, IsErr, slice_get}
 use Rattle.aml_namespace.specs.declared.link.Link.{Link}
 use Rattle.aml_namespace.specs.declared.link.Link.TheVariants as link
@@ -67,7 +67,8 @@ abbrev pub compared_finding : Comparison → Known → Known → Finding
 compared_finding comparison.LEqual j k = equal_finding j k
 compared_finding f j k = integers_finding j k
 
--- a conversion takes integers and buffers; with one of them all that may be wrong is an empty buffer
+-- a conversion takes integers and buffers; with one of these all that may be wrong is that a
+-- buffer is empty
 abbrev pub converted_finding : Known → Finding
 converted_finding (known.Int n) = kind_found (known.Int n) wanted.FilledBuffer
 converted_finding (known.Buf n) = kind_found (known.Buf n) wanted.FilledBuffer
@@ -176,8 +177,8 @@ module _ (here : Around) where
   notified_finding does.Name at = named_finding (here.link at) wanted.Notifiable
   notified_finding action at = finding.Other found.Slot wanted.Notifiable
 
-  -- a byte is stored at an index of the name at a place, which holds what is of a kind: the index is
-  -- told where it may be too great, else what is stored
+  -- a byte is stored at an index of the name at a place, which holds what is of a kind: the index
+  -- is told where it may be too great, else what is stored
   abbrev pub byte_finding : ℕ → Option Known → Known → Known → Finding
   byte_finding from (Some (known.Buf size)) (known.Int greatest) kind = if nat_lt greatest size
       then integer_finding kind else finding.Index greatest (Some size)
@@ -197,8 +198,8 @@ module _ (here : Around) where
       then given_finding here.width f.bits kind else finding.Field f.byte f.bit f.bits size
   part_stored_finding f old kind = part_finding f old
 
--- the level of a mutex that is taken, if one is, and the greatest of those that are held, if that is
--- known
+-- the level of a mutex that is taken, if one is, and the greatest of those that are held, if that
+-- is known
 abbrev pub level_finding : Option ℕ → Option ℕ → Finding
 level_finding (Some taken) (Some held) = finding.Level taken held
 level_finding taken held = finding.Nothing
@@ -217,18 +218,21 @@ module _ (shapes : ℕ → Shape) where
     pub kept : (number : ℕ) → number < count → keeps ends starts number ≡ true
 
   -- the first slot that does not, with what it began with and what it holds
-  pub record IsFirstChanged (ends starts : List (Option Known)) (change : ChangedSlot) : Type 0 where
+  pub record IsFirstChanged (ends starts : List (Option Known)) (change : ChangedSlot)
+      : Type 0 where
     pub began : slot_at starts change.number ≡ Some (kind_of shapes change.began)
     pub held : slot_at ends change.number ≡ slot_of shapes change.held
     pub changed : keeps ends starts change.number ≡ false
     pub first : Keep ends starts change.number
 
   -- it is found, if one of the eight does not
-  abbrev pub FindsChanged : List (Option Known) → List (Option Known) → Option ChangedSlot → Type 0
+  abbrev pub FindsChanged :
+      List (Option Known) → List (Option Known) → Option ChangedSlot → Type 0
   FindsChanged ends starts (Some change) = IsFirstChanged ends starts change
   FindsChanged ends starts None = Keep ends starts 8
 
-  -- a turn's end, and where turns begin: the first local that changed is told, else the first argument
+  -- a turn's end, and where turns begin: the first local that changed is told, else the first
+  -- argument that did
   abbrev pub FindsEnd : Env → Env → Finding → Type 0
   FindsEnd end start (finding.Turn (slot.Local number) began ends) =
       IsFirstChanged end.locals start.locals
@@ -280,7 +284,8 @@ IntegersAreUnmet = (shapes : ℕ → Shape) (p : Place) (k : Known) →
 
 abbrev pub ComparedAreUnmet : Type 0
 ComparedAreUnmet =
-    (shapes : ℕ → Shape) (width : ℕ) (f : Comparison) (p : Place) (j : Known) (q : Place) (k : Known) →
+    (shapes : ℕ → Shape) (width : ℕ) (f : Comparison) (p : Place) (j : Known) (q : Place)
+    (k : Known) →
     IsErr (compared_kind width f p (kind_of shapes j) q (kind_of shapes k)) →
     IsUnmet shapes (compared_finding f j k)
 
@@ -294,4 +299,5 @@ abbrev pub CombinedAreUnmet : Type 0
 CombinedAreUnmet = (shapes : ℕ → Shape) (j k : Known) → IsUnmet shapes (combined_finding j k)
 
 abbrev pub ConcatenatedAreUnmet : Type 0
-ConcatenatedAreUnmet = (shapes : ℕ → Shape) (j k : Known) → IsUnmet shapes (concatenated_finding j k)
+ConcatenatedAreUnmet =
+    (shapes : ℕ → Shape) (j k : Known) → IsUnmet shapes (concatenated_finding j k)

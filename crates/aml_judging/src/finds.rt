@@ -291,7 +291,7 @@ pub fn notified<A: Around>(here: &A, op: Op, at: usize) -> Finding
     }
 }
 
-/// Where a mutex of a level is taken, if one is, and others are held, the greatest level of which may be
+/// Where a mutex of a level is taken, if one is, and others are held, whose greatest level may be
 /// known.
 pub fn level(taken: Option<u8>, held: Option<u8>) -> Finding
     ensures { result ≡ spec.level_finding taken held }
