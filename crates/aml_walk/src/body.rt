@@ -11,7 +11,7 @@ ghost use Rattle.aml_known.specs.Views.{AreApart, kind_of, kinds_of, yield_of};
 ghost use Rattle.aml_judging.specs.Follows.{IsVerdict, Judges};
 ghost use Rattle.aml_judging.specs.Views.{made_of};
 
-use crate::terms::statement;
+use crate::terms::acts::statement;
 use aml_causes::Cause;
 use aml_judging::definitions::made;
 use aml_judging::mutexes::none_held;
