@@ -12,7 +12,7 @@ ghost use Rattle.aml_machine.specs.Views.{made, now};
 ghost use Rattle.aml_scene.specs.Tells.{IsOrNoMemory, is_package, told, went};
 
 use aml_machine::Machine;
-use aml_meaning::{AmlCause, BufferPart};
+use aml_meaning::{AmlCause, BufferField};
 use aml_paths::{NoMemory, ObjectId};
 use aml_scene::halt::{Halt, Scene, fails};
 use aml_values::{Value, copy};
@@ -169,7 +169,7 @@ pub fn define_own(
 pub fn define_field(
     alloc: Global,
     scene: &Scene<'_>,
-    field: BufferPart,
+    field: BufferField,
     machine: &mut Machine,
 ) -> Result<(), Halt>
     ensures means { (log : List Event) → Runs (went result)

@@ -2,7 +2,7 @@
 
 ghost use Rattle.std.specs.Prelude.{◌≡◌, List};
 ghost use Rattle.std.specs.Option.{option_map};
-ghost use Rattle.aml_objects.specs.declared.object.BufferFieldSize.TheVariants as size;
+ghost use Rattle.aml_objects.specs.declared.object.CreatedFieldSize.TheVariants as size;
 ghost use Rattle.aml_regions.specs.Events.{Event};
 ghost use Rattle.aml_meaning.specs.Definitions.{field_source, make_field};
 ghost use Rattle.aml_meaning.specs.Runs.{Runs};
@@ -10,10 +10,10 @@ ghost use Rattle.aml_machine.specs.Views.{now};
 ghost use Rattle.aml_scene.specs.Tells.{itself, setting_in, told, went};
 
 use crate::contents;
-use aml_fields::made_part;
+use aml_fields::made_buffer_field;
 use aml_machine::Machine;
 use aml_meaning::AmlCause;
-use aml_namespace::{BufferFieldSize, Link};
+use aml_namespace::{CreatedFieldSize, Link};
 use aml_scene::halt::{Halt, Scene, fails};
 use aml_scene::own::link_of;
 use std::alloc::Global;
@@ -43,7 +43,7 @@ pub fn make_field(
     at: usize,
     from: Option<usize>,
     index: Option<u64>,
-    size: Option<BufferFieldSize>,
+    size: Option<CreatedFieldSize>,
     machine: &mut Machine,
 ) -> Result<(), Halt>
     ensures means { (call : _) (log : List Event) → Runs (went result)
@@ -61,16 +61,16 @@ pub fn make_field(
         return Err(fails(AmlCause::Outside, scene, at));
     };
     let source = field_source(scene, at, link_of(scene, from), machine)?;
-    let part = made_part(scene.width, source, size, index);
-    contents::define_field(alloc, scene, part, machine)
+    let field = made_buffer_field(scene.width, source, size, index);
+    contents::define_field(alloc, scene, field, machine)
 }
 
 /// How large a field is that has so many bits, where the number is a literal.
-pub fn counted(bits: Option<u64>) -> Option<BufferFieldSize>
+pub fn counted(bits: Option<u64>) -> Option<CreatedFieldSize>
     ensures { result ≡ option_map size.Bits bits }
 {
     match bits {
-        Some(bits) => Some(BufferFieldSize::Bits(bits)),
+        Some(bits) => Some(CreatedFieldSize::Bits(bits)),
         None => None,
     }
 }

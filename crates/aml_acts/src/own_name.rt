@@ -8,9 +8,9 @@ ghost use Rattle.aml_meaning.specs.Runs.{Runs};
 ghost use Rattle.aml_machine.specs.Views.{now, value_of};
 ghost use Rattle.aml_scene.specs.Tells.{setting_in, told, went};
 
+use crate::buffer_field::{buffer_field_read, buffer_field_stored};
 use crate::contents;
-use crate::part::{part_read, part_stored};
-use aml_fields::usable_part;
+use aml_fields::usable_buffer_field;
 use aml_machine::Machine;
 use aml_meaning::AmlCause;
 use aml_scene::halt::{Halt, Scene, fails};
@@ -30,7 +30,7 @@ pub fn own_held(
         (now machine.now log) (now machine.now log) }
 {
     match machine.own_field(number) {
-        Some(field) => part_read(alloc, scene, at, usable_part(field), machine),
+        Some(field) => buffer_field_read(alloc, scene, at, usable_buffer_field(field), machine),
         None => {
             let content = contents::own_content(alloc, scene, at, number, machine)?;
             Ok(Some(content))
@@ -52,7 +52,7 @@ pub fn own_stored(
     ensures falls { machine.new.steps ≤ machine.old.steps }
 {
     match machine.own_field(number) {
-        Some(field) => part_stored(scene, at, usable_part(field), &stored, machine),
+        Some(field) => buffer_field_stored(scene, at, usable_buffer_field(field), &stored, machine),
         None => contents::set_own(scene, at, number, stored, machine),
     }
 }

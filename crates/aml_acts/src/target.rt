@@ -7,10 +7,10 @@ ghost use Rattle.aml_meaning.specs.Runs.{Runs};
 ghost use Rattle.aml_machine.specs.Views.{now, value_of};
 ghost use Rattle.aml_scene.specs.Tells.{setting_in, told, went};
 
+use crate::buffer_field::{buffer_field_read, buffer_field_stored, named_buffer_field};
 use crate::contents;
 use crate::field::{field_read, field_stored};
 use crate::own_name::{own_held, own_stored};
-use crate::part::{named_part, part_read, part_stored};
 use aml_machine::Machine;
 use aml_meaning::{Action, AmlCause};
 use aml_namespace::Link;
@@ -52,7 +52,13 @@ pub fn named<W: World>(
         }
         Link::Own(number) => own_held(alloc, scene, at, number, machine),
         Link::Field(id) => field_read(alloc, scene, at, id, machine, world),
-        Link::BufferField(id) => part_read(alloc, scene, at, named_part(scene, id), machine),
+        Link::BufferField(id) => buffer_field_read(
+            alloc,
+            scene,
+            at,
+            named_buffer_field(scene, id),
+            machine,
+        ),
         link => Err(fails(unwritable(link), scene, at)),
     }
 }
@@ -109,7 +115,13 @@ fn put_name<W: World>(
         Link::Data(id) => contents::set_name(scene, at, id, stored, machine),
         Link::Own(number) => own_stored(scene, at, number, stored, machine),
         Link::Field(id) => field_stored(scene, at, id, &stored, machine, world),
-        Link::BufferField(id) => part_stored(scene, at, named_part(scene, id), &stored, machine),
+        Link::BufferField(id) => buffer_field_stored(
+            scene,
+            at,
+            named_buffer_field(scene, id),
+            &stored,
+            machine,
+        ),
         link => {
             take_step(machine)?;
             Err(fails(unwritable(link), scene, at))

@@ -16,7 +16,7 @@ use aml_acts::define::{counted, make_field};
 use aml_literals::literal_number;
 use aml_machine::Machine;
 use aml_meaning::{Action, AmlCause, action_of};
-use aml_namespace::{BufferFieldSize, Link};
+use aml_namespace::{CreatedFieldSize, Link};
 use aml_places::name_end;
 use aml_scene::halt::{Halt, fails};
 use aml_scene::own::{link_of, makes_own};
@@ -58,7 +58,7 @@ fn literal_there(here: Here<'_>, bytes: &[u8], at: usize) -> Option<(u64, usize)
 pub fn sized_field(
     alloc: Global,
     here: Here<'_>,
-    size: BufferFieldSize,
+    size: CreatedFieldSize,
     own: usize,
     bytes: &[u8],
     at: usize,

@@ -4,12 +4,12 @@
 mod any;
 mod bank;
 mod buffer;
+mod buffer_field;
 mod bytes;
 mod count;
 mod index;
 mod kernel;
 mod law;
-mod part;
 mod reach;
 mod read;
 mod region;
@@ -21,10 +21,12 @@ mod wide;
 mod write;
 
 pub use buffer::{read_buffer_field, read_wide_buffer_field, write_buffer_field};
+pub use buffer_field::{
+    buffer_field_numbered, buffer_field_value, made_buffer_field, stored_byte, usable_buffer_field,
+};
 pub use bytes::BitBytes;
 pub use count::{read_count, write_count};
 pub use law::{events_are_made, limits_count_events};
-pub use part::{made_part, part_numbered, part_value, stored_byte, usable_part};
 pub use reach::field_in;
 pub use read::read_integer_field;
 pub use soundness::sound;

@@ -2,7 +2,7 @@
 #![tactic(auto)]
 
 #[cfg(test)]
-mod buffer_parts;
+mod buffer_fields;
 #[cfg(test)]
 mod field_sums;
 #[cfg(test)]

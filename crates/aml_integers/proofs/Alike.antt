@@ -16,7 +16,7 @@ use Rattle.aml_meaning.specs.Within.{Callee, Methods}
 use Rattle.aml_bounds.specs.Calls.{called, called_by, calls_in_term, calls_of}
 use Rattle.aml_bounds.specs.Chains.{is_among}
 use Rattle.aml_bounds.proofs.Among.{among_back, among_front, first_among}
-use Rattle.aml_judged.specs.Integers.{integer_asked, integer_called, integer_name, integers, integers_by, integers_in, is_narrow, is_narrow_part, makes_nothing}
+use Rattle.aml_judged.specs.Integers.{integer_asked, integer_called, integer_name, integers, integers_by, integers_in, is_narrow, is_narrow_buffer_field, makes_nothing}
 use Rattle.aml_judged.specs.Judged.{Around}
 use Rattle.aml_integers.specs.Known.{body_in, IsAround, methods_in}
 use Rattle.aml_integers.specs.Laws.{CallsDecide}
@@ -39,7 +39,7 @@ module _ (methods others : Methods) (m n : Callee) (kinds : ContentKinds) (only 
   name_same : (l : Link) → integer_name methods m kinds only l ≡ integer_name others n kinds other l
   name_same (link.Data id) = refl
   name_same (link.Field id) = ap (λ w. is_narrow w (methods.field id.0)) a.width ∙ ap (is_narrow others.width) (a.field id.0)
-  name_same (link.BufferField id) = ap (λ w. is_narrow_part w (methods.buffer_field id.0)) a.width ∙ ap (is_narrow_part others.width) (a.buffer_field id.0)
+  name_same (link.BufferField id) = ap (λ w. is_narrow_buffer_field w (methods.buffer_field id.0)) a.width ∙ ap (is_narrow_buffer_field others.width) (a.buffer_field id.0)
   name_same l = refl
 
   called_same : (l : Link) → SameOf (called l) → integer_called methods m kinds only l ≡ integer_called others n kinds other l

@@ -11,7 +11,7 @@ ghost use Rattle.aml_integers.specs.Known.{body_in, marked, methods_in};
 
 use aml_judging::{Around, FieldCosts};
 use aml_known::Known;
-use aml_meaning::{BufferPart, Definition};
+use aml_meaning::{BufferField, Definition};
 use aml_namespace::Link;
 use aml_paths::ObjectId;
 
@@ -56,11 +56,11 @@ fn is_narrow<A: Around>(here: &A, field: Option<FieldCosts>) -> bool
 }
 
 /// The same of a field of a buffer.
-fn is_narrow_part<A: Around>(here: &A, part: Option<BufferPart>) -> bool
-    ensures { result ≡ judged.is_narrow_part (A.around here.now).width part }
+fn is_narrow_buffer_field<A: Around>(here: &A, field: Option<BufferField>) -> bool
+    ensures { result ≡ judged.is_narrow_buffer_field (A.around here.now).width field }
 {
-    match part {
-        Some(part) => fits_width(here, part.bits),
+    match field {
+        Some(field) => fits_width(here, field.bits),
         None => false,
     }
 }
@@ -93,7 +93,7 @@ pub fn name<A: Around>(here: &A, link: Link) -> bool
     match link {
         Link::Data(id) => is_integer(here.shared(id)),
         Link::Field(id) => is_narrow(here, here.field(id)),
-        Link::BufferField(id) => is_narrow_part(here, here.buffer_field(id)),
+        Link::BufferField(id) => is_narrow_buffer_field(here, here.buffer_field(id)),
         _ => false,
     }
 }

@@ -41,7 +41,7 @@ use Rattle.aml_judged.proofs.Parts.{return_left, return_right, stop_left, steppe
 use Rattle.aml_judged.proofs.Sound.{mean_safe}
 use Rattle.aml_judged.proofs.FieldsSafe.{around_of}
 use Rattle.aml_judged.proofs.KindRules.{plain}
-use Rattle.aml_meaning.specs.declared.part.BufferPart.{BufferPart}
+use Rattle.aml_meaning.specs.declared.buffer_field.BufferField.{BufferField}
 
 -- a call leaves the frame alone, and stops by an error or not at all
 left_tame : (table : ℕ) (frame : Frame) (o : Out (Unit {0})) → IsTame frame (left table frame o)
@@ -115,12 +115,12 @@ module _ (width : ℕ) (shared : ContentKinds) (above : ℕ) where
   spent_ended before n x (Goes u env y m) s lt = omega (arith, lt)
   spent_ended before n x (Stops r) s lt = tt
 
-  there : (owns : ContentKinds) (fields : List (Option BufferPart)) (e : Option Env) (s : State) → FitsExit width (record { shared = shared; owns = owns; fields = fields }) above e s → There e
+  there : (owns : ContentKinds) (fields : List (Option BufferField)) (e : Option Env) (s : State) → FitsExit width (record { shared = shared; owns = owns; fields = fields }) above e s → There e
   there owns fields (Some e) s h = tt
   there owns fields None s h = h
 
   -- a stop of a statement, with what is known of own names
-  stop_ended : (owns : ContentKinds) (fields : List (Option BufferPart)) (before n : ℕ) (x : Exits) (env : Env) (stop : Stop) (s : State) → FitsStop width (record { shared = shared; owns = owns; fields = fields }) above x stop s → before ≤ s.steps + n → Ended before (Goes tt env x n) (Halts stop s)
+  stop_ended : (owns : ContentKinds) (fields : List (Option BufferField)) (before n : ℕ) (x : Exits) (env : Env) (stop : Stop) (s : State) → FitsStop width (record { shared = shared; owns = owns; fields = fields }) above x stop s → before ≤ s.steps + n → Ended before (Goes tt env x n) (Halts stop s)
   stop_ended owns fields before n x env (Error e) s h le = (h, le)
   stop_ended owns fields before n x env (Returned v) s h le = (h.0, h.1, le)
   stop_ended owns fields before n x env (Broke at) s h le = (there owns fields x.broke s h, le)

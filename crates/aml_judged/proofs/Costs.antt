@@ -20,9 +20,9 @@ use Rattle.aml_contents.specs.Contents.{kind_at}
 use Rattle.aml_meaning.specs.declared.action.Action.{Action}
 use Rattle.aml_meaning.specs.declared.action.Action.TheVariants.{Argument, Binary, Break, ByOne, Compare, Concatenate, CondRefOf, Continue, Convert, Data, Debug, Dereference, Divide, If, Index, Invoke, LNot, Literal, Local, Name, NoTarget, Nothing, Notify, Pause, Acquire, Release, Return, SizeOf, Store, Unary, Unwritten, While}
 use Rattle.aml_meaning.specs.declared.mutex.TakenMutex.{TakenMutex}
-use Rattle.aml_meaning.specs.declared.part.BufferPart.{BufferPart}
+use Rattle.aml_meaning.specs.declared.buffer_field.BufferField.{BufferField}
 use Rattle.aml_meaning.specs.Actions.{action}
-use Rattle.aml_meaning.specs.BufferFields.{usable_part}
+use Rattle.aml_meaning.specs.BufferFields.{usable_buffer_field}
 use Rattle.aml_meaning.specs.Fields.{write_count}
 use Rattle.aml_meaning.specs.Meaning.{at_of}
 use Rattle.aml_meaning.specs.Mutexes.{without_last}
@@ -36,7 +36,7 @@ use Rattle.aml_bounds.specs.Shapes.{is_operand}
 use Rattle.aml_bounds.specs.Steps.{extra_steps, first_steps, index_steps, Knows, read_role, role, steps_as, steps_by, steps_from, target_steps, written_role}
 use Rattle.aml_judged.specs.Causes as cause
 use Rattle.aml_judged.specs.Causes.{Refusal}
-use Rattle.aml_judged.specs.KindRules.{byte_written_kind, combined_kind, compared_kind, concatenated_kind, converted_kind, divided_kind, given_kind, integer_kind, interface_kind, led_kind, may_replace, negated_kind, notice_kind, part_stored_kind, size_kind, source_kind, transformed_kind}
+use Rattle.aml_judged.specs.KindRules.{buffer_field_stored_kind, byte_written_kind, combined_kind, compared_kind, concatenated_kind, converted_kind, divided_kind, given_kind, integer_kind, interface_kind, led_kind, may_replace, negated_kind, notice_kind, size_kind, source_kind, transformed_kind}
 use Rattle.aml_judged.specs.Known.{within, Env, Held, These, Different, Slot}
 use Rattle.aml_judged.specs.Judged.{Yield, Always, Sometimes, Never, Accepted, Seen, Around, Exits, Judged, Goes, Stops, Rule, after, then_judge, goes, meet, no_exits, pays, ruled, step}
 use Rattle.aml_judged.specs.Judge as judge
@@ -199,12 +199,12 @@ module _ (here : Around) (turns : ℕ → TurnCount) where
   content_free at (Some k) env = refl
   content_free at None env = tt
 
-  part_free : (f : Option BufferPart) (at : ℕ) (env : Env) → Costs 0 (judge.judged_part here f at env)
-  part_free (Some f) at env = ruled_then 0 (source_kind (place_at at) f (held_kind f.source)) _ env (λ u. refl)
-  part_free None at env = tt
+  buffer_field_free : (f : Option BufferField) (at : ℕ) (env : Env) → Costs 0 (judge.judged_buffer_field here f at env)
+  buffer_field_free (Some f) at env = ruled_then 0 (source_kind (place_at at) f (held_kind f.source)) _ env (λ u. refl)
+  buffer_field_free None at env = tt
 
-  own_free : (f : Option BufferPart) (k at : ℕ) (env : Env) → Costs 0 (judge.judged_own here f k at env)
-  own_free (Some f) k at env = part_free (usable_part f) at env
+  own_free : (f : Option BufferField) (k at : ℕ) (env : Env) → Costs 0 (judge.judged_own here f k at env)
+  own_free (Some f) k at env = buffer_field_free (usable_buffer_field f) at env
   own_free None k at env = content_free at (kind_at here.kinds.owns k) env
 
   field_costs : (f : Option AnyField) (at : ℕ) (env : Env) → Costs (read_cost f) (judge.judged_field here f at env)
@@ -215,7 +215,7 @@ module _ (here : Around) (turns : ℕ → TurnCount) where
   name_costs (link.Data id) at env = content_free at (kind_at here.kinds.shared id.0) env
   name_costs (link.Own k) at env = own_free (field_at here.kinds.fields k) k at env
   name_costs (link.Field id) at env = field_costs (here.field id.0) at env
-  name_costs (link.BufferField id) at env = part_free (here.buffer_field id.0) at env
+  name_costs (link.BufferField id) at env = buffer_field_free (here.buffer_field id.0) at env
   name_costs link.Missing at env = tt
   name_costs (link.Method id) at env = tt
   name_costs link.OsInterfaces at env = tt
@@ -234,7 +234,7 @@ module _ (here : Around) (turns : ℕ → TurnCount) where
   content_seen_free at (Some k) env = refl
   content_seen_free at None env = tt
 
-  own_seen_free : (f : Option BufferPart) (k at : ℕ) (env : Env) → Costs 0 (judge.judged_own_seen here f k at env)
+  own_seen_free : (f : Option BufferField) (k at : ℕ) (env : Env) → Costs 0 (judge.judged_own_seen here f k at env)
   own_seen_free (Some f) k at env = tt
   own_seen_free None k at env = content_seen_free at (kind_at here.kinds.owns k) env
 
@@ -372,7 +372,7 @@ module _ (here : Around) (turns : ℕ → TurnCount) where
   invoked_costs w (link.Data id) at s none given env takes empty h = costs_same 0 _ _ (let e = empty refl in omega (arith, e)) (content_free at (kind_at here.kinds.shared id.0) env)
   invoked_costs w (link.Own k) at s none given env takes empty h = costs_same 0 _ _ (let e = empty refl in omega (arith, e)) (own_free (field_at here.kinds.fields k) k at env)
   invoked_costs w (link.Field id) at s none given env takes empty h = costs_same (read_cost (here.field id.0)) _ _ (let e = empty refl in omega (arith, e)) (field_costs (here.field id.0) at env)
-  invoked_costs w (link.BufferField id) at s none given env takes empty h = costs_same 0 _ _ (let e = empty refl in omega (arith, e)) (part_free (here.buffer_field id.0) at env)
+  invoked_costs w (link.BufferField id) at s none given env takes empty h = costs_same 0 _ _ (let e = empty refl in omega (arith, e)) (buffer_field_free (here.buffer_field id.0) at env)
   invoked_costs w link.Missing at s arguments given env takes empty h = tt
   invoked_costs w (link.Object id) at s arguments given env takes empty h = tt
   invoked_costs w (link.Data id) at s (more t ts) given env takes empty h = absurd cc
@@ -385,16 +385,16 @@ module _ (here : Around) (turns : ℕ → TurnCount) where
   written_costs (Some f) at k env = ruled_then (write_count f) (given_kind here.width (place_at at) (layout_of f).bits k) _ env (λ u. refl)
   written_costs None at k env = tt
 
-  part_stored_costs : (f : Option BufferPart) (at : ℕ) (k : Kind) (env : Env) → Costs 1 (judge.judged_part_stored here f at k env)
-  part_stored_costs (Some f) at k env = ruled_then 1 (part_stored_kind here.width (place_at at) f (held_kind f.source) k) _ env (λ u. refl)
-  part_stored_costs None at k env = tt
+  buffer_field_stored_costs : (f : Option BufferField) (at : ℕ) (k : Kind) (env : Env) → Costs 1 (judge.judged_buffer_field_stored here f at k env)
+  buffer_field_stored_costs (Some f) at k env = ruled_then 1 (buffer_field_stored_kind here.width (place_at at) f (held_kind f.source) k) _ env (λ u. refl)
+  buffer_field_stored_costs None at k env = tt
 
   into_costs : (at : ℕ) (old : Option Kind) (k : Kind) (env : Env) → Costs 1 (judge.judged_into here at old k env)
   into_costs at (Some old) k env = if_costs (may_replace k old) 1 (pays 1 tt) (judge.stops here cause.WrongKind at) env refl tt
   into_costs at None k env = tt
 
-  own_stored_costs : (f : Option BufferPart) (i at : ℕ) (k : Kind) (env : Env) → Costs 1 (judge.judged_own_stored here f i at k env)
-  own_stored_costs (Some f) i at k env = part_stored_costs (usable_part f) at k env
+  own_stored_costs : (f : Option BufferField) (i at : ℕ) (k : Kind) (env : Env) → Costs 1 (judge.judged_own_stored here f i at k env)
+  own_stored_costs (Some f) i at k env = buffer_field_stored_costs (usable_buffer_field f) at k env
   own_stored_costs None i at k env = into_costs at (kind_at here.kinds.owns i) k env
 
   name_stored_costs : (l : Link) (at : ℕ) (k : Kind) (env : Env) → Costs (suc (stored_cost here l)) (judge.judged_target here l at k env)
@@ -402,7 +402,7 @@ module _ (here : Around) (turns : ℕ → TurnCount) where
   name_stored_costs (link.Own i) at k env = own_stored_costs (field_at here.kinds.fields i) i at k env
   name_stored_costs (link.Field id) at k env =
       costs_same (1 + write_cost (here.field id.0)) _ _ (omega arith) (then_costs 1 (write_cost (here.field id.0)) (step env) _ refl (λ u next. written_costs (here.field id.0) at k next))
-  name_stored_costs (link.BufferField id) at k env = part_stored_costs (here.buffer_field id.0) at k env
+  name_stored_costs (link.BufferField id) at k env = buffer_field_stored_costs (here.buffer_field id.0) at k env
   name_stored_costs link.Missing at k env = tt
   name_stored_costs (link.Method id) at k env = tt
   name_stored_costs link.OsInterfaces at k env = tt

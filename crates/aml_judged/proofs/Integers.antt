@@ -30,9 +30,9 @@ use Rattle.aml_meaning.specs.declared.definition.Definition.TheVariants as makes
 use Rattle.aml_meaning.specs.declared.error.AmlCause.TheVariants as why
 use Rattle.aml_meaning.specs.declared.error.AmlError.{AmlError}
 use Rattle.aml_meaning.specs.declared.mutex.TakenMutex.{TakenMutex}
-use Rattle.aml_meaning.specs.declared.part.BufferPart.{BufferPart}
+use Rattle.aml_meaning.specs.declared.buffer_field.BufferField.{BufferField}
 use Rattle.aml_meaning.specs.Actions.{action}
-use Rattle.aml_meaning.specs.BufferFields.{read_part, written_part, bytes_around}
+use Rattle.aml_meaning.specs.BufferFields.{read_buffer_field, written_buffer_field, bytes_around}
 use Rattle.aml_meaning.specs.Calls.{framed, inside, left}
 use Rattle.aml_meaning.specs.Changes.{change, changed_or, held_by, holding, peek, peeked_or}
 use Rattle.aml_meaning.specs.Conversions.{converted}
@@ -40,7 +40,7 @@ use Rattle.aml_meaning.specs.Definitions.{definition, mean_body, mean_method, st
 use Rattle.aml_meaning.specs.Fields.{read_value, write_bits, read_count, write_count}
 use Rattle.aml_meaning.specs.FieldValues.{given_bits, wanted_field}
 use Rattle.aml_meaning.specs.Loops.{turned, turn_end, turns, loop, spent}
-use Rattle.aml_meaning.specs.Meaning.{Setting, at_of, act, mean, value, values, mean_all, block, otherwise, is_else, want, store, stored, put, named, named_target, invoked, held, field_stored, bits_stored, part_read, part_changed, asked, condition, is_there, notified_name, notified, tested, gives_value, changed_in_place, operator_action, place, place_at, outside, mutex, mutex_named, mutex_numbered}
+use Rattle.aml_meaning.specs.Meaning.{Setting, at_of, act, mean, value, values, mean_all, block, otherwise, is_else, want, store, stored, put, named, named_target, invoked, held, field_stored, bits_stored, buffer_field_read, buffer_field_changed, asked, condition, is_there, notified_name, notified, tested, gives_value, changed_in_place, operator_action, place, place_at, outside, mutex, mutex_named, mutex_numbered}
 use Rattle.aml_meaning.specs.Mutexes.{acquire, acquired_or, ended_or, none_held, release, released_or, without_last}
 use Rattle.aml_meaning.specs.Notices.{notice, paused}
 use Rattle.aml_meaning.specs.Parts.{M, ◌>>=◌, give, stop_with, lift, tick, paid, take_step, then_do, get_local, get_arg, get_name, set_local, set_arg, set_name, make_event, sleep, woken, woken_or, content_or, stored_or, may_store}
@@ -50,7 +50,7 @@ use Rattle.aml_meaning.specs.State as state
 use Rattle.aml_meaning.specs.State.{State, Frame, Error, Returned, Broke, Continued, Out, Halts, NoAnswer, Spent, entered, held_level, slots, with_steps}
 use Rattle.aml_meaning.specs.Within.{Callee, Methods, call_within, callee_or, setting_for}
 use Rattle.aml_judged.specs.Events.{Costs}
-use Rattle.aml_judged.specs.Integers.{is_integer, are_integers, is_narrow, is_narrow_part, makes_nothing, integer_name, integer_called, integers, integers_by, integers_in, integer_only_by, AreIntegerOnly, IsInteger, IsIntegerIfAny, AreIntegersIfAny, AreIntegers, HoldIntegers, LeavesIntegers, IsIntegral, StaysIntegral, GivesInteger, IntegersAlone}
+use Rattle.aml_judged.specs.Integers.{is_integer, are_integers, is_narrow, is_narrow_buffer_field, makes_nothing, integer_name, integer_called, integers, integers_by, integers_in, integer_only_by, AreIntegerOnly, IsInteger, IsIntegerIfAny, AreIntegersIfAny, AreIntegers, HoldIntegers, LeavesIntegers, IsIntegral, StaysIntegral, GivesInteger, IntegersAlone}
 use Rattle.aml_judged.specs.Judged.{Accepted}
 use Rattle.aml_judged.specs.Verdicts.{Judging}
 use Rattle.aml_judged.proofs.Events.{fields_cost}
@@ -133,7 +133,7 @@ if_int true n xs e = tt
 if_int false n xs e = absurd cc
 
 -- a field of a buffer is written only where its source holds one, which is no integer
-written_elsewhere : (width : ℕ) (p : Place) (f : BufferPart) (v : Value) (o : Option Value) (u : Value) → written_part width p f v o ≡ Ok u → IsIntegerIfAny o → ⊥
+written_elsewhere : (width : ℕ) (p : Place) (f : BufferField) (v : Value) (o : Option Value) (u : Value) → written_buffer_field width p f v o ≡ Ok u → IsIntegerIfAny o → ⊥
 written_elsewhere width p f v None u e h = cc
 written_elsewhere width p f v (Some (Int n)) u e h = cc
 written_elsewhere width p f v (Some (Buf xs)) u e h = h
@@ -360,29 +360,29 @@ module _ (kinds : ContentKinds) (script : List Event) (slept : LeavesIntegers ki
   loops test body h g s fits = turns_stay (suc s.steps) test body h g s fits
 
   -- fields of buffers: the source holds a buffer, and so is no name of integers
-  part_int : (width : ℕ) (p : Place) (f : BufferPart) (o : Option Value) → nat_le f.bits width ≡ true → GivesInt (read_part width p f o)
-  part_int width p f o e = rule_then (bytes_around p f o) _ (λ bytes. if_int (nat_le f.bits width) _ _ e)
+  buffer_field_int : (width : ℕ) (p : Place) (f : BufferField) (o : Option Value) → nat_le f.bits width ≡ true → GivesInt (read_buffer_field width p f o)
+  buffer_field_int width p f o e = rule_then (bytes_around p f o) _ (λ bytes. if_int (nat_le f.bits width) _ _ e)
 
   peeked_stays : (r : Result Value AmlError) (s : State) → GivesInt r → Good s → Stays IsInteger (peeked_or s r)
   peeked_stays (Ok v) s h fits = (h, fits)
   peeked_stays (Err e) s h fits = tt
 
-  peeks : (width : ℕ) (p : Place) (f : BufferPart) → nat_le f.bits width ≡ true → Always IsInteger (peek f.source (read_part width p f))
+  peeks : (width : ℕ) (p : Place) (f : BufferField) → nat_le f.bits width ≡ true → Always IsInteger (peek f.source (read_buffer_field width p f))
   unfolding peek
-  peeks width p f e s fits = peeked_stays (read_part width p f (held_by f.source s)) s (part_int width p f (held_by f.source s) e) fits
+  peeks width p f e s fits = peeked_stays (read_buffer_field width p f (held_by f.source s)) s (buffer_field_int width p f (held_by f.source s) e) fits
 
-  changed_good : (l : Link) (width : ℕ) (p : Place) (f : BufferPart) (v u : Value) (s : State) → written_part width p f v (held_by l s) ≡ Ok u → Good s → Good (holding l s u)
+  changed_good : (l : Link) (width : ℕ) (p : Place) (f : BufferField) (v u : Value) (s : State) → written_buffer_field width p f v (held_by l s) ≡ Ok u → Good s → Good (holding l s u)
   changed_good (link.Data id) width p f v u s e fits = record { locals = fits.locals; args = fits.args; names = λ i g. changed_content IsIntegerIfAny s.names.contents id.0 i (Some u) (λ same. absurd (written_elsewhere width p f v (content_at s.names.contents id.0) u e (fits.names id.0 (subst (λ k. is_integer (kind_at kinds k) ≡ true) (sym same) g)))) (fits.names i g) }
   changed_good (link.Own k) width p f v u s e fits = record { locals = fits.locals; args = fits.args; names = fits.names }
   changed_good l width p f v u s e fits = fits
 
-  changed_stays : (r : Result Value AmlError) (l : Link) (width : ℕ) (p : Place) (f : BufferPart) (v : Value) (s : State) → written_part width p f v (held_by l s) ≡ r → Good s → Stays Any (changed_or l s r)
+  changed_stays : (r : Result Value AmlError) (l : Link) (width : ℕ) (p : Place) (f : BufferField) (v : Value) (s : State) → written_buffer_field width p f v (held_by l s) ≡ r → Good s → Stays Any (changed_or l s r)
   changed_stays (Ok u) l width p f v s e fits = (tt, changed_good l width p f v u s e fits)
   changed_stays (Err x) l width p f v s e fits = tt
 
-  changes : (l : Link) (width : ℕ) (p : Place) (f : BufferPart) (v : Value) → Always Any (change l (written_part width p f v))
+  changes : (l : Link) (width : ℕ) (p : Place) (f : BufferField) (v : Value) → Always Any (change l (written_buffer_field width p f v))
   unfolding change paid
-  changes l width p f v s fits = step_stays Any s.steps s _ (λ n. changed_stays (written_part width p f v (held_by l (with_steps s n))) l width p f v (with_steps s n) refl (stepped s n fits))
+  changes l width p f v s fits = step_stays Any s.steps s _ (λ n. changed_stays (written_buffer_field width p f v (held_by l (with_steps s n))) l width p f v (with_steps s n) refl (stepped s n fits))
 
   reads_narrow : (width : ℕ) (f : AnyField) → nat_le (layout_of f).bits width ≡ true → Always IsInteger (read_value width f)
   reads_narrow width f e s fits = cost_stays IsInteger (read_count f) s _ (fields_cost.read width f script s) (makes_more _ IsInteger _ (λ v h. made_int width (layout_of f).bits v e h) (field_made width f script s)) fits
@@ -414,9 +414,9 @@ module _ (kinds : ContentKinds) (script : List Event) (slept : LeavesIntegers ki
     reads_field None at e = absurd cc
     reads_field (Some f) at e = both (λ g. nat_le (layout_of g).bits methods.width ≡ true) IsIntegerIfAny _ _ (gives (λ g. nat_le (layout_of g).bits methods.width ≡ true) f e) (λ g h. both IsInteger IsIntegerIfAny _ _ (reads_narrow methods.width g h) (λ v p. yields_int v p))
 
-    reads_part : (o : Option BufferPart) (at : ℕ) → is_narrow_part methods.width o ≡ true → Always IsIntegerIfAny (part_read here o at)
-    reads_part None at e = absurd cc
-    reads_part (Some f) at e = both (λ g. nat_le g.bits methods.width ≡ true) IsIntegerIfAny _ _ (gives (λ g. nat_le g.bits methods.width ≡ true) f e) (λ g h. both IsInteger IsIntegerIfAny _ _ (peeks methods.width (place_at here at) g h) (λ v p. yields_int v p))
+    reads_buffer_field : (o : Option BufferField) (at : ℕ) → is_narrow_buffer_field methods.width o ≡ true → Always IsIntegerIfAny (buffer_field_read here o at)
+    reads_buffer_field None at e = absurd cc
+    reads_buffer_field (Some f) at e = both (λ g. nat_le g.bits methods.width ≡ true) IsIntegerIfAny _ _ (gives (λ g. nat_le g.bits methods.width ≡ true) f e) (λ g h. both IsInteger IsIntegerIfAny _ _ (peeks methods.width (place_at here at) g h) (λ v p. yields_int v p))
 
     bits_stay : (at : ℕ) (f : AnyField) (v : Value) → Always Any (bits_stored here at f v)
     bits_stay at f v = both Any Any _ _ (lifts_any (given_bits methods.width (place_at here at) (layout_of f).bits v)) (λ bit p. writes_bits f bit)
@@ -424,14 +424,14 @@ module _ (kinds : ContentKinds) (script : List Event) (slept : LeavesIntegers ki
     field_stores : (k at : ℕ) (v : Value) → Always Any (field_stored here k at v)
     field_stores k at v = both Any Any tick _ ticks (λ u p. both Any Any _ _ (lifts_any (wanted_field (place_at here at) (methods.field k))) (λ f q. bits_stay at f v))
 
-    part_changes : (at : ℕ) (o : Option BufferPart) (v : Value) → Always Any (part_changed here at o v)
-    part_changes at (Some f) v = changes f.source methods.width (place_at here at) f v
-    part_changes at None v = steps_out (Unit {0}) Any (record { table = here.table; at = at; cause = why.Region })
+    buffer_field_changes : (at : ℕ) (o : Option BufferField) (v : Value) → Always Any (buffer_field_changed here at o v)
+    buffer_field_changes at (Some f) v = changes f.source methods.width (place_at here at) f v
+    buffer_field_changes at None v = steps_out (Unit {0}) Any (record { table = here.table; at = at; cause = why.Region })
 
     names_int : (l : Link) (at : ℕ) → integer_name methods m kinds only l ≡ true → Always IsIntegerIfAny (named here l at)
     names_int (link.Data id) at e = holds_int id.0 at e
     names_int (link.Field id) at e = reads_field (methods.field id.0) at e
-    names_int (link.BufferField id) at e = reads_part (methods.buffer_field id.0) at e
+    names_int (link.BufferField id) at e = reads_buffer_field (methods.buffer_field id.0) at e
     names_int (link.Own k) at e = absurd cc
     names_int (link.Method id) at e = absurd cc
     names_int link.OsInterfaces at e = absurd cc
@@ -441,7 +441,7 @@ module _ (kinds : ContentKinds) (script : List Event) (slept : LeavesIntegers ki
     targets_int : (l : Link) (at : ℕ) (v : Value) → integer_name methods m kinds only l ≡ true → IsInteger v → Always Any (named_target here l at v)
     targets_int (link.Data id) at v e h = sets_name here.table at id.0 v h
     targets_int (link.Field id) at v e h = field_stores id.0 at v
-    targets_int (link.BufferField id) at v e h = part_changes at (methods.buffer_field id.0) v
+    targets_int (link.BufferField id) at v e h = buffer_field_changes at (methods.buffer_field id.0) v
     targets_int (link.Own k) at v e h = absurd cc
     targets_int (link.Method id) at v e h = absurd cc
     targets_int link.OsInterfaces at v e h = absurd cc
@@ -469,7 +469,7 @@ module _ (kinds : ContentKinds) (script : List Event) (slept : LeavesIntegers ki
     invokes (link.Method id) at from arguments e h = both AreIntegers IsIntegerIfAny arguments _ h (λ vs p s fits. called_stays s _ fits (calls (record { table = here.table; at = at }) id.0 vs s e p fits.names))
     invokes (link.Data id) at from arguments e h = holds_int id.0 at e
     invokes (link.Field id) at from arguments e h = reads_field (methods.field id.0) at e
-    invokes (link.BufferField id) at from arguments e h = reads_part (methods.buffer_field id.0) at e
+    invokes (link.BufferField id) at from arguments e h = reads_buffer_field (methods.buffer_field id.0) at e
     invokes (link.Own k) at from arguments e h = absurd cc
     invokes link.OsInterfaces at from arguments e h = absurd cc
     invokes (link.Object id) at from arguments e h = absurd cc

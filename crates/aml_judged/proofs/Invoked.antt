@@ -21,7 +21,7 @@ use Rattle.aml_judged.specs.Judge.{wanted, are_within, not_reaching, with_result
 use Rattle.aml_judged.specs.Judged.{NameKinds, Yield, Always, Sometimes, Never, Accepted, Seen, Around, Judged, Goes, Stops, Rule, then_judge, goes}
 use Rattle.aml_judged.specs.KindRules.{interface_kind}
 use Rattle.aml_judged.proofs.FieldsSafe.{around_of, field_safe}
-use Rattle.aml_judged.proofs.PartsSafe.{part_safe}
+use Rattle.aml_judged.proofs.BufferFieldsSafe.{buffer_field_safe}
 use Rattle.aml_judged.proofs.KindRules.{plain, interface_follows}
 use Rattle.aml_judged.specs.Safe.{FitScript, FitNames, IsOf, FitSlots, FitAll, FitsState, FitsYield, IsSafe, IsCalled, AreCalls, Allows, FitsHeld}
 use Rattle.aml_judged.proofs.Fits.{within_fits}
@@ -146,6 +146,6 @@ module _ (here : Setting) (kinds : NameKinds) (callee : ℕ → Seen) (above : �
   invoked_safe w (link.Own k) at from arguments given m env s h fits = own_safe here kinds callee above script at k env s fits
   invoked_safe w link.OsInterfaces at from arguments given m env s h fits =
       safe_then here.width kinds above (plain (FitAll here.width)) (plain Yields) s.steps (given env) _ (m.run script s) _ h (λ ks e vs s1 p f1. interface_safe at from arguments ks vs e s1 p f1)
-  invoked_safe w (link.BufferField id) at from arguments given m env s h fits = part_safe here kinds callee above script at (here.buffer_field id.0) env s fits
+  invoked_safe w (link.BufferField id) at from arguments given m env s h fits = buffer_field_safe here kinds callee above script at (here.buffer_field id.0) env s fits
   invoked_safe w (link.Field id) at from arguments given m env s h fits = field_safe here kinds callee above script at (here.field id.0) env s fits
   invoked_safe w l at from arguments given m env s h fits = tt

@@ -11,7 +11,7 @@ pub mod Loops
 pub mod FieldValues
 pub mod FieldsSafe
 pub mod IndexSafe
-pub mod PartsSafe
+pub mod BufferFieldsSafe
 pub mod ReadsSafe
 pub mod StoresSafe
 pub mod EffectsSafe

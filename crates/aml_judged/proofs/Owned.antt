@@ -15,7 +15,7 @@ use Rattle.aml_meaning.specs.declared.action.Action.{Action}
 use Rattle.aml_meaning.specs.declared.action.Action.TheVariants.{Literal, Data}
 use Rattle.aml_meaning.specs.declared.definition.Definition.{Definition}
 use Rattle.aml_meaning.specs.declared.definition.Definition.TheVariants as makes
-use Rattle.aml_meaning.specs.declared.part.BufferPart.{BufferPart}
+use Rattle.aml_meaning.specs.declared.buffer_field.BufferField.{BufferField}
 use Rattle.aml_meaning.specs.Actions.{action}
 use Rattle.aml_meaning.specs.State as state
 use Rattle.aml_meaning.specs.State.{State, Names, Stop, Out, Halts, NoAnswer, Spent, with_steps}
@@ -38,9 +38,9 @@ use Rattle.aml_judged.proofs.KindRules.{plain}
 use Rattle.std.specs.Option.{option_map}
 use Rattle.aml_namespace.specs.declared.link.Link.{Link}
 use Rattle.aml_namespace.specs.declared.link.Link.TheVariants as link
-use Rattle.aml_objects.specs.declared.object.BufferFieldSize.{BufferFieldSize}
-use Rattle.aml_objects.specs.declared.object.BufferFieldSize.TheVariants as size
-use Rattle.aml_meaning.specs.BufferFields.{made_part}
+use Rattle.aml_objects.specs.declared.object.CreatedFieldSize.{CreatedFieldSize}
+use Rattle.aml_objects.specs.declared.object.CreatedFieldSize.TheVariants as size
+use Rattle.aml_meaning.specs.BufferFields.{made_buffer_field}
 
 first_is : (width : ℕ) (v : Value) → IsWord width v → IsOf width (first_held width v) (name_kind (greatest width) v)
 first_is width (Int n) h = record { fit = in_greatest width _ (in_range width n); word = in_range width n }
@@ -158,7 +158,7 @@ module _ (here : Setting) (kinds : NameKinds) (callee : ℕ → Seen) (above : �
   then_made P before (Goes k env x n) jf (Spent s) f h next = spent_made x n before (jf k env) s h
 
   -- the source of a field
-  own_source_safe : (at k : ℕ) (f : Option BufferPart) (env : Env) (s : State) → FitsState here.width kinds above env s → IsSafe here.width kinds above (plain SameLink) s.steps (judged_own_source (around_of here kinds callee) at k f env) ((own_source here at k f).run script s)
+  own_source_safe : (at k : ℕ) (f : Option BufferField) (env : Env) (s : State) → FitsState here.width kinds above env s → IsSafe here.width kinds above (plain SameLink) s.steps (judged_own_source (around_of here kinds callee) at k f env) ((own_source here at k f).run script s)
   unfolding give
   own_source_safe at k None env s fits = (refl, fits, omega arith)
   own_source_safe at k (Some f) env s fits = tt
@@ -170,14 +170,14 @@ module _ (here : Setting) (kinds : NameKinds) (callee : ℕ → Seen) (above : �
   source_safe at l env s fits = tt
 
   -- a field of a buffer is made
-  field_first : (f g : BufferPart) (env : Env) (s : State) → f ≡ g → FitsState here.width kinds above env s → FitsState here.width (grown_kinds kinds (Field g)) above env (with_made here.width s None (Some f))
+  field_first : (f g : BufferField) (env : Env) (s : State) → f ≡ g → FitsState here.width kinds above env s → FitsState here.width (grown_kinds kinds (Field g)) above env (with_made here.width s None (Some f))
   field_first f g env s e h = record { reached = h.reached; own = h.own; given = h.given; shared = h.shared; owned = pushed_none here.width kinds.owns s.frame.owns h.owned; fields = (λ i. h.fields i ++ Some (e i) ∷ []); holds = h.holds; callers = h.callers }
 
-  field_made_safe : (at : ℕ) (from index : Option ℕ) (counted : Option BufferFieldSize) (env : Env) (s : State) → FitsState here.width kinds above env s → IsMade s.steps (judged_field_made (around_of here kinds callee) at from index counted env) ((make_field here at from index counted).run script s)
+  field_made_safe : (at : ℕ) (from index : Option ℕ) (counted : Option CreatedFieldSize) (env : Env) (s : State) → FitsState here.width kinds above env s → IsMade s.steps (judged_field_made (around_of here kinds callee) at from index counted env) ((make_field here at from index counted).run script s)
   unfolding ◌>>=◌ make_own
   field_made_safe at (Some from) (Some index) (Some counted) env s fits =
-      then_made SameLink s.steps _ (λ l. goes (Field (made_part here.width l counted index))) ((field_source here at (here.link from)).run script s) _ (source_safe at (here.link from) env s fits)
-      (λ k e v s1 same f1. (field_first (made_part here.width v counted index) (made_part here.width k counted index) e s1 (ap (λ l. made_part here.width l counted index) same) f1, omega arith))
+      then_made SameLink s.steps _ (λ l. goes (Field (made_buffer_field here.width l counted index))) ((field_source here at (here.link from)).run script s) _ (source_safe at (here.link from) env s fits)
+      (λ k e v s1 same f1. (field_first (made_buffer_field here.width v counted index) (made_buffer_field here.width k counted index) e s1 (ap (λ l. made_buffer_field here.width l counted index) same) f1, omega arith))
   field_made_safe at None index counted env s fits = tt
   field_made_safe at (Some from) None counted env s fits = tt
   field_made_safe at (Some from) (Some index) None env s fits = tt

@@ -15,7 +15,7 @@ use Rattle.aml_meaning.specs.Actions.{action}
 use Rattle.aml_meaning.specs.State as state
 use Rattle.aml_meaning.specs.State.{State, Out}
 use Rattle.aml_meaning.specs.Parts.{◌>>=◌, give, stop_with, lift, then_do, get_local, get_arg, get_name, content_or}
-use Rattle.aml_meaning.specs.declared.part.BufferPart.{BufferPart}
+use Rattle.aml_meaning.specs.declared.buffer_field.BufferField.{BufferField}
 use Rattle.aml_meaning.specs.Owns.{field_at, get_own, own_field}
 use Rattle.aml_meaning.specs.Buffers.{size_of}
 use Rattle.aml_meaning.specs.Meaning.{data_unless, own_measured, own_seen, named_seen, seen, size, asked, condition, is_there, place_at, own_held, own_read, Setting, want, named, held, yields}
@@ -26,12 +26,12 @@ use Rattle.aml_judged.specs.Judge.{wanted, judged_slot, judged_content, judged_n
 use Rattle.aml_judged.specs.Judged.{NameKinds, Yield, Always, Sometimes, Never, Seen, Around, Judged, goes, ruled}
 use Rattle.aml_judged.specs.KindRules.{size_kind}
 use Rattle.aml_judged.proofs.FieldsSafe.{around_of, field_safe}
-use Rattle.aml_judged.proofs.PartsSafe.{part_safe}
+use Rattle.aml_judged.proofs.BufferFieldsSafe.{buffer_field_safe}
 use Rattle.aml_judged.proofs.KindRules.{plain, Follows, truth_fits, size_follows}
 use Rattle.aml_judged.specs.Safe.{IsOf, FitSlots, FitsState, FitsYield, IsSafe}
 use Rattle.aml_judged.proofs.Fits.{HasFit, get_fits, name_fits}
 use Rattle.aml_judged.proofs.Parts.{safe_then}
-use Rattle.aml_meaning.specs.BufferFields.{usable_part}
+use Rattle.aml_meaning.specs.BufferFields.{usable_buffer_field}
 
 module _ (here : Setting) (kinds : NameKinds) (callee : ℕ → Seen) (above : ℕ) (script : List Event) where
   abbrev around : Around
@@ -83,9 +83,9 @@ module _ (here : Setting) (kinds : NameKinds) (callee : ℕ → Seen) (above : �
   own_content_safe at i (Some k) env s e fits = read_safe at k (Some (content_at s.frame.owns.contents i)) env s (name_fits here.width kinds.owns s.frame.owns i k fits.owned e) fits
   own_content_safe at i None env s e fits = tt
 
-  own_read_safe : (f : Option BufferPart) (at i : ℕ) (env : Env) (s : State) → Fine env s → Safe (plain Yields) s.steps (judged_own around f i at env) ((own_read here f i at).run script s)
+  own_read_safe : (f : Option BufferField) (at i : ℕ) (env : Env) (s : State) → Fine env s → Safe (plain Yields) s.steps (judged_own around f i at env) ((own_read here f i at).run script s)
   own_read_safe None at i env s fits = own_content_safe at i (kind_at kinds.owns i) env s refl fits
-  own_read_safe (Some f) at i env s fits = part_safe here kinds callee above script at (usable_part f) env s fits
+  own_read_safe (Some f) at i env s fits = buffer_field_safe here kinds callee above script at (usable_buffer_field f) env s fits
 
   -- an own name, or the field of a buffer that it is
   pub own_safe : (at i : ℕ) (env : Env) (s : State) → Fine env s → Safe (plain Yields) s.steps (judged_own around (field_at kinds.fields i) i at env) ((own_held here i at).run script s)
@@ -95,7 +95,7 @@ module _ (here : Setting) (kinds : NameKinds) (callee : ℕ → Seen) (above : �
   pub name_safe : (l : Link) (at : ℕ) (env : Env) (s : State) → Fine env s → Safe (plain Yields) s.steps (judged_name around l at env) ((named here l at).run script s)
   name_safe (link.Data id) at env s fits = content_safe at id.0 (kind_at kinds.shared id.0) env s refl fits
   name_safe (link.Own k) at env s fits = own_safe at k env s fits
-  name_safe (link.BufferField id) at env s fits = part_safe here kinds callee above script at (here.buffer_field id.0) env s fits
+  name_safe (link.BufferField id) at env s fits = buffer_field_safe here kinds callee above script at (here.buffer_field id.0) env s fits
   name_safe (link.Field id) at env s fits = field_safe here kinds callee above script at (here.field id.0) env s fits
   name_safe l at env s fits = tt
 
@@ -126,7 +126,7 @@ module _ (here : Setting) (kinds : NameKinds) (callee : ℕ → Seen) (above : �
   own_content_seen_safe at i (Some k) env s e fits = seen_safe at k (Some (content_at s.frame.owns.contents i)) env s (name_fits here.width kinds.owns s.frame.owns i k fits.owned e) fits
   own_content_seen_safe at i None env s e fits = tt
 
-  own_measured_safe : (f : Option BufferPart) (at i : ℕ) (env : Env) (s : State) → Fine env s → Safe (plain Is) s.steps (judged_own_seen around f i at env) ((own_measured here f i at).run script s)
+  own_measured_safe : (f : Option BufferField) (at i : ℕ) (env : Env) (s : State) → Fine env s → Safe (plain Is) s.steps (judged_own_seen around f i at env) ((own_measured here f i at).run script s)
   own_measured_safe None at i env s fits = own_content_seen_safe at i (kind_at kinds.owns i) env s refl fits
   own_measured_safe (Some f) at i env s fits = tt
 

@@ -15,7 +15,7 @@ use Rattle.aml_meaning.specs.State as state
 use Rattle.aml_meaning.specs.State.{State, Out, with_steps}
 use Rattle.aml_meaning.specs.Parts as parts
 use Rattle.aml_meaning.specs.Parts.{◌>>=◌, give, tick, paid, take_step, set_local, set_arg, set_name, stored_or, may_store}
-use Rattle.aml_meaning.specs.declared.part.BufferPart.{BufferPart}
+use Rattle.aml_meaning.specs.declared.buffer_field.BufferField.{BufferField}
 use Rattle.aml_meaning.specs.Owns.{field_at, own_field, own_stored_or, set_own}
 use Rattle.aml_meaning.specs.Meaning.{own_changed, own_stored, Setting, at_of, stored, named_target, changed_in_place, operator_action}
 use Rattle.aml_judged.specs.Causes as causes
@@ -26,12 +26,12 @@ use Rattle.aml_judged.specs.Judge.{judged_into, judged_target, judged_put, judge
 use Rattle.aml_judged.specs.Judged.{NameKinds, Yield, Seen, Around, Judged, pays, goes}
 use Rattle.aml_judged.specs.KindRules.{may_replace}
 use Rattle.aml_judged.proofs.FieldsSafe.{around_of, field_stored_safe}
-use Rattle.aml_judged.proofs.PartsSafe.{part_stored_safe}
+use Rattle.aml_judged.proofs.BufferFieldsSafe.{buffer_field_stored_safe}
 use Rattle.aml_judged.specs.Safe.{IsOf, FitsState, FitsYield, IsSafe}
 use Rattle.aml_judged.proofs.Fits.{set_fits, may_be_stored, stored_names}
 use Rattle.aml_judged.proofs.Parts.{ticked, tick_then, stepped}
 use Rattle.aml_judged.proofs.Loops.{IsUnit}
-use Rattle.aml_meaning.specs.BufferFields.{usable_part}
+use Rattle.aml_meaning.specs.BufferFields.{usable_buffer_field}
 
 module _ (here : Setting) (kinds : NameKinds) (callee : ℕ → Seen) (above : ℕ) (script : List Event) where
   abbrev around : Around
@@ -81,9 +81,9 @@ module _ (here : Setting) (kinds : NameKinds) (callee : ℕ → Seen) (above : �
       choice false m = tt
   own_held_safe at i None k v env s e h fits = tt
 
-  own_changed_safe : (f : Option BufferPart) (at i : ℕ) (k : Kind) (v : Value) (env : Env) (s : State) → Is v k → Fine env s → Safe IsUnit s.steps (judged_own_stored around f i at k env) ((own_changed here f i at v).run script s)
+  own_changed_safe : (f : Option BufferField) (at i : ℕ) (k : Kind) (v : Value) (env : Env) (s : State) → Is v k → Fine env s → Safe IsUnit s.steps (judged_own_stored around f i at k env) ((own_changed here f i at v).run script s)
   own_changed_safe None at i k v env s h fits = own_held_safe at i (kind_at kinds.owns i) k v env s refl h fits
-  own_changed_safe (Some f) at i k v env s h fits = part_stored_safe here kinds callee above script at (usable_part f) k v env s h fits
+  own_changed_safe (Some f) at i k v env s h fits = buffer_field_stored_safe here kinds callee above script at (usable_buffer_field f) k v env s h fits
 
   own_into_safe : (at i : ℕ) (k : Kind) (v : Value) (env : Env) (s : State) → Is v k → Fine env s → Safe IsUnit s.steps (judged_own_stored around (field_at kinds.fields i) i at k env) ((own_stored here i at v).run script s)
   unfolding ◌>>=◌ own_field
@@ -92,7 +92,7 @@ module _ (here : Setting) (kinds : NameKinds) (callee : ℕ → Seen) (above : �
   target_safe : (l : Link) (at : ℕ) (k : Kind) (v : Value) (env : Env) (s : State) → Is v k → Fine env s → Safe IsUnit s.steps (judged_target around l at k env) ((named_target here l at v).run script s)
   target_safe (link.Data id) at k v env s h fits = into_safe at id.0 (kind_at kinds.shared id.0) k v env s refl h fits
   target_safe (link.Own i) at k v env s h fits = own_into_safe at i k v env s h fits
-  target_safe (link.BufferField id) at k v env s h fits = part_stored_safe here kinds callee above script at (here.buffer_field id.0) k v env s h fits
+  target_safe (link.BufferField id) at k v env s h fits = buffer_field_stored_safe here kinds callee above script at (here.buffer_field id.0) k v env s h fits
   target_safe (link.Field id) at k v env s h fits = field_stored_safe here kinds callee above script at (here.field id.0) k v env s h fits
   target_safe l at k v env s h fits = tt
 

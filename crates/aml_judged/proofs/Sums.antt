@@ -10,8 +10,8 @@ use Rattle.std.specs.Option.{option_map}
 use Rattle.aml_operators.specs.Literal.{literal_of}
 use Rattle.aml_namespace.specs.declared.link.Link.{Link}
 use Rattle.aml_namespace.specs.declared.link.Link.TheVariants as link
-use Rattle.aml_objects.specs.declared.object.BufferFieldSize.{BufferFieldSize}
-use Rattle.aml_objects.specs.declared.object.BufferFieldSize.TheVariants as size
+use Rattle.aml_objects.specs.declared.object.CreatedFieldSize.{CreatedFieldSize}
+use Rattle.aml_objects.specs.declared.object.CreatedFieldSize.TheVariants as size
 use Rattle.aml_kinds.specs.Kinds.{Kind, IntUpTo}
 use Rattle.aml_contents.specs.BodyData.{computed_size}
 use Rattle.aml_meaning.specs.declared.action.Action.{Action}
@@ -21,7 +21,7 @@ use Rattle.aml_meaning.specs.declared.definition.Definition.TheVariants as makes
 use Rattle.aml_meaning.specs.Actions.{action}
 use Rattle.aml_meaning.specs.Definitions.{definition, source_of}
 use Rattle.aml_meaning.specs.Owns.{field_at}
-use Rattle.aml_meaning.specs.declared.part.BufferPart.{BufferPart}
+use Rattle.aml_meaning.specs.declared.buffer_field.BufferField.{BufferField}
 use Rattle.aml_meaning.specs.Meaning.{at_of, is_else}
 use Rattle.aml_bounds.specs.declared.role.Role.TheVariants as role_is
 use Rattle.aml_bounds.specs.declared.turn_count.TurnCount.{TurnCount}
@@ -245,7 +245,7 @@ module _ (here : Around) (turns : ℕ → TurnCount) where
   data_costs : (t : Tree) (env : Env) → Costs 1 (top.judged_data here t env)
   data_costs (Node o at stop ts) env = then_free 1 (step env) _ refl (λ u next. first_kind_free (action o) at ts next)
 
-  own_source_free : (at k : ℕ) (f : Option BufferPart) (env : Env) → Costs 0 (top.judged_own_source here at k f env)
+  own_source_free : (at k : ℕ) (f : Option BufferField) (env : Env) → Costs 0 (top.judged_own_source here at k f env)
   own_source_free at k None env = refl
   own_source_free at k (Some f) env = tt
 
@@ -254,7 +254,7 @@ module _ (here : Around) (turns : ℕ → TurnCount) where
   source_free at (link.Own k) env = own_source_free at k (field_at here.kinds.fields k) env
   source_free at l env = tt
 
-  field_made_free : (at : ℕ) (from index : Option ℕ) (counted : Option BufferFieldSize) (env : Env) → Costs 0 (top.judged_field_made here at from index counted env)
+  field_made_free : (at : ℕ) (from index : Option ℕ) (counted : Option CreatedFieldSize) (env : Env) → Costs 0 (top.judged_field_made here at from index counted env)
   field_made_free at (Some from) (Some index) (Some counted) env = then_free 0 (top.judged_source here at (here.link from) env) _ (source_free at (here.link from) env) (λ source next. refl)
   field_made_free at (Some from) (Some index) None env = tt
   field_made_free at (Some from) None counted env = tt

@@ -22,12 +22,12 @@ use Rattle.aml_meaning.specs.State.{State, Frame, held_level, Stop, Error, Retur
 use Rattle.aml_meaning.specs.Parts.{M, ◌>>=◌, give, stop_with, lift, tick, paid, take_step, then_do, get_local, get_arg, get_name, set_local, set_arg, set_name, make_event, sleep, woken, woken_or, content_or, stored_or, may_store}
 use Rattle.aml_meaning.specs.Loops.{turned, turn_end, turns, loop, spent}
 use Rattle.aml_meaning.specs.Rules.{Place, integer, divided}
-use Rattle.aml_meaning.specs.Meaning.{mutex, mutex_named, mutex_numbered, Setting, at_of, act, mean, value, values, mean_all, block, otherwise, is_else, want, store, stored, put, named, named_seen, named_target, invoked, interface_asked, held, field_read, bits_stored, field_stored, part_read, part_changed, own_read, own_held, own_changed, own_stored, own_measured, own_seen, seen, measured, size, asked, condition, untargeted, refused, bound, name_indexed, indexed, notified_name, notified, dereferenced, led, data_unless, tested, gives_value, changed_in_place, operator_action, place, place_at, outside}
+use Rattle.aml_meaning.specs.Meaning.{mutex, mutex_named, mutex_numbered, Setting, at_of, act, mean, value, values, mean_all, block, otherwise, is_else, want, store, stored, put, named, named_seen, named_target, invoked, interface_asked, held, field_read, bits_stored, field_stored, buffer_field_read, buffer_field_changed, own_read, own_held, own_changed, own_stored, own_measured, own_seen, seen, measured, size, asked, condition, untargeted, refused, bound, name_indexed, indexed, notified_name, notified, dereferenced, led, data_unless, tested, gives_value, changed_in_place, operator_action, place, place_at, outside}
 use Rattle.aml_bounds.specs.Shapes.{is_local, acts, targets, assigns, assigns_in, is_continue, continues, continues_by, continues_in, outside_targets}
 use Rattle.aml_meaning.specs.Actions.{action}
 use Rattle.aml_meaning.specs.Owns.{get_own, own_field, own_stored_or, set_own}
 use Rattle.aml_meaning.specs.Changes.{change, changed_or, held_by, holding, peek, peeked_or}
-use Rattle.aml_meaning.specs.BufferFields.{read_part, usable_part, wanted_part, written_part}
+use Rattle.aml_meaning.specs.BufferFields.{read_buffer_field, usable_buffer_field, wanted_buffer_field, written_buffer_field}
 use Rattle.aml_meaning.specs.FieldValues.{given_bits, wanted_field}
 use Rattle.aml_meaning.specs.Fields.{read_value, write_bits, read_count, write_count}
 use Rattle.aml_meaning.specs.Notices.{notice, paused}
@@ -40,7 +40,7 @@ use Rattle.aml_objects.specs.declared.object.Object.TheVariants as object
 use Rattle.aml_meaning.specs.Elements.{byte_written, element_at}
 use Rattle.aml_meaning.specs.Buffers.{size_of}
 use Rattle.aml_meaning.specs.Interfaces.{answered}
-use Rattle.aml_meaning.specs.declared.part.BufferPart.{BufferPart}
+use Rattle.aml_meaning.specs.declared.buffer_field.BufferField.{BufferField}
 use Rattle.aml_regions.specs.declared.field.AnyField.{AnyField}
 use Rattle.aml_regions.specs.Fields.{layout_of}
 use Rattle.aml_contents.specs.BodyData.{computed_size}
@@ -373,28 +373,28 @@ module _ (here : Setting) (tame : AreTame here.call) (w : Option ℕ) where
   field_stored_tame : (c : Bool) (k at : ℕ) (v : Value) → AlwaysTame w c (field_stored here k at v)
   field_stored_tame c k at v = both_tame w c tick _ (tick_tame w c) (λ u. both_tame w c _ _ (lift_tame w c (wanted_field (place_at here at) (here.field k))) (λ f. bits_stored_tame c at f v))
 
-  part_read_tame : (c : Bool) (field : Option BufferPart) (at : ℕ) → AlwaysTame w c (part_read here field at)
-  part_read_tame c field at = both_tame w c _ _ (lift_tame w c (wanted_part (place_at here at) field)) (λ f. both_tame w c _ _ (peek_tame w c f.source (read_part here.width (place_at here at) f)) (λ v. give_tame w c _))
+  buffer_field_read_tame : (c : Bool) (field : Option BufferField) (at : ℕ) → AlwaysTame w c (buffer_field_read here field at)
+  buffer_field_read_tame c field at = both_tame w c _ _ (lift_tame w c (wanted_buffer_field (place_at here at) field)) (λ f. both_tame w c _ _ (peek_tame w c f.source (read_buffer_field here.width (place_at here at) f)) (λ v. give_tame w c _))
 
-  part_changed_tame : (c : Bool) (at : ℕ) (field : Option BufferPart) (v : Value) → AlwaysTame w c (part_changed here at field v)
-  part_changed_tame c at (Some f) v = change_tame w c f.source (written_part here.width (place_at here at) f v)
-  part_changed_tame c at None v = stepped_out w (Unit {0}) c (record { table = here.table; at = at; cause = why.Region })
+  buffer_field_changed_tame : (c : Bool) (at : ℕ) (field : Option BufferField) (v : Value) → AlwaysTame w c (buffer_field_changed here at field v)
+  buffer_field_changed_tame c at (Some f) v = change_tame w c f.source (written_buffer_field here.width (place_at here at) f v)
+  buffer_field_changed_tame c at None v = stepped_out w (Unit {0}) c (record { table = here.table; at = at; cause = why.Region })
 
-  own_read_tame : (c : Bool) (field : Option BufferPart) (k at : ℕ) → AlwaysTame w c (own_read here field k at)
-  own_read_tame c (Some f) k at = part_read_tame c (usable_part f) at
+  own_read_tame : (c : Bool) (field : Option BufferField) (k at : ℕ) → AlwaysTame w c (own_read here field k at)
+  own_read_tame c (Some f) k at = buffer_field_read_tame c (usable_buffer_field f) at
   own_read_tame c None k at = both_tame w c _ _ (get_own_tame w c here.table at k) (λ v. give_tame w c _)
 
   own_held_tame : (c : Bool) (k at : ℕ) → AlwaysTame w c (own_held here k at)
   own_held_tame c k at = both_tame w c _ _ (own_field_tame w c k) (λ f. own_read_tame c f k at)
 
-  own_changed_tame : (c : Bool) (field : Option BufferPart) (k at : ℕ) (v : Value) → AlwaysTame w c (own_changed here field k at v)
-  own_changed_tame c (Some f) k at v = part_changed_tame c at (usable_part f) v
+  own_changed_tame : (c : Bool) (field : Option BufferField) (k at : ℕ) (v : Value) → AlwaysTame w c (own_changed here field k at v)
+  own_changed_tame c (Some f) k at v = buffer_field_changed_tame c at (usable_buffer_field f) v
   own_changed_tame c None k at v = set_own_tame w c here.table at k v
 
   own_stored_tame : (c : Bool) (k at : ℕ) (v : Value) → AlwaysTame w c (own_stored here k at v)
   own_stored_tame c k at v = both_tame w c _ _ (own_field_tame w c k) (λ f. own_changed_tame c f k at v)
 
-  own_measured_tame : (c : Bool) (field : Option BufferPart) (k at : ℕ) → AlwaysTame w c (own_measured here field k at)
+  own_measured_tame : (c : Bool) (field : Option BufferField) (k at : ℕ) → AlwaysTame w c (own_measured here field k at)
   own_measured_tame c (Some f) k at = error_tame w Value c (record { table = here.table; at = at; cause = why.Kind })
   own_measured_tame c None k at = get_own_tame w c here.table at k
 
@@ -409,7 +409,7 @@ module _ (here : Setting) (tame : AreTame here.call) (w : Option ℕ) where
   named_tame : (c : Bool) (l : Link) (at : ℕ) → AlwaysTame w c (named here l at)
   named_tame c (link.Data id) at = held_tame c id.0 at
   named_tame c (link.Field id) at = field_read_tame c id.0 at
-  named_tame c (link.BufferField id) at = part_read_tame c (here.buffer_field id.0) at
+  named_tame c (link.BufferField id) at = buffer_field_read_tame c (here.buffer_field id.0) at
   named_tame c (link.Own k) at = own_held_tame c k at
   named_tame c (link.Method id) at = error_tame w (Option Value) c _
   named_tame c link.OsInterfaces at = error_tame w (Option Value) c _
@@ -498,7 +498,7 @@ module _ (here : Setting) (tame : AreTame here.call) (w : Option ℕ) where
   invoked_tame c link.OsInterfaces at from arguments h = both_tame w c arguments _ h (λ vs. interface_tame c at from vs)
   invoked_tame c (link.Data id) at from arguments h = held_tame c id.0 at
   invoked_tame c (link.Field id) at from arguments h = field_read_tame c id.0 at
-  invoked_tame c (link.BufferField id) at from arguments h = part_read_tame c (here.buffer_field id.0) at
+  invoked_tame c (link.BufferField id) at from arguments h = buffer_field_read_tame c (here.buffer_field id.0) at
   invoked_tame c (link.Own k) at from arguments h = own_held_tame c k at
   invoked_tame c (link.Object id) at from arguments h = error_tame w (Option Value) c _
   invoked_tame c link.Missing at from arguments h = error_tame w (Option Value) c _
@@ -506,7 +506,7 @@ module _ (here : Setting) (tame : AreTame here.call) (w : Option ℕ) where
   target_tame : (c : Bool) (l : Link) (at : ℕ) (v : Value) → AlwaysTame w c (named_target here l at v)
   target_tame c (link.Data id) at v = set_name_tame w c here.table at id.0 v
   target_tame c (link.Field id) at v = field_stored_tame c id.0 at v
-  target_tame c (link.BufferField id) at v = part_changed_tame c at (here.buffer_field id.0) v
+  target_tame c (link.BufferField id) at v = buffer_field_changed_tame c at (here.buffer_field id.0) v
   target_tame c (link.Own k) at v = own_stored_tame c k at v
   target_tame c (link.Method id) at v = stepped_out w (Unit {0}) c _
   target_tame c link.OsInterfaces at v = stepped_out w (Unit {0}) c _

@@ -19,11 +19,11 @@ use Rattle.aml_judged.specs.Causes as cause
 use Rattle.std.specs.Option.{option_map}
 use Rattle.aml_operators.specs.Literal.{literal_of}
 use Rattle.aml_namespace.specs.declared.link.Link.{Link}
-use Rattle.aml_objects.specs.declared.object.BufferFieldSize.{BufferFieldSize}
+use Rattle.aml_objects.specs.declared.object.CreatedFieldSize.{CreatedFieldSize}
 use Rattle.aml_namespace.specs.declared.link.Link.TheVariants as link
-use Rattle.aml_objects.specs.declared.object.BufferFieldSize.TheVariants as size
-use Rattle.aml_meaning.specs.declared.part.BufferPart.{BufferPart}
-use Rattle.aml_meaning.specs.BufferFields.{made_part}
+use Rattle.aml_objects.specs.declared.object.CreatedFieldSize.TheVariants as size
+use Rattle.aml_meaning.specs.declared.buffer_field.BufferField.{BufferField}
+use Rattle.aml_meaning.specs.BufferFields.{made_buffer_field}
 use Rattle.aml_meaning.specs.Owns.{field_at}
 
 -- what is known of data names, where no own name was made
@@ -35,7 +35,7 @@ shared_only kinds = record { shared = kinds; owns = []; fields = [] }
 pub data Made : Type 0 where
   Nothing : Made
   Holding : (kind : Kind) → Made
-  Field : (part : BufferPart) → Made
+  Field : (field : BufferField) → Made
 
 -- with one own name more
 abbrev pub grown_kinds : NameKinds → Made → NameKinds
@@ -66,7 +66,7 @@ judged_data here (Node o at stop ts) = do
   first_kind_by here (action o) at ts
 
 -- what a field of a buffer is of: a data name, also an own one that is no field itself
-abbrev pub judged_own_source : Around → ℕ → ℕ → Option BufferPart → Rule Link
+abbrev pub judged_own_source : Around → ℕ → ℕ → Option BufferField → Rule Link
 judged_own_source here at k None = goes (link.Own k)
 judged_own_source here at k (Some f) = stops here cause.OutsideProfile at
 
@@ -77,10 +77,10 @@ judged_source here at l = stops here cause.OutsideProfile at
 
 -- a field of a buffer is made, where its source is a name, and its index and its size are integer
 -- literals (own)
-abbrev pub judged_field_made : Around → ℕ → Option ℕ → Option ℕ → Option BufferFieldSize → Rule Made
+abbrev pub judged_field_made : Around → ℕ → Option ℕ → Option ℕ → Option CreatedFieldSize → Rule Made
 judged_field_made here at (Some from) (Some index) (Some counted) = do
   source ← judged_source here at (here.link from)
-  goes (Field (made_part here.width source counted index))
+  goes (Field (made_buffer_field here.width source counted index))
 judged_field_made here at from index counted = stops here cause.OutsideProfile at
 
 -- whether a definition makes an own name, by the place of its name: that is one segment without

@@ -16,7 +16,7 @@ use Rattle.aml_meaning.specs.declared.action.Action.TheVariants.{Data, Concatena
 use Rattle.aml_meaning.specs.declared.action.Conversion.TheVariants as conversion
 use Rattle.aml_meaning.specs.declared.definition.Definition.{Definition}
 use Rattle.aml_meaning.specs.declared.definition.Definition.TheVariants as makes
-use Rattle.aml_meaning.specs.declared.part.BufferPart.{BufferPart}
+use Rattle.aml_meaning.specs.declared.buffer_field.BufferField.{BufferField}
 use Rattle.aml_meaning.specs.Actions.{action}
 use Rattle.aml_meaning.specs.Definitions.{definition}
 use Rattle.aml_meaning.specs.Meaning.{Setting, at_of, mean, value}
@@ -40,9 +40,9 @@ abbrev pub is_narrow : ℕ → Option AnyField → Bool
 is_narrow width (Some f) = nat_le (layout_of f).bits width
 is_narrow width None = false
 
-abbrev pub is_narrow_part : ℕ → Option BufferPart → Bool
-is_narrow_part width (Some f) = nat_le f.bits width
-is_narrow_part width None = false
+abbrev pub is_narrow_buffer_field : ℕ → Option BufferField → Bool
+is_narrow_buffer_field width (Some f) = nat_le f.bits width
+is_narrow_buffer_field width None = false
 
 abbrev pub makes_nothing : Definition → Bool
 makes_nothing makes.Nothing = true
@@ -55,7 +55,7 @@ module _ (methods : Methods) (m : Callee) (kinds : ContentKinds) (only : ℕ →
   abbrev pub integer_name : Link → Bool
   integer_name (link.Data id) = is_integer (kind_at kinds id.0)
   integer_name (link.Field id) = is_narrow methods.width (methods.field id.0)
-  integer_name (link.BufferField id) = is_narrow_part methods.width (methods.buffer_field id.0)
+  integer_name (link.BufferField id) = is_narrow_buffer_field methods.width (methods.buffer_field id.0)
   integer_name l = false
 
   -- what a name with arguments is: a method's call, or read as without them

@@ -14,8 +14,8 @@ use Rattle.aml_meaning.specs.declared.action.Action.{Action}
 use Rattle.aml_meaning.specs.declared.action.Action.TheVariants.{Data, Unary, LNot, Divide, Convert, Concatenate, SizeOf, CondRefOf, Index, Debug, Notify, Pause, Literal, Local, Argument, Name, Binary, ByOne, Compare, Store, Return, If, While, Break, Continue, Nothing, Invoke, NoTarget, Dereference, Acquire, Release}
 use Rattle.aml_meaning.specs.Notices.{is_notifiable}
 use Rattle.aml_meaning.specs.declared.mutex.TakenMutex.{TakenMutex}
-use Rattle.aml_meaning.specs.declared.part.BufferPart.{BufferPart}
-use Rattle.aml_meaning.specs.BufferFields.{usable_part}
+use Rattle.aml_meaning.specs.declared.buffer_field.BufferField.{BufferField}
+use Rattle.aml_meaning.specs.BufferFields.{usable_buffer_field}
 use Rattle.aml_meaning.specs.Mutexes.{without_last}
 use Rattle.aml_meaning.specs.Owns.{field_at}
 use Rattle.aml_meaning.specs.Rules.{Place}
@@ -28,7 +28,7 @@ use Rattle.aml_meaning.specs.Meaning.{at_of, is_else}
 use Rattle.aml_judged.specs.Causes.{Cause, Refusal}
 use Rattle.aml_judged.specs.Known.{greatest, Slot, Held, These, Different, Env, within, with_local, with_arg, with_mutexes, ended, in_loop, join_env, end_within, holds_as, widened, lower}
 use Rattle.aml_judged.specs.Judged.{Yield, Always, Never, Accepted, Seen, Around, Exits, no_exits, Judged, Goes, Stops, after, then_judge, Rule, ◌>>=◌, pays, goes, step, ruled, taking, agreed, meet}
-use Rattle.aml_judged.specs.KindRules.{integer_kind, combined_kind, transformed_kind, negated_kind, divided_kind, converted_kind, concatenated_kind, size_kind, interface_kind, notice_kind, led_kind, compared_kind, field_kind, given_kind, byte_written_kind, source_kind, part_stored_kind, may_replace}
+use Rattle.aml_judged.specs.KindRules.{integer_kind, combined_kind, transformed_kind, negated_kind, divided_kind, converted_kind, concatenated_kind, size_kind, interface_kind, notice_kind, led_kind, compared_kind, field_kind, given_kind, byte_written_kind, source_kind, buffer_field_stored_kind, may_replace}
 use Rattle.aml_bounds.specs.Loops as loops
 use Rattle.aml_bounds.specs.Shapes.{is_operand, Shape, Once, Up, Down, Endless, is_local, is_arg, assigns_in}
 use Rattle.aml_namespace.specs.declared.link.Link.TheVariants as link
@@ -94,21 +94,21 @@ module _ (here : Around) where
   held_kind l = None
 
   -- a field of a buffer, where it can be read and written
-  abbrev pub judged_part : Option BufferPart → ℕ → Rule Yield
-  judged_part (Some f) at = do
+  abbrev pub judged_buffer_field : Option BufferField → ℕ → Rule Yield
+  judged_buffer_field (Some f) at = do
     _ ← ruled (source_kind (place_at at) f (held_kind f.source))
     goes (Always (field_kind here.width f.bits))
-  judged_part None at = stops cause.Region at
+  judged_buffer_field None at = stops cause.Region at
 
-  abbrev pub judged_part_stored : Option BufferPart → ℕ → Kind → Rule (Unit {0})
-  judged_part_stored (Some f) at k = do
-    _ ← ruled (part_stored_kind here.width (place_at at) f (held_kind f.source) k)
+  abbrev pub judged_buffer_field_stored : Option BufferField → ℕ → Kind → Rule (Unit {0})
+  judged_buffer_field_stored (Some f) at k = do
+    _ ← ruled (buffer_field_stored_kind here.width (place_at at) f (held_kind f.source) k)
     pays 1 tt
-  judged_part_stored None at k = stops cause.Region at
+  judged_buffer_field_stored None at k = stops cause.Region at
 
   -- an own name, or the field of a buffer that it is
-  abbrev pub judged_own : Option BufferPart → ℕ → ℕ → Rule Yield
-  judged_own (Some f) k at = judged_part (usable_part f) at
+  abbrev pub judged_own : Option BufferField → ℕ → ℕ → Rule Yield
+  judged_own (Some f) k at = judged_buffer_field (usable_buffer_field f) at
   judged_own None k at = judged_content at (kind_at here.kinds.owns k)
 
   abbrev pub judged_name : Link → ℕ → Rule Yield
@@ -116,7 +116,7 @@ module _ (here : Around) where
   judged_name (link.Own k) at = judged_own (field_at here.kinds.fields k) k at
   judged_name link.Missing at = stops cause.Unresolved at
   judged_name (link.Field id) at = judged_field (here.field id.0) at
-  judged_name (link.BufferField id) at = judged_part (here.buffer_field id.0) at
+  judged_name (link.BufferField id) at = judged_buffer_field (here.buffer_field id.0) at
   judged_name l at = stops cause.WrongKind at
 
   -- a target's step, and what may be stored into it
@@ -124,8 +124,8 @@ module _ (here : Around) where
   judged_into at (Some old) k = if may_replace k old then pays 1 tt else stops cause.WrongKind at
   judged_into at None k = stops cause.WrongKind at
 
-  abbrev pub judged_own_stored : Option BufferPart → ℕ → ℕ → Kind → Rule (Unit {0})
-  judged_own_stored (Some f) i at k = judged_part_stored (usable_part f) at k
+  abbrev pub judged_own_stored : Option BufferField → ℕ → ℕ → Kind → Rule (Unit {0})
+  judged_own_stored (Some f) i at k = judged_buffer_field_stored (usable_buffer_field f) at k
   judged_own_stored None i at k = judged_into at (kind_at here.kinds.owns i) k
 
   abbrev pub judged_target : Link → ℕ → Kind → Rule (Unit {0})
@@ -133,7 +133,7 @@ module _ (here : Around) where
   judged_target (link.Own i) at k = judged_own_stored (field_at here.kinds.fields i) i at k
   judged_target link.Missing at k = stops cause.Unresolved at
   judged_target (link.Field id) at k = judged_field_stored (here.field id.0) at k
-  judged_target (link.BufferField id) at k = judged_part_stored (here.buffer_field id.0) at k
+  judged_target (link.BufferField id) at k = judged_buffer_field_stored (here.buffer_field id.0) at k
   judged_target l at k = stops cause.WrongKind at
 
   abbrev pub judged_put : Action → ℕ → Kind → Rule (Unit {0})
@@ -182,7 +182,7 @@ module _ (here : Around) where
   judged_content_seen at (Some k) = goes k
   judged_content_seen at None = stops cause.WrongKind at
 
-  abbrev pub judged_own_seen : Option BufferPart → ℕ → ℕ → Rule Kind
+  abbrev pub judged_own_seen : Option BufferField → ℕ → ℕ → Rule Kind
   judged_own_seen (Some f) k at = stops cause.WrongKind at
   judged_own_seen None k at = judged_content_seen at (kind_at here.kinds.owns k)
 
@@ -373,7 +373,7 @@ module _ (here : Around) where
     judged_interface at arguments ks
   judged_invoked w (link.Field id) at arguments given = judged_field (here.field id.0) at
   judged_invoked w (link.BufferField id) at arguments given =
-      judged_part (here.buffer_field id.0) at
+      judged_buffer_field (here.buffer_field id.0) at
   judged_invoked w link.Missing at arguments given = stops cause.Unresolved at
   judged_invoked w (link.Object id) at arguments given = stops cause.WrongKind at
 

@@ -6,7 +6,7 @@ use Rattle.aml_namespace.specs.declared.link.Link.{Link}
 use Rattle.aml_objects.specs.declared.object.Object.{Object}
 use Rattle.aml_values.specs.Values.{Value}
 use Rattle.aml_regions.specs.declared.field.AnyField.{AnyField}
-use Rattle.aml_meaning.specs.declared.part.BufferPart.{BufferPart}
+use Rattle.aml_meaning.specs.declared.buffer_field.BufferField.{BufferField}
 use Rattle.aml_kinds.specs.Kinds.{Kind}
 use Rattle.aml_kinds.specs.Joins.{join}
 use Rattle.aml_contents.specs.Contents.{ContentKinds}
@@ -40,7 +40,7 @@ pub record Seen : Type 0 where
 pub record NameKinds : Type 0 where
   pub shared : ContentKinds
   pub owns : ContentKinds
-  pub fields : List (Option BufferPart)
+  pub fields : List (Option BufferField)
 
 -- what is known around a body
 pub record Around : Type 0 where
@@ -50,7 +50,7 @@ pub record Around : Type 0 where
   pub lone : ℕ → Bool
   pub object : ℕ → Option Object
   pub field : ℕ → Option AnyField
-  pub buffer_field : ℕ → Option BufferPart
+  pub buffer_field : ℕ → Option BufferField
   pub literal : Op → Trees → Value
   pub kinds : NameKinds
   pub callee : ℕ → Seen

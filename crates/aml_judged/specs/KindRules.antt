@@ -16,7 +16,7 @@ use Rattle.aml_meaning.specs.declared.action.Conversion.{Conversion}
 use Rattle.aml_meaning.specs.declared.action.Conversion.TheVariants as conversion
 use Rattle.aml_meaning.specs.Buffers.{most_bytes}
 use Rattle.aml_meaning.specs.BufferFields.{first_bit}
-use Rattle.aml_meaning.specs.declared.part.BufferPart.{BufferPart}
+use Rattle.aml_meaning.specs.declared.buffer_field.BufferField.{BufferField}
 use Rattle.aml_meaning.specs.Rules.{Place}
 use Rattle.aml_judged.specs.Causes as cause
 use Rattle.aml_judged.specs.Causes.{Refusal}
@@ -227,14 +227,14 @@ given_kind width p bits k = refuses cause.WrongKind p
 
 -- a field of a buffer, by the kind of its source: it is a buffer's, and all its bits lie inside
 -- (19.6, CreateField)
-abbrev pub source_kind : Place → BufferPart → Option Kind → Result (Unit {0}) Refusal
+abbrev pub source_kind : Place → BufferField → Option Kind → Result (Unit {0}) Refusal
 source_kind p f (Some (BufOf n)) =
     if nat_le (first_bit f + f.bits) (8 * n) then Ok tt else refuses cause.Index p
 source_kind p f old = refuses cause.WrongKind p
 
-abbrev pub part_stored_kind :
-    ℕ → Place → BufferPart → Option Kind → Kind → Result (Unit {0}) Refusal
-part_stored_kind width p f old k =
+abbrev pub buffer_field_stored_kind :
+    ℕ → Place → BufferField → Option Kind → Kind → Result (Unit {0}) Refusal
+buffer_field_stored_kind width p f old k =
     then_rule (source_kind p f old) (λ u. given_kind width p f.bits k)
 
 -- whether what is of the first kind may be stored into a data name of the second; a package may not

@@ -6,8 +6,8 @@ use Rattle.aml_operators.specs.declared.op.Op.{Op}
 use Rattle.aml_operators.specs.declared.term.Term.{Term}
 use Rattle.aml_operators.specs.Literal.{literal_of}
 use Rattle.aml_operators.specs.Tree.{Tree, Trees, Node, none, more, views}
-use Rattle.aml_objects.specs.declared.object.BufferFieldSize.{BufferFieldSize}
-use Rattle.aml_objects.specs.declared.object.BufferFieldSize.TheVariants as size
+use Rattle.aml_objects.specs.declared.object.CreatedFieldSize.{CreatedFieldSize}
+use Rattle.aml_objects.specs.declared.object.CreatedFieldSize.TheVariants as size
 use Rattle.aml_meaning.specs.Actions.{action}
 use Rattle.aml_meaning.specs.Definitions.{definition, source_of}
 use Rattle.aml_meaning.specs.declared.definition.Definition.{Definition}
@@ -63,7 +63,7 @@ module _ (here : Around) (at : ℕ) where
   name_stops see say name data' o from end ts e may (stop.Refused r) first env = rw (may, e, first env) refl
   name_stops see say name data' o from end ts e may stop.NoMemory first env = tt
 
-  pub sized_goes : (counted : BufferFieldSize) (from index name : Tree) (j : Judged Made) (env : Env) → may_make here (at_of name) ≡ true → judged_field_made here at (source_of from) (literal_of index) (Some counted) env ≡ j → judged_made here (makes.Field counted) at (more from (more index (more name none))) env ≡ j
+  pub sized_goes : (counted : CreatedFieldSize) (from index name : Tree) (j : Judged Made) (env : Env) → may_make here (at_of name) ≡ true → judged_field_made here at (source_of from) (literal_of index) (Some counted) env ≡ j → judged_made here (makes.Field counted) at (more from (more index (more name none))) env ≡ j
   sized_goes counted from index name j env may h = rw may h
 
   pub counted_goes : (from index count name : Tree) (j : Judged Made) (env : Env) → may_make here (at_of name) ≡ true → judged_field_made here at (source_of from) (literal_of index) (option_map size.Bits (literal_of count)) env ≡ j → judged_made here makes.CountedField at (more from (more index (more count (more name none)))) env ≡ j
@@ -80,13 +80,13 @@ module _ (here : Around) (at : ℕ) where
   name_many (a ∷ b ∷ []) env le = absurd (omega (arith, le))
   name_many (a ∷ b ∷ x ∷ xs) env le = refl
 
-  pub sized_few : (counted : BufferFieldSize) (ts : List Term) (env : Env) → length ts < 3 → judged_made here (makes.Field counted) at (views ts) env ≡ Stops (refusal here cause.OutsideProfile at)
+  pub sized_few : (counted : CreatedFieldSize) (ts : List Term) (env : Env) → length ts < 3 → judged_made here (makes.Field counted) at (views ts) env ≡ Stops (refusal here cause.OutsideProfile at)
   sized_few counted [] env lt = refl
   sized_few counted (a ∷ []) env lt = refl
   sized_few counted (a ∷ b ∷ []) env lt = refl
   sized_few counted (a ∷ b ∷ x ∷ xs) env lt = absurd (omega (arith, lt))
 
-  pub sized_many : (counted : BufferFieldSize) (ts : List Term) (env : Env) → 4 ≤ length ts → judged_made here (makes.Field counted) at (views ts) env ≡ Stops (refusal here cause.OutsideProfile at)
+  pub sized_many : (counted : CreatedFieldSize) (ts : List Term) (env : Env) → 4 ≤ length ts → judged_made here (makes.Field counted) at (views ts) env ≡ Stops (refusal here cause.OutsideProfile at)
   sized_many counted [] env le = absurd (omega (arith, le))
   sized_many counted (a ∷ []) env le = absurd (omega (arith, le))
   sized_many counted (a ∷ b ∷ []) env le = absurd (omega (arith, le))

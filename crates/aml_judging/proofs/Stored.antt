@@ -7,12 +7,12 @@ use Rattle.aml_regions.specs.Fields.{layout_of}
 use Rattle.aml_regions.specs.declared.field.AnyField.{AnyField}
 use Rattle.aml_meaning.specs.Fields.{write_count}
 use Rattle.aml_meaning.specs.declared.mutex.TakenMutex.{TakenMutex}
-use Rattle.aml_meaning.specs.declared.part.BufferPart.{BufferPart}
+use Rattle.aml_meaning.specs.declared.buffer_field.BufferField.{BufferField}
 use Rattle.aml_judged.specs.Known.{Env}
 use Rattle.aml_judged.specs.Judged as judged
 use Rattle.aml_judged.specs.Judged.{Around, no_exits, pays, Rule, ruled, Stops, then_judge}
-use Rattle.aml_judged.specs.Judge.{held_kind, judged_field_stored, judged_part_stored, place_at}
-use Rattle.aml_judged.specs.KindRules.{given_kind, part_stored_kind}
+use Rattle.aml_judged.specs.Judge.{held_kind, judged_buffer_field_stored, judged_field_stored, place_at}
+use Rattle.aml_judged.specs.KindRules.{buffer_field_stored_kind, given_kind}
 use Rattle.aml_known.specs.Views.{CanBeRead, env_of, exits_of, Grown}
 use Rattle.aml_known.proofs.Takings.{same_grown}
 use Rattle.aml_judging.specs.declared.around.FieldCosts.{FieldCosts}
@@ -45,11 +45,11 @@ module _ (here : Around) (at : ℕ) (k : Kind) where
       let h : given_kind here.width (place_at here at) (layout_of f).bits k ≡ Ok tt = rw b at g in
       rw h (ap (judged.Goes tt env no_exits) (omega (arith, w)))
 
-  pub part_refused : (f : BufferPart) (r : Refusal) → part_stored_kind here.width (place_at here at) f (held_kind here f.source) k ≡ Err r → (env : Env) → judged_part_stored here (Some f) at k env ≡ Stops r
-  part_refused f r h env = ap (λ x. then_judge (ruled x env) (λ u. pays 1 tt)) h
+  pub buffer_field_refused : (f : BufferField) (r : Refusal) → buffer_field_stored_kind here.width (place_at here at) f (held_kind here f.source) k ≡ Err r → (env : Env) → judged_buffer_field_stored here (Some f) at k env ≡ Stops r
+  buffer_field_refused f r h env = ap (λ x. then_judge (ruled x env) (λ u. pays 1 tt)) h
 
-  pub part_stored : (f : BufferPart) → part_stored_kind here.width (place_at here at) f (held_kind here f.source) k ≡ Ok tt → (env : Env) → judged_part_stored here (Some f) at k env ≡ judged.Goes tt env no_exits 1
-  part_stored f h env = ap (λ x. then_judge (ruled x env) (λ u. pays 1 tt)) h
+  pub buffer_field_stored : (f : BufferField) → buffer_field_stored_kind here.width (place_at here at) f (held_kind here f.source) k ≡ Ok tt → (env : Env) → judged_buffer_field_stored here (Some f) at k env ≡ judged.Goes tt env no_exits 1
+  buffer_field_stored f h env = ap (λ x. then_judge (ruled x env) (λ u. pays 1 tt)) h
 
 -- what is paid for, and gives nothing
 pub costs_judge : {shapes : ℕ → Shape} {rule : Rule (Unit {0})} {old new : Progress} {n : ℕ} → Paid n old new → ((env : Env) → rule env ≡ judged.Goes tt env no_exits n) → Judges shapes (λ l. λ u. u) rule old new (Ok tt)

@@ -11,7 +11,7 @@ use Rattle.aml_meaning.specs.declared.action.Conversion.{Conversion}
 use Rattle.aml_meaning.specs.declared.action.Comparison.{Comparison}
 use Rattle.aml_meaning.specs.declared.action.Comparison.TheVariants as comparison
 use Rattle.aml_meaning.specs.declared.mutex.TakenMutex.{TakenMutex}
-use Rattle.aml_meaning.specs.declared.part.BufferPart.{BufferPart}
+use Rattle.aml_meaning.specs.declared.buffer_field.BufferField.{BufferField}
 use Rattle.aml_meaning.specs.BufferFields.{first_bit}
 use Rattle.aml_meaning.specs.Owns.{field_at}
 use Rattle.aml_meaning.specs.Rules.{Place}
@@ -129,7 +129,7 @@ abbrev pub given_finding : ℕ → ℕ → Known → Finding
 given_finding width bits kind = given_to (field_kind width bits) kind
 
 -- whether a field lies in a buffer of so many bytes
-abbrev pub lies_in : BufferPart → ℕ → Bool
+abbrev pub lies_in : BufferField → ℕ → Bool
 lies_in f size = nat_le (first_bit f + f.bits) (8 * size)
 
 -- the sort of an object
@@ -152,7 +152,7 @@ sort_of (Some object.Event) = sort.Event
 sort_of None = sort.Nothing
 
 -- the sort of an own name, which may be a field of a buffer
-abbrev pub own_sort : Option BufferPart → Sort
+abbrev pub own_sort : Option BufferField → Sort
 own_sort (Some f) = sort.BufferField
 own_sort None = sort.Data
 
@@ -187,16 +187,16 @@ module _ (here : Around) where
   byte_finding from None at kind = named_finding (here.link from) wanted.Buffer
 
   -- a field of a buffer, by the kind of its source, if that holds anything
-  abbrev pub part_finding : BufferPart → Option Known → Finding
-  part_finding f (Some (known.Buf size)) = finding.Field f.byte f.bit f.bits size
-  part_finding f (Some old) = kind_found old wanted.Buffer
-  part_finding f None = named_finding f.source wanted.Buffer
+  abbrev pub buffer_field_finding : BufferField → Option Known → Finding
+  buffer_field_finding f (Some (known.Buf size)) = finding.Field f.byte f.bit f.bits size
+  buffer_field_finding f (Some old) = kind_found old wanted.Buffer
+  buffer_field_finding f None = named_finding f.source wanted.Buffer
 
   -- it is stored into: what is stored is told where the field lies in its buffer
-  abbrev pub part_stored_finding : BufferPart → Option Known → Known → Finding
-  part_stored_finding f (Some (known.Buf size)) kind = if lies_in f size
+  abbrev pub buffer_field_stored_finding : BufferField → Option Known → Known → Finding
+  buffer_field_stored_finding f (Some (known.Buf size)) kind = if lies_in f size
       then given_finding here.width f.bits kind else finding.Field f.byte f.bit f.bits size
-  part_stored_finding f old kind = part_finding f old
+  buffer_field_stored_finding f old kind = buffer_field_finding f old
 
 -- the level of a mutex that is taken, if one is, and the greatest of those that are held, if that
 -- is known

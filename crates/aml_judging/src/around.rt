@@ -14,7 +14,7 @@ ghost use Rattle.aml_judging.specs.Views.{content_of, costs_of, field_seen, made
 
 use crate::finding::Finding;
 use aml_known::{Accepted, Known, Shapes};
-use aml_meaning::BufferPart;
+use aml_meaning::BufferField;
 use aml_namespace::{Link, Object, Width};
 use aml_operators::{Op, Term};
 use aml_paths::{NoMemory, ObjectId};
@@ -48,7 +48,7 @@ pub enum Made {
     /// A name that holds what is of a kind.
     Holding(Known),
     /// A field of a buffer.
-    Field(BufferPart),
+    Field(BufferField),
 }
 
 /// What is known around a method's body, its own names so far among it, with the shapes of packages by their numbers.
@@ -80,7 +80,7 @@ pub trait Around: Shapes {
         ensures { option_map costs_of result ≡ option_map field_seen ((around self.now).field id.0) };
 
     /// The field of a buffer that the object with a number is, where it can be read and written.
-    fn buffer_field(&self, id: ObjectId) -> Option<BufferPart>
+    fn buffer_field(&self, id: ObjectId) -> Option<BufferField>
         ensures { result ≡ (around self.now).buffer_field id.0 };
 
     /// The kind of a literal of data.
@@ -103,7 +103,7 @@ pub trait Around: Shapes {
             ≡ kind_at (around self.now).kinds.owns number };
 
     /// The field of a buffer that the own name with a number is.
-    fn own_field(&self, number: usize) -> Option<BufferPart>
+    fn own_field(&self, number: usize) -> Option<BufferField>
         ensures { result ≡ field_at (around self.now).kinds.fields number };
 
     /// Is told what a rule finds, before it refuses. Nothing that is known changes.

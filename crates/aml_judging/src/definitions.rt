@@ -19,10 +19,10 @@ use crate::names::refusal;
 use crate::progress::Progress;
 use aml_causes::{Cause, Refusal};
 use aml_contents::computed_size;
-use aml_fields::made_part;
+use aml_fields::made_buffer_field;
 use aml_known::{Known, Stop};
 use aml_meaning::{Action, Definition, action_of};
-use aml_namespace::{BufferFieldSize, Link};
+use aml_namespace::{CreatedFieldSize, Link};
 use aml_operators::{Op, Term, first_place, literal_of};
 
 /// Whether a definition makes an own name, by the place of its name: that is one segment without prefix,
@@ -94,7 +94,7 @@ fn field_made<A: Around>(
     at: usize,
     from: Option<usize>,
     index: Option<u64>,
-    size: Option<BufferFieldSize>,
+    size: Option<CreatedFieldSize>,
 ) -> Result<Made, Refusal>
     ensures { Gives (made_of (A.numbered here.now))
         (judged_field_made (A.around here.now) at from index size) result }
@@ -103,7 +103,7 @@ fn field_made<A: Around>(
         return Err(refusal(here, Cause::OutsideProfile, at));
     };
     let source = source(here, at, here.link(from))?;
-    Ok(Made::Field(made_part(here.width(), source, size, index)))
+    Ok(Made::Field(made_buffer_field(here.width(), source, size, index)))
 }
 
 /// What a Name makes, behind its step.
@@ -132,7 +132,7 @@ fn name_made<A: Around>(
 fn sized_made<A: Around>(
     here: &A,
     at: usize,
-    size: BufferFieldSize,
+    size: CreatedFieldSize,
     from: &Term,
     index: &Term,
     name: &Term,
@@ -165,7 +165,7 @@ fn counted_made<A: Around>(
         return Err(refusal(here, Cause::LocalName, at));
     }
     let size = match literal_of(count) {
-        Some(bits) => Some(BufferFieldSize::Bits(bits)),
+        Some(bits) => Some(CreatedFieldSize::Bits(bits)),
         None => None,
     };
     field_made(here, at, source_place(from), literal_of(index), size)
@@ -193,7 +193,7 @@ fn name_among<A: Around>(
 fn sized_among<A: Around>(
     here: &A,
     at: usize,
-    size: BufferFieldSize,
+    size: CreatedFieldSize,
     parts: &[Term],
 ) -> Result<Made, Refusal>
     ensures { Gives (made_of (A.numbered here.now))

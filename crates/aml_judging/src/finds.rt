@@ -15,7 +15,7 @@ use crate::around::Around;
 use crate::finding::{Finding, Found, NumberedSlot, Sort, Wanted};
 use aml_kind_rules::{field_kind, lies_inside};
 use aml_known::{Env, Known, Slot, kind_at};
-use aml_meaning::{Action, BufferPart, Comparison, action_of};
+use aml_meaning::{Action, BufferField, Comparison, action_of};
 use aml_namespace::{Link, Object};
 use aml_operators::Op;
 
@@ -198,33 +198,33 @@ pub fn given<A: Around>(here: &A, bits: u64, kind: Known) -> Finding
 }
 
 /// Where a field of a buffer is used.
-pub fn part<A: Around>(here: &A, part: BufferPart, source: Option<Known>) -> Finding
-    ensures { result ≡ spec.part_finding (A.around here.now) part source }
+pub fn buffer_field<A: Around>(here: &A, field: BufferField, source: Option<Known>) -> Finding
+    ensures { result ≡ spec.buffer_field_finding (A.around here.now) field source }
 {
     match source {
         Some(Known::Buf(length)) => Finding::Field {
-            byte: part.byte,
-            bit: part.bit,
-            bits: part.bits,
+            byte: field.byte,
+            bit: field.bit,
+            bits: field.bits,
             length,
         },
         Some(kind) => other_kind(kind, Wanted::Buffer),
-        None => named(here, part.source, Wanted::Buffer),
+        None => named(here, field.source, Wanted::Buffer),
     }
 }
 
 /// Where it is stored into.
-pub fn part_stored<A: Around>(
+pub fn buffer_field_stored<A: Around>(
     here: &A,
-    field: BufferPart,
+    field: BufferField,
     source: Option<Known>,
     kind: Known,
 ) -> Finding
-    ensures { result ≡ spec.part_stored_finding (A.around here.now) field source kind }
+    ensures { result ≡ spec.buffer_field_stored_finding (A.around here.now) field source kind }
 {
     match source {
         Some(Known::Buf(size)) if lies_inside(field, size) => given(here, field.bits, kind),
-        _ => part(here, field, source),
+        _ => buffer_field(here, field, source),
     }
 }
 

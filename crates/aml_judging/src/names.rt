@@ -6,7 +6,7 @@ ghost use Rattle.aml_causes.specs.declared.cause.Refusal.{Refusal};
 ghost use Rattle.aml_regions.specs.declared.field.AnyField.{AnyField};
 ghost use Rattle.aml_meaning.specs.Owns.{field_at};
 ghost use Rattle.aml_meaning.specs.Rules.{Place};
-ghost use Rattle.aml_judged.specs.Judge.{held_kind, judged_content, judged_field, judged_name, judged_own, judged_part, place_at, refusal};
+ghost use Rattle.aml_judged.specs.Judge.{held_kind, judged_buffer_field, judged_content, judged_field, judged_name, judged_own, place_at, refusal};
 ghost use Rattle.aml_rules.specs.Tells.{place_of};
 ghost use Rattle.aml_judging.specs.Follows.{Costs};
 ghost use Rattle.aml_judging.specs.Views.{content_of, costs_of, field_seen, read_of};
@@ -15,10 +15,10 @@ use crate::around::{Around, FieldCosts};
 use crate::finding::{Finding, Wanted};
 use crate::finds;
 use aml_causes::{Cause, Refusal};
-use aml_fields::usable_part;
+use aml_fields::usable_buffer_field;
 use aml_kind_rules::{field_kind, source_kind};
 use aml_known::Known;
-use aml_meaning::BufferPart;
+use aml_meaning::BufferField;
 use aml_namespace::Link;
 use aml_rules::Place;
 
@@ -100,17 +100,17 @@ pub fn held_kind<A: Around>(here: &A, link: Link) -> Option<Known>
 
 /// A field of a buffer (19.6, CreateField). V9 at the name of one that cannot be read, V3 where its source
 /// is no buffer's name, V7 where it does not lie in its buffer.
-fn part<A: Around>(here: &A, part: Option<BufferPart>, at: usize) -> Result<Read, Refusal>
+fn buffer_field<A: Around>(here: &A, field: Option<BufferField>, at: usize) -> Result<Read, Refusal>
     ensures { Costs (read_of (A.numbered here.now)) (λ r. r.events)
-        (judged_part (A.around here.now) part at) result }
+        (judged_buffer_field (A.around here.now) field at) result }
 {
-    let Some(part) = part else {
+    let Some(field) = field else {
         return Err(refusal(here, Cause::Region, at));
     };
-    let source = held_kind(here, part.source);
-    here.finds(finds::part(here, part, source));
-    source_kind(place(here, at), part, source)?;
-    let kind = field_kind(here.width(), part.bits);
+    let source = held_kind(here, field.source);
+    here.finds(finds::buffer_field(here, field, source));
+    source_kind(place(here, at), field, source)?;
+    let kind = field_kind(here.width(), field.bits);
     Ok(Read { kind, events: 0 })
 }
 
@@ -120,7 +120,7 @@ fn own<A: Around>(here: &A, number: usize, at: usize) -> Result<Read, Refusal>
         (field_at (A.around here.now).kinds.fields number) number at) result }
 {
     match here.own_field(number) {
-        Some(made) => part(here, usable_part(made), at),
+        Some(made) => buffer_field(here, usable_buffer_field(made), at),
         None => content(here, at, here.own(number)),
     }
 }
@@ -135,7 +135,7 @@ pub fn name<A: Around>(here: &A, link: Link, at: usize) -> Result<Read, Refusal>
         Link::Own(number) => own(here, number, at),
         Link::Missing => Err(refusal(here, Cause::Unresolved, at)),
         Link::Field(id) => field(here, here.field(id), at),
-        Link::BufferField(id) => part(here, here.buffer_field(id), at),
+        Link::BufferField(id) => buffer_field(here, here.buffer_field(id), at),
         Link::Method(_) | Link::OsInterfaces | Link::Object(_) => {
             let finding = finds::named(here, link, Wanted::Value);
             Err(refusal_for(here, Cause::WrongKind, at, finding))

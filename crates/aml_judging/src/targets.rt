@@ -6,7 +6,7 @@ ghost use Rattle.aml_operators.specs.Tree.{view, views};
 ghost use Rattle.aml_regions.specs.declared.field.AnyField.{AnyField};
 ghost use Rattle.aml_meaning.specs.Actions.{action};
 ghost use Rattle.aml_meaning.specs.Owns.{field_at};
-ghost use Rattle.aml_judged.specs.Judge.{judged_bound, judged_field_stored, judged_indexed, judged_into, judged_name_indexed, judged_own_stored, judged_part_stored, judged_placed, judged_put, judged_target};
+ghost use Rattle.aml_judged.specs.Judge.{judged_bound, judged_buffer_field_stored, judged_field_stored, judged_indexed, judged_into, judged_name_indexed, judged_own_stored, judged_placed, judged_put, judged_target};
 ghost use Rattle.aml_known.specs.Views.{kind_of};
 ghost use Rattle.aml_judging.specs.Follows.{Costs, Gives, Judges};
 ghost use Rattle.aml_judging.specs.Views.{content_of, costs_of, field_seen};
@@ -17,10 +17,10 @@ use crate::finds;
 use crate::names::{held_kind, place, refusal, refusal_for};
 use crate::progress::Progress;
 use aml_causes::{Cause, Refusal};
-use aml_fields::usable_part;
-use aml_kind_rules::{given_kind, may_replace, part_stored_kind};
+use aml_fields::usable_buffer_field;
+use aml_kind_rules::{buffer_field_stored_kind, given_kind, may_replace};
 use aml_known::{Known, Stop, set_kind};
-use aml_meaning::{Action, BufferPart, action_of};
+use aml_meaning::{Action, BufferField, action_of};
 use aml_namespace::Link;
 use aml_operators::{Op, Term};
 
@@ -46,21 +46,21 @@ fn field<A: Around>(
 
 /// The same into a field of a buffer, without events. V9, V3 and V7 as where it is read, and V3 where it
 /// does not take such a value.
-fn part<A: Around>(
+fn buffer_field<A: Around>(
     here: &A,
-    part: Option<BufferPart>,
+    field: Option<BufferField>,
     at: usize,
     kind: Known,
 ) -> Result<u64, Refusal>
-    ensures { Costs (λ n. tt) (λ n. 1 + n) (judged_part_stored (A.around here.now) part at
+    ensures { Costs (λ n. tt) (λ n. 1 + n) (judged_buffer_field_stored (A.around here.now) field at
         (kind_of (A.numbered here.now) kind)) result }
 {
-    let Some(part) = part else {
+    let Some(field) = field else {
         return Err(refusal(here, Cause::Region, at));
     };
-    let source = held_kind(here, part.source);
-    here.finds(finds::part_stored(here, part, source, kind));
-    part_stored_kind(here.width(), place(here, at), part, source, kind)?;
+    let source = held_kind(here, field.source);
+    here.finds(finds::buffer_field_stored(here, field, source, kind));
+    buffer_field_stored_kind(here.width(), place(here, at), field, source, kind)?;
     Ok(0)
 }
 
@@ -86,7 +86,7 @@ fn own<A: Around>(here: &A, number: usize, at: usize, kind: Known) -> Result<u64
         (kind_of (A.numbered here.now) kind)) result }
 {
     match here.own_field(number) {
-        Some(made) => part(here, usable_part(made), at, kind),
+        Some(made) => buffer_field(here, usable_buffer_field(made), at, kind),
         None => into(here, at, here.own(number), kind),
     }
 }
@@ -102,7 +102,7 @@ fn name<A: Around>(here: &A, link: Link, at: usize, kind: Known) -> Result<u64, 
         Link::Own(number) => own(here, number, at, kind),
         Link::Missing => Err(refusal(here, Cause::Unresolved, at)),
         Link::Field(id) => field(here, here.field(id), at, kind),
-        Link::BufferField(id) => part(here, here.buffer_field(id), at, kind),
+        Link::BufferField(id) => buffer_field(here, here.buffer_field(id), at, kind),
         Link::Method(_) | Link::OsInterfaces | Link::Object(_) => {
             let finding = finds::named(here, link, Wanted::Target);
             Err(refusal_for(here, Cause::WrongKind, at, finding))

@@ -14,7 +14,7 @@ use crate::numbers::ones;
 use crate::refused::refused;
 use aml_causes::{Cause, Refusal};
 use aml_known::Known;
-use aml_meaning::BufferPart;
+use aml_meaning::BufferField;
 use aml_namespace::Width;
 use aml_rules::Place;
 
@@ -52,37 +52,38 @@ pub fn given_kind(width: Width, field: Place, bits: u64, kind: Known) -> Result<
 }
 
 /// Whether a field lies in a buffer of so many bytes.
-pub fn lies_inside(part: BufferPart, size: u64) -> bool
-    ensures { result ≡ nat_le (first_bit part + part.bits) (8 * size) }
+pub fn lies_inside(field: BufferField, size: u64) -> bool
+    ensures { result ≡ nat_le (first_bit field + field.bits) (8 * size) }
 {
-    let first = u128::from(part.byte) * 8 + u128::from(part.bit);
-    first + u128::from(part.bits) <= u128::from(size) * 8
+    let first = u128::from(field.byte) * 8 + u128::from(field.bit);
+    first + u128::from(field.bits) <= u128::from(size) * 8
 }
 
 /// A field of a buffer, by the kind of its source (19.6, CreateField). V3 at the field of what is no buffer,
 /// V7 of one that does not lie inside.
-pub fn source_kind(field: Place, part: BufferPart, source: Option<Known>) -> Result<(), Refusal>
+pub fn source_kind(at: Place, field: BufferField, source: Option<Known>) -> Result<(), Refusal>
     ensures { (shapes : ℕ → Shape) → told (λ u. u) result
-        ≡ rule.source_kind (place_of field) part (option_map (kind_of shapes) source) }
+        ≡ rule.source_kind (place_of at) field (option_map (kind_of shapes) source) }
 {
     match source {
-        Some(Known::Buf(size)) if lies_inside(part, size) => Ok(()),
-        Some(Known::Buf(_)) => Err(refused(Cause::Index, field)),
-        _ => Err(refused(Cause::WrongKind, field)),
+        Some(Known::Buf(size)) if lies_inside(field, size) => Ok(()),
+        Some(Known::Buf(_)) => Err(refused(Cause::Index, at)),
+        _ => Err(refused(Cause::WrongKind, at)),
     }
 }
 
 /// What is stored into a field of a buffer: its source is asked first.
-pub fn part_stored_kind(
+pub fn buffer_field_stored_kind(
     width: Width,
-    field: Place,
-    part: BufferPart,
+    at: Place,
+    field: BufferField,
     source: Option<Known>,
     kind: Known,
 ) -> Result<(), Refusal>
-    ensures { (shapes : ℕ → Shape) → told (λ u. u) result ≡ rule.part_stored_kind (bits_of width)
-        (place_of field) part (option_map (kind_of shapes) source) (kind_of shapes kind) }
+    ensures { (shapes : ℕ → Shape) → told (λ u. u) result
+        ≡ rule.buffer_field_stored_kind (bits_of width) (place_of at) field
+        (option_map (kind_of shapes) source) (kind_of shapes kind) }
 {
-    source_kind(field, part, source)?;
-    given_kind(width, field, part.bits, kind)
+    source_kind(at, field, source)?;
+    given_kind(width, at, field.bits, kind)
 }

@@ -16,7 +16,7 @@ mod refused;
 mod sizes;
 
 pub use elements::{byte_written_kind, led_kind};
-pub use fields::{field_kind, given_kind, lies_inside, part_stored_kind, source_kind};
+pub use fields::{buffer_field_stored_kind, field_kind, given_kind, lies_inside, source_kind};
 pub use integers::{
     DivisionKinds, combined_kind, compared_kind, divided_kind, integer_kind, negated_kind,
     transformed_kind,

@@ -7,7 +7,7 @@ use Rattle.aml_values.specs.Values.{Value, Buf}
 use Rattle.aml_contents.specs.Contents.{Contents, changed_byte, content_at, with_byte, with_content}
 use Rattle.aml_regions.specs.BufferFields.{in_bytes, stored}
 use Rattle.aml_regions.specs.Fields.{mixed}
-use Rattle.aml_meaning.specs.declared.part.BufferPart.{BufferPart}
+use Rattle.aml_meaning.specs.declared.buffer_field.BufferField.{BufferField}
 use Rattle.aml_meaning.specs.BufferFields.{first_bit}
 use Rattle.aml_fields.proofs.Shifted.{untouched_behind, untouched_below}
 use Rattle.aml_fields.proofs.Writing.{mixed_outside}
@@ -29,14 +29,14 @@ content_put (x ∷ xs) zero old v e = refl
 content_put (x ∷ xs) (suc k) old v e = content_put xs k old v e
 
 -- the buffer's bytes before a place have the field's bits, and the others are as they were
-pub record IsStoredBelow (old new : Contents) (k : ℕ) (f : BufferPart) (bit : ℕ → ℕ) (place : ℕ) (bytes : List ℕ) : Type 0 where
+pub record IsStoredBelow (old new : Contents) (k : ℕ) (f : BufferField) (bit : ℕ → ℕ) (place : ℕ) (bytes : List ℕ) : Type 0 where
   pub made : List ℕ
   pub is : new ≡ with_content old k (Buf made)
   pub size : length made ≡ length bytes
   pub below : (j : ℕ) → j < place → j < length bytes → get_or made j 0 ≡ mixed (in_bytes (first_bit f) f.bits) bit j (get_or bytes j 0)
   pub behind : (j : ℕ) → place ≤ j → get_or made j 0 ≡ get_or bytes j 0
 
-module _ (old : Contents) (k : ℕ) (f : BufferPart) (bit : ℕ → ℕ) (bytes : List ℕ) (are : (i : ℕ) → slice_index bytes i < 2 ^ 8) (held : content_at old k ≡ Some (Buf bytes)) where
+module _ (old : Contents) (k : ℕ) (f : BufferField) (bit : ℕ → ℕ) (bytes : List ℕ) (are : (i : ℕ) → slice_index bytes i < 2 ^ 8) (held : content_at old k ≡ Some (Buf bytes)) where
   -- before the first byte nothing is stored
   pub stored_none : (place : ℕ) → place ≤ f.byte → IsStoredBelow old old k f bit place bytes
   stored_none place before = record {

@@ -9,7 +9,7 @@ ghost use Rattle.aml_machine.specs.Views.{frame_of};
 use crate::arguments::Arguments;
 use crate::mutexes::Mutexes;
 use aml_contents::Names;
-use aml_meaning::BufferPart;
+use aml_meaning::BufferField;
 use aml_values::Value;
 use std::alloc::Global;
 
@@ -21,7 +21,7 @@ pub struct Frame {
     pub locals: [Option<Value>; 8],
     pub args: [Option<Value>; 7],
     pub owns: Names,
-    pub fields: Vec<Option<BufferPart>>,
+    pub fields: Vec<Option<BufferField>>,
     pub mutexes: Mutexes,
 }
 

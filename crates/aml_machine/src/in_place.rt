@@ -16,7 +16,7 @@ ghost use Rattle.aml_machine.specs.Views.{buffer_of, now};
 use crate::machine::Machine;
 use aml_contents::Names;
 use aml_fields::{Bits, stored_byte};
-use aml_meaning::BufferPart;
+use aml_meaning::BufferField;
 use aml_namespace::Link;
 use aml_paths::ObjectId;
 use aml_values::Value;
@@ -34,19 +34,19 @@ pub fn held_by(machine: &Machine, source: Link) -> Option<&Value>
 }
 
 /// In how many bytes a field has a bit, from the one on from which its first bit is counted.
-fn bytes_from(part: BufferPart) -> u64
-    requires { IsLaidOut part }
-    ensures { result ≡ (part.bit + part.bits + 7) / 8 }
+fn bytes_from(field: BufferField) -> u64
+    requires { IsLaidOut field }
+    ensures { result ≡ (field.bit + field.bits + 7) / 8 }
 {
-    (u64::from(part.bit) + part.bits + 7) / 8
+    (u64::from(field.bit) + field.bits + 7) / 8
 }
 
 /// Whether all bits of a field lie in a buffer of so many bytes.
-pub fn lies_in(part: BufferPart, size: usize) -> bool
-    requires { IsLaidOut part }
-    ensures { result ≡ nat_le (first_bit part + part.bits) (8 * size) }
+pub fn lies_in(field: BufferField, size: usize) -> bool
+    requires { IsLaidOut field }
+    ensures { result ≡ nat_le (first_bit field + field.bits) (8 * size) }
 {
-    part.byte <= size as u64 && bytes_from(part) <= size as u64 - part.byte
+    field.byte <= size as u64 && bytes_from(field) <= size as u64 - field.byte
 }
 
 /// The bytes of a buffer; none of anything else.
@@ -76,19 +76,25 @@ fn are_bytes(bytes: &[u8])
 
 /// Stores bits into a field of the buffer of so many bytes that the name with a number holds, a byte at
 /// a time and in place. It takes no memory.
-pub fn put_bits<B: Bits>(part: BufferPart, size: usize, value: &B, names: &mut Names, id: ObjectId)
-    requires laid_out { IsLaidOut part }
-    requires inside { first_bit part + part.bits ≤ 8 * size }
+pub fn put_bits<B: Bits>(
+    field: BufferField,
+    size: usize,
+    value: &B,
+    names: &mut Names,
+    id: ObjectId,
+)
+    requires laid_out { IsLaidOut field }
+    requires inside { first_bit field + field.bits ≤ 8 * size }
     ensures put { (bytes : List ℕ) → content_at (contents names.old) id.0 ≡ Some (Buf bytes) →
         contents names.new ≡ with_content (contents names.old) id.0
-        (Buf (stored (first_bit part) part.bits (B.bit value.now) bytes)) }
+        (Buf (stored (first_bit field) field.bits (B.bit value.now) bytes)) }
     ensures kinds { content_kinds names.new ≡ content_kinds names.old }
 {
     are_bytes(bytes_of(names.get(id)));
-    let first = part.byte as usize;
-    for place in first..first + bytes_from(part) as usize {
+    let first = field.byte as usize;
+    for place in first..first + bytes_from(field) as usize {
         let old = byte_at(bytes_of(names.get(id)), place);
-        let byte = stored_byte(part, place as u64, old, value);
+        let byte = stored_byte(field, place as u64, old, value);
         names.set_byte(id, place, byte);
     }
 }

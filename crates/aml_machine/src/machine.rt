@@ -17,7 +17,7 @@ use crate::arguments::Arguments;
 use crate::frame::Frame;
 use crate::slots::hold;
 use aml_contents::Names;
-use aml_meaning::BufferPart;
+use aml_meaning::BufferField;
 use aml_namespace::Width;
 use aml_paths::NoMemory;
 use aml_values::Value;
@@ -75,7 +75,7 @@ impl Machine {
     }
 
     /// The field of a buffer that an own name is.
-    pub fn own_field(&self, number: usize) -> Option<BufferPart>
+    pub fn own_field(&self, number: usize) -> Option<BufferField>
         ensures { (log : List Event) →
             result ≡ field_at (now self.now log).frame.fields number }
     {
@@ -88,7 +88,7 @@ impl Machine {
         alloc: Global,
         width: Width,
         held: Option<Value>,
-        field: Option<BufferPart>,
+        field: Option<BufferField>,
     ) -> Result<(), NoMemory>
         ensures means { (log : List Event) → Runs (made result)
             (make_own (bits_of width) (value_of held) field)
@@ -117,7 +117,7 @@ impl Machine {
         &mut self,
         alloc: Global,
         width: Width,
-        field: BufferPart,
+        field: BufferField,
     ) -> Result<(), NoMemory>
         ensures means { (log : List Event) → Runs (made result)
             (define_field (bits_of width) field)

@@ -3,7 +3,7 @@
 ghost use Rattle.std.specs.Prelude.{◌≡◌};
 ghost use Rattle.aml_meaning.specs.Definitions.{definition};
 
-use aml_namespace::BufferFieldSize;
+use aml_namespace::CreatedFieldSize;
 use aml_operators::Op;
 
 /// What an operator makes at the top of a method's body.
@@ -13,7 +13,7 @@ pub enum Definition {
     Name,
     /// A field of a buffer, as large as its operator says (19.6, CreateBitField, CreateByteField,
     /// CreateWordField, CreateDWordField, CreateQWordField).
-    Field(BufferFieldSize),
+    Field(CreatedFieldSize),
     /// A field of a buffer whose number of bits stands in a term (19.6, CreateField).
     CountedField,
     /// Nothing.
@@ -26,11 +26,11 @@ pub fn definition_of(op: Op) -> Definition
 {
     match op {
         Op::Name => Definition::Name,
-        Op::CreateBitField => Definition::Field(BufferFieldSize::Bit),
-        Op::CreateByteField => Definition::Field(BufferFieldSize::Byte),
-        Op::CreateWordField => Definition::Field(BufferFieldSize::Word),
-        Op::CreateDWordField => Definition::Field(BufferFieldSize::DWord),
-        Op::CreateQWordField => Definition::Field(BufferFieldSize::QWord),
+        Op::CreateBitField => Definition::Field(CreatedFieldSize::Bit),
+        Op::CreateByteField => Definition::Field(CreatedFieldSize::Byte),
+        Op::CreateWordField => Definition::Field(CreatedFieldSize::Word),
+        Op::CreateDWordField => Definition::Field(CreatedFieldSize::DWord),
+        Op::CreateQWordField => Definition::Field(CreatedFieldSize::QWord),
         Op::CreateField => Definition::CountedField,
         _ => Definition::Nothing,
     }

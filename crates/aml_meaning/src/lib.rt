@@ -7,14 +7,15 @@
 #![tactic(auto)]
 
 mod action;
+mod buffer_field;
 mod definition;
 mod error;
 mod law;
 mod mutex;
 mod outcome;
-mod part;
 
 pub use action::{Action, Arithmetic, Bitwise, Comparison, Conversion, Pause, action_of};
+pub use buffer_field::BufferField;
 pub use definition::{Definition, definition_of};
 pub use error::{AmlCause, AmlError};
 pub use law::{
@@ -23,4 +24,3 @@ pub use law::{
 };
 pub use mutex::TakenMutex;
 pub use outcome::Outcome;
-pub use part::BufferPart;

@@ -15,7 +15,7 @@ use Rattle.aml_objects.specs.declared.fault.LoadCause.{LoadCause}
 use Rattle.aml_objects.specs.declared.fault.LoadRefusal.{LoadRefusal}
 use Rattle.aml_objects.specs.declared.object.Entry.{Entry}
 use Rattle.aml_objects.specs.declared.object.Entry.TheVariants.{Own, Alias}
-use Rattle.aml_objects.specs.declared.object.BufferFieldSize.{BufferFieldSize}
+use Rattle.aml_objects.specs.declared.object.CreatedFieldSize.{CreatedFieldSize}
 use Rattle.aml_objects.specs.declared.object.Field.{Field}
 use Rattle.aml_objects.specs.declared.object.Object.{Object}
 use Rattle.aml_objects.specs.declared.object.Object.TheVariants as object
@@ -169,7 +169,7 @@ module _ (here : Here) where
   sound_region (more name none) = tt
   sound_region none = tt
 
-  sound_buffer_field : (size : BufferFieldSize) (parts : Trees) → SoundNamed (named_buffer_field here size parts)
+  sound_buffer_field : (size : CreatedFieldSize) (parts : Trees) → SoundNamed (named_buffer_field here size parts)
   sound_buffer_field size (more buffer (more index (more name none))) = tt
   sound_buffer_field size (more buffer (more index (more name (more other parts)))) = tt
   sound_buffer_field size (more buffer (more index none)) = tt

@@ -13,8 +13,8 @@ use Rattle.aml_paths.specs.declared.scope.Scope.TheVariants.{Root, At}
 use Rattle.aml_objects.specs.declared.object.Content.{Content}
 use Rattle.aml_objects.specs.declared.object.Content.TheVariants as content
 use Rattle.aml_objects.specs.declared.object.Source.TheVariants as source
-use Rattle.aml_objects.specs.declared.object.BufferFieldSize.{BufferFieldSize}
-use Rattle.aml_objects.specs.declared.object.BufferFieldSize.TheVariants as size
+use Rattle.aml_objects.specs.declared.object.CreatedFieldSize.{CreatedFieldSize}
+use Rattle.aml_objects.specs.declared.object.CreatedFieldSize.TheVariants as size
 use Rattle.aml_objects.specs.Enter.{Here}
 
 abbrev pub at_of : Tree → ℕ
@@ -78,7 +78,7 @@ method_of here at flags body = object.Method (record {
   body = record { at = at_of body; end = stop_of body };
 })
 
-abbrev pub buffer_field : Here → BufferFieldSize → Tree → Tree → Object
+abbrev pub buffer_field : Here → CreatedFieldSize → Tree → Tree → Object
 buffer_field here size buffer index = object.BufferField (record { source = reference here buffer; index = literal index; size = size })
 
 -- an object, with the place of its name
@@ -108,7 +108,7 @@ abbrev pub named_mutex : Trees → Named
 named_mutex (more name (more flags none)) = Some (at_of name, object.Mutex (number_in flags % 16))
 named_mutex parts = None
 
-abbrev pub named_buffer_field : Here → BufferFieldSize → Trees → Named
+abbrev pub named_buffer_field : Here → CreatedFieldSize → Trees → Named
 named_buffer_field here size (more buffer (more index (more name none))) = Some (at_of name, buffer_field here size buffer index)
 named_buffer_field here size parts = None
 

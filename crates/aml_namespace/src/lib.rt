@@ -14,7 +14,7 @@ mod made;
 mod namespace;
 
 pub use aml_objects::{
-    AccessType, BufferField, BufferFieldSize, Content, DataName, Entry, Field, FieldRule,
+    AccessType, Content, CreatedField, CreatedFieldSize, DataName, Entry, Field, FieldRule,
     LoadCause, LoadFault, LoadRefusal, Method, Object, Reference, Region, Source, Through,
     UpdateRule, Width,
 };

@@ -9,7 +9,7 @@ ghost use Rattle.aml_objects.specs.Kept.{here_of};
 ghost use Rattle.aml_namespace.specs.Made.{buffer_content, buffer_field, content_of, data_of, literal, method_of, name_place, named, named_bits, named_buffer_field, named_data, named_method, named_mutex, named_region, object_of, package_content, reference, scope_numbered, sized_package_content, string_content};
 
 use aml_objects::{
-    BufferField, BufferFieldSize, Content, DataName, Here, Method, Object, Reference, Region,
+    Content, CreatedField, CreatedFieldSize, DataName, Here, Method, Object, Reference, Region,
     Source,
 };
 use aml_operators::{Op, Term, four, literal_of, number_in, one, size_in, three, two};
@@ -145,10 +145,10 @@ fn method_of(here: Here<'_>, at: usize, flags: u64, body: &Term) -> Object
 }
 
 /// A field of a buffer.
-fn buffer_field(here: Here<'_>, size: BufferFieldSize, buffer: &Term, index: &Term) -> Object
+fn buffer_field(here: Here<'_>, size: CreatedFieldSize, buffer: &Term, index: &Term) -> Object
     ensures { result ≡ buffer_field (here_of here.entry) size (view buffer.now) (view index.now) }
 {
-    Object::BufferField(BufferField {
+    Object::BufferField(CreatedField {
         source: reference(here, buffer),
         index: literal(index),
         size,
@@ -218,7 +218,7 @@ fn named_mutex(parts: &[Term]) -> Named
 
 /// A field of a buffer, of a size that its operator tells.
 #[tactic(auto, using(aml_operators::proofs::Views::view_out, aml_operators::proofs::PartsOf::part_count))]
-fn named_buffer_field(here: Here<'_>, size: BufferFieldSize, parts: &[Term]) -> Named
+fn named_buffer_field(here: Here<'_>, size: CreatedFieldSize, parts: &[Term]) -> Named
     requires { length parts.now ≡ 3 }
     ensures { result ≡ named_buffer_field (here_of here.entry) size (views parts.now) }
 {
@@ -233,7 +233,7 @@ fn named_bits(here: Here<'_>, parts: &[Term]) -> Named
     ensures { result ≡ named_bits (here_of here.entry) (views parts.now) }
 {
     let (buffer, index, bits, name) = four(parts);
-    let size = BufferFieldSize::Bits(literal(bits));
+    let size = CreatedFieldSize::Bits(literal(bits));
     Some((name.at, buffer_field(here, size, buffer, index)))
 }
 
@@ -251,11 +251,11 @@ pub(crate) fn object_of(here: Here<'_>, op: Op, at: usize, parts: &[Term]) -> Na
         Op::Event => named(Object::Event, parts),
         Op::DataTableRegion => named(Object::DataTableRegion, parts),
         Op::OperationRegion => named_region(parts),
-        Op::CreateBitField => named_buffer_field(here, BufferFieldSize::Bit, parts),
-        Op::CreateByteField => named_buffer_field(here, BufferFieldSize::Byte, parts),
-        Op::CreateWordField => named_buffer_field(here, BufferFieldSize::Word, parts),
-        Op::CreateDWordField => named_buffer_field(here, BufferFieldSize::DWord, parts),
-        Op::CreateQWordField => named_buffer_field(here, BufferFieldSize::QWord, parts),
+        Op::CreateBitField => named_buffer_field(here, CreatedFieldSize::Bit, parts),
+        Op::CreateByteField => named_buffer_field(here, CreatedFieldSize::Byte, parts),
+        Op::CreateWordField => named_buffer_field(here, CreatedFieldSize::Word, parts),
+        Op::CreateDWordField => named_buffer_field(here, CreatedFieldSize::DWord, parts),
+        Op::CreateQWordField => named_buffer_field(here, CreatedFieldSize::QWord, parts),
         Op::CreateField => named_bits(here, parts),
         _ => None,
     }

@@ -21,7 +21,7 @@ mod width;
 pub use fault::{LoadCause, LoadFault, LoadRefusal, table_fault, tree_fault};
 pub use here::Here;
 pub use object::{
-    AccessType, BufferField, BufferFieldSize, Content, DataName, Entry, Field, FieldRule, Method,
+    AccessType, Content, CreatedField, CreatedFieldSize, DataName, Entry, Field, FieldRule, Method,
     Object, Reference, Region, Source, Through, UpdateRule,
 };
 pub use objects::Objects;

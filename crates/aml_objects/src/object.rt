@@ -39,7 +39,7 @@ pub enum Object {
     /// A region of another table's bytes.
     DataTableRegion,
     Field(Field),
-    BufferField(BufferField),
+    BufferField(CreatedField),
     /// A mutex that a table defines (ACPI 6.5, 19.6, Mutex).
     Mutex {
         /// Its sync level, 0 to 15.
@@ -178,17 +178,17 @@ pub enum UpdateRule {
 
 /// A field of a buffer (ACPI 6.5, 19.6, CreateField and its kin).
 #[derive(Clone, Copy, Debug, PartialEq, Eq)]
-pub struct BufferField {
+pub struct CreatedField {
     /// The buffer.
     pub source: Reference,
     /// The number of its first byte, or of its first bit where it is a bit or so many bits.
     pub index: u64,
-    pub size: BufferFieldSize,
+    pub size: CreatedFieldSize,
 }
 
 /// How large a field of a buffer is.
 #[derive(Clone, Copy, Debug, PartialEq, Eq)]
-pub enum BufferFieldSize {
+pub enum CreatedFieldSize {
     Bit,
     Byte,
     Word,

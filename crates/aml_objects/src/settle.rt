@@ -4,7 +4,7 @@
 ghost use Rattle.std.specs.Prelude.{◌≡◌, map, OnOk};
 ghost use Rattle.aml_objects.specs.Settled.{found, found_entry, found_object, found_through, named_at, settled};
 
-use crate::object::{BufferField, Entry, Field, Object, Reference, Through};
+use crate::object::{CreatedField, Entry, Field, Object, Reference, Through};
 use crate::objects::Objects;
 use aml_lex::name_there;
 use aml_paths::{NamePlace, ObjectId};
@@ -61,7 +61,7 @@ impl Objects {
                 through: self.found_through(tables, field.through),
                 ..field
             }),
-            Object::BufferField(field) => Object::BufferField(BufferField {
+            Object::BufferField(field) => Object::BufferField(CreatedField {
                 source: self.found(tables, field.source),
                 ..field
             }),

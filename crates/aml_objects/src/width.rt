@@ -3,7 +3,7 @@
 ghost use Rattle.std.specs.Prelude.{◌≡◌, ◌-◌, ◌%◌, ◌^◌};
 ghost use Rattle.aml_objects.specs.Widths.{bits_of, size_bits, width_by};
 
-use crate::object::BufferFieldSize;
+use crate::object::CreatedFieldSize;
 
 /// How wide integers are, in all tables: 64 bits from the DSDT's revision 2 on.
 #[derive(Clone, Copy, Debug, PartialEq, Eq)]
@@ -55,18 +55,18 @@ impl Width {
     }
 }
 
-impl BufferFieldSize {
+impl CreatedFieldSize {
     /// How many bits a field of this size has, where integers have this width.
     pub fn bits(self, width: Width) -> u64
         ensures { result ≡ size_bits (bits_of width) self }
     {
         match self {
-            BufferFieldSize::Bit => 1,
-            BufferFieldSize::Byte => 8,
-            BufferFieldSize::Word => 16,
-            BufferFieldSize::DWord => 32,
-            BufferFieldSize::QWord => 64,
-            BufferFieldSize::Bits(count) => width.wrapped(count),
+            CreatedFieldSize::Bit => 1,
+            CreatedFieldSize::Byte => 8,
+            CreatedFieldSize::Word => 16,
+            CreatedFieldSize::DWord => 32,
+            CreatedFieldSize::QWord => 64,
+            CreatedFieldSize::Bits(count) => width.wrapped(count),
         }
     }
 }

@@ -16,7 +16,7 @@ use crate::setting::Setting;
 use aml_acts::define::{counted, make_field};
 use aml_machine::Machine;
 use aml_meaning::{Action, AmlCause, action_of};
-use aml_namespace::BufferFieldSize;
+use aml_namespace::CreatedFieldSize;
 use aml_operators::{Term, four, literal_of, three};
 use aml_scene::halt::{Halt, fails};
 use aml_scene::own::makes_own;
@@ -40,7 +40,7 @@ fn source_of(term: &Term) -> Option<usize>
 pub fn sized_field(
     alloc: Global,
     here: Setting<'_>,
-    size: BufferFieldSize,
+    size: CreatedFieldSize,
     at: usize,
     parts: &[Term],
     machine: &mut Machine,

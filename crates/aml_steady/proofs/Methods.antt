@@ -5,17 +5,17 @@ use Rattle.aml_operators.specs.Literal.{literal_of}
 use Rattle.aml_operators.specs.Tree.{Tree, Trees, Node, none, more}
 use Rattle.aml_namespace.specs.declared.link.Link.{Link}
 use Rattle.aml_namespace.specs.declared.link.Link.TheVariants as link
-use Rattle.aml_objects.specs.declared.object.BufferFieldSize.{BufferFieldSize}
-use Rattle.aml_objects.specs.declared.object.BufferFieldSize.TheVariants as size
+use Rattle.aml_objects.specs.declared.object.CreatedFieldSize.{CreatedFieldSize}
+use Rattle.aml_objects.specs.declared.object.CreatedFieldSize.TheVariants as size
 use Rattle.aml_values.specs.Values.{Value}
 use Rattle.aml_contents.specs.Contents.{ContentKinds}
 use Rattle.aml_meaning.specs.declared.definition.Definition.{Definition}
 use Rattle.aml_meaning.specs.declared.definition.Definition.TheVariants as makes
 use Rattle.aml_meaning.specs.declared.error.AmlCause.TheVariants as why
-use Rattle.aml_meaning.specs.declared.part.BufferPart.{BufferPart}
+use Rattle.aml_meaning.specs.declared.buffer_field.BufferField.{BufferField}
 use Rattle.aml_meaning.specs.State.{Frame, Error, Returned, Broke, Continued, error, Out, Goes, Halts, NoAnswer, Spent}
 use Rattle.aml_meaning.specs.Parts.{M, tick, stop_with}
-use Rattle.aml_meaning.specs.BufferFields.{made_part}
+use Rattle.aml_meaning.specs.BufferFields.{made_buffer_field}
 use Rattle.aml_meaning.specs.Calls.{framed, inside, left}
 use Rattle.aml_meaning.specs.Rules.{Place}
 use Rattle.aml_meaning.specs.Meaning.{Setting, at_of, mean, outside, value}
@@ -28,7 +28,7 @@ use Rattle.aml_steady.proofs.Terms.{keeps_mean, keeps_value}
 
 -- the source of a field of a buffer, and the field that is made
 module _ (here : Setting) where
-  pub keeps_own_source : (at k : ℕ) (field : Option BufferPart) → KeepsKinds (own_source here at k field)
+  pub keeps_own_source : (at k : ℕ) (field : Option BufferField) → KeepsKinds (own_source here at k field)
   keeps_own_source at k None = keeps_give _
   keeps_own_source at k (Some f) = keeps_outside here Link at
 
@@ -37,9 +37,9 @@ module _ (here : Setting) where
   keeps_field_source at (link.Own k) = keeps_then _ _ (keeps_own_field k) (λ f. keeps_own_source at k f)
   keeps_field_source at other = keeps_outside here Link at
 
-  pub keeps_make_field : (at : ℕ) (from index : Option ℕ) (counted : Option BufferFieldSize) → KeepsKinds (make_field here at from index counted)
+  pub keeps_make_field : (at : ℕ) (from index : Option ℕ) (counted : Option CreatedFieldSize) → KeepsKinds (make_field here at from index counted)
   keeps_make_field at (Some from) (Some index) (Some counted) =
-      keeps_then _ _ (keeps_field_source at (here.link from)) (λ source. keeps_define_field here.width (made_part here.width source counted index))
+      keeps_then _ _ (keeps_field_source at (here.link from)) (λ source. keeps_define_field here.width (made_buffer_field here.width source counted index))
   keeps_make_field at from index counted = keeps_outside here (Unit {0}) at
 
 module _ (here : Setting) (calls : CallsKeepKinds here.call) where

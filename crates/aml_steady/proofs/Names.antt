@@ -14,16 +14,16 @@ use Rattle.aml_meaning.specs.declared.error.AmlCause.TheVariants as why
 use Rattle.aml_meaning.specs.declared.action.Action.{Action}
 use Rattle.aml_meaning.specs.declared.action.Action.TheVariants.{Local, Argument, Name, Dereference, Invoke, NoTarget, Debug}
 use Rattle.aml_meaning.specs.declared.mutex.TakenMutex.{TakenMutex}
-use Rattle.aml_meaning.specs.declared.part.BufferPart.{BufferPart}
+use Rattle.aml_meaning.specs.declared.buffer_field.BufferField.{BufferField}
 use Rattle.aml_meaning.specs.State.{error}
 use Rattle.aml_meaning.specs.Parts.{M, tick}
 use Rattle.aml_meaning.specs.Rules.{Place, integer}
 use Rattle.aml_meaning.specs.Actions.{action}
-use Rattle.aml_meaning.specs.BufferFields.{read_part, usable_part, wanted_part, written_part}
+use Rattle.aml_meaning.specs.BufferFields.{read_buffer_field, usable_buffer_field, wanted_buffer_field, written_buffer_field}
 use Rattle.aml_meaning.specs.Buffers.{size_of}
 use Rattle.aml_meaning.specs.FieldValues.{given_bits, wanted_field}
 use Rattle.aml_meaning.specs.Interfaces.{answered}
-use Rattle.aml_meaning.specs.Meaning.{Setting, at_of, place_at, outside, yields, want, data_unless, tested, held, field_read, bits_stored, field_stored, part_read, part_changed, own_read, own_held, own_changed, own_stored, own_measured, own_seen, interface_asked, named, named_target, named_seen, seen, measured, size, asked, condition, untargeted, put, refused, changed_in_place, bound, name_indexed, indexed, notified_name, notified, mutex_numbered, mutex_named, mutex}
+use Rattle.aml_meaning.specs.Meaning.{Setting, at_of, place_at, outside, yields, want, data_unless, tested, held, field_read, bits_stored, field_stored, buffer_field_read, buffer_field_changed, own_read, own_held, own_changed, own_stored, own_measured, own_seen, interface_asked, named, named_target, named_seen, seen, measured, size, asked, condition, untargeted, put, refused, changed_in_place, bound, name_indexed, indexed, notified_name, notified, mutex_numbered, mutex_named, mutex}
 use Rattle.aml_steady.specs.Steady.{KeepsKinds}
 use Rattle.aml_steady.proofs.Parts.{keeps_then, keeps_give, keeps_stop_with, keeps_lift, keeps_tick, keeps_stepped_out, keeps_get_local, keeps_get_arg, keeps_get_name, keeps_set_local, keeps_set_arg, keeps_set_name, keeps_get_own, keeps_set_own, keeps_own_field, keeps_change, keeps_peek}
 use Rattle.aml_steady.proofs.Fields.{keeps_read_value, keeps_write_bits}
@@ -72,31 +72,31 @@ module _ (here : Setting) where
       (λ u. keeps_then _ _ (keeps_lift (wanted_field (place_at here at) (here.field k))) (λ f. keeps_bits_stored at f v))
 
   -- fields of buffers
-  pub keeps_part_read : (field : Option BufferPart) (at : ℕ) → KeepsKinds (part_read here field at)
-  keeps_part_read field at =
-      keeps_then _ _ (keeps_lift (wanted_part (place_at here at) field))
-      (λ f. keeps_then _ _ (keeps_peek f.source (read_part here.width (place_at here at) f)) (λ v. keeps_yields v))
+  pub keeps_buffer_field_read : (field : Option BufferField) (at : ℕ) → KeepsKinds (buffer_field_read here field at)
+  keeps_buffer_field_read field at =
+      keeps_then _ _ (keeps_lift (wanted_buffer_field (place_at here at) field))
+      (λ f. keeps_then _ _ (keeps_peek f.source (read_buffer_field here.width (place_at here at) f)) (λ v. keeps_yields v))
 
-  pub keeps_part_changed : (at : ℕ) (field : Option BufferPart) (v : Value) → KeepsKinds (part_changed here at field v)
-  keeps_part_changed at (Some f) v = keeps_change f.source (written_part here.width (place_at here at) f v)
-  keeps_part_changed at None v = keeps_refused (Unit {0}) why.Region at
+  pub keeps_buffer_field_changed : (at : ℕ) (field : Option BufferField) (v : Value) → KeepsKinds (buffer_field_changed here at field v)
+  keeps_buffer_field_changed at (Some f) v = keeps_change f.source (written_buffer_field here.width (place_at here at) f v)
+  keeps_buffer_field_changed at None v = keeps_refused (Unit {0}) why.Region at
 
   -- own names
-  pub keeps_own_read : (field : Option BufferPart) (k at : ℕ) → KeepsKinds (own_read here field k at)
-  keeps_own_read (Some f) k at = keeps_part_read (usable_part f) at
+  pub keeps_own_read : (field : Option BufferField) (k at : ℕ) → KeepsKinds (own_read here field k at)
+  keeps_own_read (Some f) k at = keeps_buffer_field_read (usable_buffer_field f) at
   keeps_own_read None k at = keeps_then _ _ (keeps_get_own here.table at k) (λ v. keeps_yields v)
 
   pub keeps_own_held : (k at : ℕ) → KeepsKinds (own_held here k at)
   keeps_own_held k at = keeps_then _ _ (keeps_own_field k) (λ f. keeps_own_read f k at)
 
-  pub keeps_own_changed : (field : Option BufferPart) (k at : ℕ) (v : Value) → KeepsKinds (own_changed here field k at v)
-  keeps_own_changed (Some f) k at v = keeps_part_changed at (usable_part f) v
+  pub keeps_own_changed : (field : Option BufferField) (k at : ℕ) (v : Value) → KeepsKinds (own_changed here field k at v)
+  keeps_own_changed (Some f) k at v = keeps_buffer_field_changed at (usable_buffer_field f) v
   keeps_own_changed None k at v = keeps_set_own here.table at k v
 
   pub keeps_own_stored : (k at : ℕ) (v : Value) → KeepsKinds (own_stored here k at v)
   keeps_own_stored k at v = keeps_then _ _ (keeps_own_field k) (λ f. keeps_own_changed f k at v)
 
-  pub keeps_own_measured : (field : Option BufferPart) (k at : ℕ) → KeepsKinds (own_measured here field k at)
+  pub keeps_own_measured : (field : Option BufferField) (k at : ℕ) → KeepsKinds (own_measured here field k at)
   keeps_own_measured (Some f) k at = keeps_stop_with Value (error why.Kind here.table at)
   keeps_own_measured None k at = keeps_get_own here.table at k
 
@@ -113,7 +113,7 @@ module _ (here : Setting) where
   pub keeps_named : (l : Link) (at : ℕ) → KeepsKinds (named here l at)
   keeps_named (link.Data id) at = keeps_held id.0 at
   keeps_named (link.Field id) at = keeps_field_read id.0 at
-  keeps_named (link.BufferField id) at = keeps_part_read (here.buffer_field id.0) at
+  keeps_named (link.BufferField id) at = keeps_buffer_field_read (here.buffer_field id.0) at
   keeps_named (link.Own k) at = keeps_own_held k at
   keeps_named (link.Method id) at = keeps_stop_with (Option Value) _
   keeps_named link.OsInterfaces at = keeps_stop_with (Option Value) _
@@ -123,7 +123,7 @@ module _ (here : Setting) where
   pub keeps_named_target : (l : Link) (at : ℕ) (v : Value) → KeepsKinds (named_target here l at v)
   keeps_named_target (link.Data id) at v = keeps_set_name here.table at id.0 v
   keeps_named_target (link.Field id) at v = keeps_field_stored id.0 at v
-  keeps_named_target (link.BufferField id) at v = keeps_part_changed at (here.buffer_field id.0) v
+  keeps_named_target (link.BufferField id) at v = keeps_buffer_field_changed at (here.buffer_field id.0) v
   keeps_named_target (link.Own k) at v = keeps_own_stored k at v
   keeps_named_target (link.Method id) at v = keeps_stepped_out (Unit {0}) _
   keeps_named_target link.OsInterfaces at v = keeps_stepped_out (Unit {0}) _

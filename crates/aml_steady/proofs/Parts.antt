@@ -11,7 +11,7 @@ use Rattle.aml_meaning.specs.declared.error.AmlError.{AmlError}
 use Rattle.aml_meaning.specs.declared.action.Pause.{Pause as PauseKind}
 use Rattle.aml_meaning.specs.declared.action.Pause.TheVariants as pause
 use Rattle.aml_meaning.specs.declared.mutex.TakenMutex.{TakenMutex}
-use Rattle.aml_meaning.specs.declared.part.BufferPart.{BufferPart}
+use Rattle.aml_meaning.specs.declared.buffer_field.BufferField.{BufferField}
 use Rattle.aml_meaning.specs.State.{State, Stop, Error, Out, Goes, Halts, NoAnswer, Spent, held_level, state_of, with_steps}
 use Rattle.aml_meaning.specs.Parts.{M, Effect, ◌>>=◌, give, stop_with, lift, tick, paid, take_step, then_do, content_or, get_local, get_arg, get_name, set_local, set_arg, set_name, may_store, stored_or, read_unit, answer, make_event, with_event, sleep, woken, woken_or}
 use Rattle.aml_meaning.specs.Owns.{get_own, set_own, own_stored_or, make_own, define_own, define_field, own_field}
@@ -158,14 +158,14 @@ pub keeps_set_own : (table at k : ℕ) (v : Value) → KeepsKinds (set_own table
 unfolding set_own
 keeps_set_own table at k v = keeps_paid _ (λ script s. own_stored_has (may_store s.frame.owns.kinds k v) table at k v s)
 
-pub keeps_make_own : (width : ℕ) (held : Option Value) (field : Option BufferPart) → KeepsKinds (make_own width held field)
+pub keeps_make_own : (width : ℕ) (held : Option Value) (field : Option BufferField) → KeepsKinds (make_own width held field)
 unfolding make_own
 keeps_make_own width held field script s = refl
 
 pub keeps_define_own : (width : ℕ) (v : Value) → KeepsKinds (define_own width v)
 keeps_define_own width v = keeps_make_own width (Some v) None
 
-pub keeps_define_field : (width : ℕ) (f : BufferPart) → KeepsKinds (define_field width f)
+pub keeps_define_field : (width : ℕ) (f : BufferField) → KeepsKinds (define_field width f)
 keeps_define_field width f = keeps_make_own width None (Some f)
 
 pub keeps_own_field : (k : ℕ) → KeepsKinds (own_field k)

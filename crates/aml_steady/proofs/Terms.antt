@@ -22,7 +22,7 @@ use Rattle.aml_meaning.specs.Meaning.{Setting, at_of, is_else, place, place_at, 
 use Rattle.aml_steady.specs.Steady.{KeepsKinds, CallsKeepKinds, TermsKeepKinds, ValuesKeepKinds, ListsKeepKinds, StoresKeepKinds}
 use Rattle.aml_steady.proofs.Parts.{keeps_then, keeps_give, keeps_stop_with, keeps_lift, keeps_choice, keeps_tick, keeps_get_local, keeps_get_arg, keeps_change, keeps_make_event, keeps_paused, keeps_acquire, keeps_release, keeps_none_held}
 use Rattle.aml_steady.proofs.Loops.{keeps_loop}
-use Rattle.aml_steady.proofs.Names.{keeps_outside, keeps_yields, keeps_want, keeps_data_unless, keeps_tested, keeps_held, keeps_field_read, keeps_part_read, keeps_own_held, keeps_interface_asked, keeps_named, keeps_size, keeps_condition, keeps_untargeted, keeps_put, keeps_changed_in_place, keeps_indexed, keeps_notified, keeps_mutex}
+use Rattle.aml_steady.proofs.Names.{keeps_outside, keeps_yields, keeps_want, keeps_data_unless, keeps_tested, keeps_held, keeps_field_read, keeps_buffer_field_read, keeps_own_held, keeps_interface_asked, keeps_named, keeps_size, keeps_condition, keeps_untargeted, keeps_put, keeps_changed_in_place, keeps_indexed, keeps_notified, keeps_mutex}
 
 module _ (here : Setting) (calls : CallsKeepKinds here.call) where
   pub keeps_invoked : (l : Link) (at from : ℕ) (arguments : M (List Value)) → KeepsKinds arguments → KeepsKinds (invoked here l at from arguments)
@@ -30,7 +30,7 @@ module _ (here : Setting) (calls : CallsKeepKinds here.call) where
   keeps_invoked link.OsInterfaces at from arguments h = keeps_then arguments _ h (λ vs. keeps_interface_asked here at from vs)
   keeps_invoked (link.Data id) at from arguments h = keeps_held here id.0 at
   keeps_invoked (link.Field id) at from arguments h = keeps_field_read here id.0 at
-  keeps_invoked (link.BufferField id) at from arguments h = keeps_part_read here (here.buffer_field id.0) at
+  keeps_invoked (link.BufferField id) at from arguments h = keeps_buffer_field_read here (here.buffer_field id.0) at
   keeps_invoked (link.Own k) at from arguments h = keeps_own_held here k at
   keeps_invoked (link.Object id) at from arguments h = keeps_stop_with (Option Value) _
   keeps_invoked link.Missing at from arguments h = keeps_stop_with (Option Value) _

@@ -25,7 +25,7 @@ use Rattle.aml_known.specs.declared.stop.Stop.{Stop}
 use Rattle.aml_known.specs.declared.stop.Stop.TheVariants as stop
 use Rattle.aml_judging.specs.Follows.{IsVerdict}
 use Rattle.aml_judging.specs.declared.finding.Finding.{Finding}
-use Rattle.aml_meaning.specs.declared.part.BufferPart.{BufferPart}
+use Rattle.aml_meaning.specs.declared.buffer_field.BufferField.{BufferField}
 use Rattle.aml_meaning.specs.Methods.{callee_of}
 use Rattle.aml_meaning.specs.Within.{Callee, Methods}
 use Rattle.aml_methods.proofs.Judgings.{callee_there, no_callee}
@@ -49,7 +49,7 @@ use Rattle.aml_verify.specs.Verdicts.{IsAtWork, IsRead, Says}
 use Rattle.aml_verify.specs.declared.verdict.Verdict.{Verdict}
 use Rattle.aml_verify.specs.declared.verdict.Verdict.TheVariants as verdict
 
-module _ (ns : Shown) (told : Told) (shapes : List Shape) (shared : List (Option Known)) (heights : Heights) (components : Components) (order : List ℕ) (judged_so_far : ℕ) (verdicts : List (Option Verdict)) (is : IsAtWork ns told shapes shared heights components order judged_so_far verdicts) (k : ℕ) (m : Method) (at : slice_get order judged_so_far ≡ Some k) (there : method_at ns k ≡ Some m) (body : List Term) (read : IsRead ns k m (map view body)) (bytes : List ℕ) (bytes_are : bytes ≡ body_bytes ns m) (owns : List OwnName) (owns_are : owns ≡ own_names bytes (map view body)) (held : List (Option Known)) (none_held : held ≡ []) (fields : List (Option BufferPart)) (no_fields : fields ≡ []) where
+module _ (ns : Shown) (told : Told) (shapes : List Shape) (shared : List (Option Known)) (heights : Heights) (components : Components) (order : List ℕ) (judged_so_far : ℕ) (verdicts : List (Option Verdict)) (is : IsAtWork ns told shapes shared heights components order judged_so_far verdicts) (k : ℕ) (m : Method) (at : slice_get order judged_so_far ≡ Some k) (there : method_at ns k ≡ Some m) (body : List Term) (read : IsRead ns k m (map view body)) (bytes : List ℕ) (bytes_are : bytes ≡ body_bytes ns m) (owns : List OwnName) (owns_are : owns ≡ own_names bytes (map view body)) (held : List (Option Known)) (none_held : held ≡ []) (fields : List (Option BufferField)) (no_fields : fields ≡ []) where
   abbrev callee : Callee
   callee = callee_of ns k m (views body)
 

@@ -12,7 +12,7 @@ use Rattle.aml_judged.specs.Verdicts.{accepted_of, AreAccepted, around_for, call
 use Rattle.aml_judged.proofs.Seen.{method_same}
 use Rattle.aml_known.specs.declared.known.Known.{Known}
 use Rattle.aml_kinds.specs.Kinds.{Shape}
-use Rattle.aml_meaning.specs.declared.part.BufferPart.{BufferPart}
+use Rattle.aml_meaning.specs.declared.buffer_field.BufferField.{BufferField}
 use Rattle.aml_meaning.specs.Methods.{callee_of, is_lone, listed}
 use Rattle.aml_meaning.specs.Within.{Callee}
 use Rattle.aml_methods.proofs.Judgings.{listed_trees, unread}
@@ -53,7 +53,7 @@ module _ (ns : Shown) (told : Told) (all : Judging) (j : IsJudging ns told all) 
       method_same (around_for all known k c) other c.opcode c.body env (λ i e. same i (subst (λ o. is_among i (calls_by o) ≡ true) (sym there) e))
 
   -- what is known around a body that has made no own name is what the definition has around it
-  pub body_seen : (shapes : List Shape) (shared : List (Option Known)) (callee : ℕ → Seen) (k : ℕ) (m : Method) (ts : List Tree) (table : ℕ) (bytes : List ℕ) (owns : List OwnName) (held : List (Option Known)) (fields : List (Option BufferPart)) → table ≡ m.table → bytes ≡ body_bytes ns m → owns ≡ own_names bytes ts → kinds_by shapes shared ≡ first_kinds ns → held ≡ [] → fields ≡ [] → (record (around_for all known k (callee_of ns k m (trees ts))) { callee = callee }) ≡ around_by ns shapes shared callee k table bytes owns held fields
+  pub body_seen : (shapes : List Shape) (shared : List (Option Known)) (callee : ℕ → Seen) (k : ℕ) (m : Method) (ts : List Tree) (table : ℕ) (bytes : List ℕ) (owns : List OwnName) (held : List (Option Known)) (fields : List (Option BufferField)) → table ≡ m.table → bytes ≡ body_bytes ns m → owns ≡ own_names bytes ts → kinds_by shapes shared ≡ first_kinds ns → held ≡ [] → fields ≡ [] → (record (around_for all known k (callee_of ns k m (trees ts))) { callee = callee }) ≡ around_by ns shapes shared callee k table bytes owns held fields
   body_seen shapes shared callee k m ts table bytes owns held fields table_is bytes_are owns_are shared_are none_held no_fields = λ i. record {
     table = sym table_is i;
     width = (j.methods i).width;

@@ -11,7 +11,7 @@ use Rattle.aml_judged.specs.Judged.{Around, Seen}
 use Rattle.aml_kinds.specs.Kinds.{Shape}
 use Rattle.aml_known.specs.declared.known.Known.{Known}
 use Rattle.aml_known.specs.Views.{kind_of}
-use Rattle.aml_meaning.specs.declared.part.BufferPart.{BufferPart}
+use Rattle.aml_meaning.specs.declared.buffer_field.BufferField.{BufferField}
 use Rattle.aml_meaning.specs.BufferFields.{buffer_field_numbered}
 use Rattle.aml_meaning.specs.Methods.{is_lone}
 use Rattle.aml_meaning.specs.Reached.{field_numbered}
@@ -41,7 +41,7 @@ kinds_by shapes ks = map (option_map (kind_of (numbered shapes))) ks
 -- what is known around the body of the method with a number, in a namespace: its table and its bytes,
 -- its own names, and of those that are made so far what they hold and which fields they are
 module _ (ns : Shown) (shapes : List Shape) (shared : List (Option Known)) (callee : ℕ → Seen) where
-  abbrev pub around_by : ℕ → ℕ → List ℕ → List OwnName → List (Option Known) → List (Option BufferPart) → Around
+  abbrev pub around_by : ℕ → ℕ → List ℕ → List OwnName → List (Option Known) → List (Option BufferField) → Around
   around_by k table bytes owns held fields = record {
     table = table;
     width = bits_of ns.width;
@@ -65,7 +65,7 @@ around_body b = around_by (shown b.names.namespace.now) b.shapes.now b.shared.no
     b.names.method.0 b.table b.names.bytes.now (owns_seen b.names.owns.now) b.held.items b.fields.items
 
 -- with one own name more, which holds what is of a kind, or is a field; and all else the same
-pub record IsGrown (old new : Body) (kind : Option Known) (part : Option BufferPart) : Type 0 where
+pub record IsGrown (old new : Body) (kind : Option Known) (field : Option BufferField) : Type 0 where
   pub same : new ≡ record old { held = new.held; fields = new.fields }
   pub held : new.held.items ≡ old.held.items ++ kind ∷ []
-  pub fields : new.fields.items ≡ old.fields.items ++ part ∷ []
+  pub fields : new.fields.items ≡ old.fields.items ++ field ∷ []

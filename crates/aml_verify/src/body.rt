@@ -7,11 +7,11 @@ ghost use Rattle.aml_verify.specs.Bodies.{around_body, IsGrown};
 use crate::named::Named;
 use crate::verdict::{Verdict, accepted_at};
 use aml_components::{Components, Heights};
-use aml_fields::{field_in, part_numbered, read_count, write_count};
+use aml_fields::{buffer_field_numbered, field_in, read_count, write_count};
 use aml_judging::{Around, FieldCosts, Finding, Made, Seen};
 use aml_known::{ElementKnown, Known, ShapeNumber, Shapes};
 use aml_lex::name_there;
-use aml_meaning::BufferPart;
+use aml_meaning::BufferField;
 use aml_namespace::{Link, Object, Width};
 use aml_operators::{Op, Term};
 use aml_paths::{NoMemory, ObjectId};
@@ -36,7 +36,7 @@ pub(crate) struct Body<'n, 'k, 'b> {
     /// Of each own name that was made the kind of what it holds, unless it is a field.
     pub held: Vec<Option<Known>>,
     /// Of each the field that it is.
-    pub fields: Vec<Option<BufferPart>>,
+    pub fields: Vec<Option<BufferField>>,
     /// What a rule found last that may refuse; where the method is refused, what it found there.
     pub finding: Cell<Finding>,
 }
@@ -53,22 +53,22 @@ fn at<T: Copy>(places: &[Option<T>], number: usize) -> Option<T>
 
 impl Body<'_, '_, '_> {
     /// Makes an own name more.
-    fn grow(&mut self, kind: Option<Known>, part: Option<BufferPart>) -> Result<(), NoMemory>
-        ensures grown { OnOk result (IsGrown self.old self.new kind part) }
+    fn grow(&mut self, kind: Option<Known>, field: Option<BufferField>) -> Result<(), NoMemory>
+        ensures grown { OnOk result (IsGrown self.old self.new kind field) }
         ensures shapes { self.new.shapes ≡ self.old.shapes }
     {
-        match self.pushed(kind, part) {
+        match self.pushed(kind, field) {
             Ok(()) => Ok(()),
             Err(_) => Err(NoMemory),
         }
     }
 
-    fn pushed(&mut self, kind: Option<Known>, part: Option<BufferPart>) -> Result<(), AllocError>
-        ensures grown { OnOk result (IsGrown self.old self.new kind part) }
+    fn pushed(&mut self, kind: Option<Known>, field: Option<BufferField>) -> Result<(), AllocError>
+        ensures grown { OnOk result (IsGrown self.old self.new kind field) }
         ensures shapes { self.new.shapes ≡ self.old.shapes }
     {
         self.held.reserve(1)?;
-        self.fields.push(part)?;
+        self.fields.push(field)?;
         self.held.push(kind)?;
         Ok(())
     }
@@ -128,8 +128,8 @@ impl Around for Body<'_, '_, '_> {
         })
     }
 
-    fn buffer_field(&self, id: ObjectId) -> Option<BufferPart> {
-        part_numbered(self.names.namespace, id)
+    fn buffer_field(&self, id: ObjectId) -> Option<BufferField> {
+        buffer_field_numbered(self.names.namespace, id)
     }
 
     fn literal(&self, op: Op, parts: &[Term]) -> Result<Known, NoMemory> {
@@ -153,7 +153,7 @@ impl Around for Body<'_, '_, '_> {
         at(&self.held, number)
     }
 
-    fn own_field(&self, number: usize) -> Option<BufferPart> {
+    fn own_field(&self, number: usize) -> Option<BufferField> {
         at(&self.fields, number)
     }
 
@@ -165,7 +165,7 @@ impl Around for Body<'_, '_, '_> {
         match made {
             Made::Nothing => Ok(()),
             Made::Holding(kind) => self.grow(Some(kind), None),
-            Made::Field(part) => self.grow(None, Some(part)),
+            Made::Field(field) => self.grow(None, Some(field)),
         }
     }
 }

@@ -3,7 +3,7 @@
 use super::{dsdt_of, found};
 use acpi_samples::HOST;
 use aml_namespace::{
-    AccessType, BufferField, BufferFieldSize, Content, DataName, Entry, Field, FieldRule, Link,
+    AccessType, Content, CreatedField, CreatedFieldSize, DataName, Entry, Field, FieldRule, Link,
     Method, Namespace, Object, Reference, Region, Source, Through, UpdateRule,
 };
 use aml_paths::{NamePlace, ObjectId, Scope};
@@ -181,7 +181,7 @@ const BNK0: Field = Field {
     is_connected: false,
 };
 
-const BYT0: BufferField = BufferField {
+const BYT0: CreatedField = CreatedField {
     source: Reference {
         name: NamePlace {
             table: 0,
@@ -191,10 +191,10 @@ const BYT0: BufferField = BufferField {
         object: Some(ObjectId(15)),
     },
     index: 3,
-    size: BufferFieldSize::Byte,
+    size: CreatedFieldSize::Byte,
 };
 
-const BIT0: BufferField = BufferField {
+const BIT0: CreatedField = CreatedField {
     source: Reference {
         name: NamePlace {
             table: 0,
@@ -204,7 +204,7 @@ const BIT0: BufferField = BufferField {
         object: Some(ObjectId(15)),
     },
     index: 5,
-    size: BufferFieldSize::Bits(11),
+    size: CreatedFieldSize::Bits(11),
 };
 
 /// A number, the path with it, and the object.

@@ -3,7 +3,7 @@
 use super::{dsdt_of, found};
 use acpi_samples::HOST;
 use aml_namespace::{
-    AccessType, BufferField, BufferFieldSize, Content, DataName, Field, FieldRule, Namespace,
+    AccessType, Content, CreatedField, CreatedFieldSize, DataName, Field, FieldRule, Namespace,
     Object, Reference, Region, Source, Through, UpdateRule,
 };
 use aml_paths::{NamePlace, ObjectId, Scope};
@@ -77,7 +77,7 @@ enum Made {
     /// A field of the region's bank.
     Banked,
     /// A field of the buffer, by the place of its name, its index and its size.
-    BufferField(usize, u64, BufferFieldSize),
+    BufferField(usize, u64, CreatedFieldSize),
     /// A name of the integer One, which stands at a place within an object.
     One(usize, usize),
     Other(Object),
@@ -122,7 +122,7 @@ fn object_of(made: Made) -> Object {
             Object::Field(field(through, bit, bits, access, is_connected))
         }
         Made::Banked => Object::Field(banked()),
-        Made::BufferField(at, index, size) => Object::BufferField(BufferField {
+        Made::BufferField(at, index, size) => Object::BufferField(CreatedField {
             source: within_device(at, 9),
             index,
             size,
@@ -171,22 +171,22 @@ const OBJECTS: &[(usize, &[u8], Made)] = &[
     (
         17,
         b"\\\x2eDEV0BIT1",
-        Made::BufferField(118, 9, BufferFieldSize::Bit),
+        Made::BufferField(118, 9, CreatedFieldSize::Bit),
     ),
     (
         18,
         b"\\\x2eDEV0WRD1",
-        Made::BufferField(129, 0, BufferFieldSize::Word),
+        Made::BufferField(129, 0, CreatedFieldSize::Word),
     ),
     (
         19,
         b"\\\x2eDEV0DWD1",
-        Made::BufferField(139, 1, BufferFieldSize::DWord),
+        Made::BufferField(139, 1, CreatedFieldSize::DWord),
     ),
     (
         20,
         b"\\\x2eDEV0QWD1",
-        Made::BufferField(149, 0, BufferFieldSize::QWord),
+        Made::BufferField(149, 0, CreatedFieldSize::QWord),
     ),
     (21, b"\\\x2eDEV0DTR1", Made::Other(Object::DataTableRegion)),
     (22, b"\\\x2eDEV0BNK1", Made::Banked),

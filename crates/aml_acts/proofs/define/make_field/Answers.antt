@@ -21,4 +21,4 @@ returns-in_err-source-clause-means c = λ call log.
 pub returns-clause-means : goal.returns-clause-means
 returns-clause-means c = λ call log.
     rw (c.in-Some.is, c.in-Some-index.is, c.in-Some-size.is)
-    (runs_then _ (rw c.link_of.ensures at (c.in_ok-source.ensures call log)) (rw c.made_part-part.ensures at (c.define_field.ensures.means log)))
+    (runs_then _ (rw c.link_of.ensures at (c.in_ok-source.ensures call log)) (rw c.made_buffer_field-field.ensures at (c.define_field.ensures.means log)))

@@ -9,7 +9,7 @@ use Rattle.aml_acts.proofs.own_name.own_held.Goals as goal
 
 pub returns-in-Some : goal.returns-in-Some
 returns-in-Some c = λ call log.
-    runs_then _ (runs_found _ (now c.args.machine.now log) _ (c.in-Some.ensures log)) (rw (← c.usable_part.ensures.is) (c.part_read.ensures call log))
+    runs_then _ (runs_found _ (now c.args.machine.now log) _ (c.in-Some.ensures log)) (rw (← c.usable_buffer_field.ensures.is) (c.buffer_field_read.ensures call log))
 
 pub returns-in_err-content-in-None : goal.returns-in_err-content-in-None
 returns-in_err-content-in-None c = λ call log.

@@ -6,7 +6,7 @@ use Rattle.aml_acts.proofs.own_name.own_stored.Goals as goal
 
 pub returns-in-Some-clause-means : goal.returns-in-Some-clause-means
 returns-in-Some-clause-means c = λ call log.
-    runs_then _ (runs_found _ (now c.args.machine.now log) _ (c.in-Some.ensures log)) (rw (← c.usable_part.ensures.is) (c.part_stored.ensures.means call log))
+    runs_then _ (runs_found _ (now c.args.machine.now log) _ (c.in-Some.ensures log)) (rw (← c.usable_buffer_field.ensures.is) (c.buffer_field_stored.ensures.means call log))
 
 pub returns-in-None-clause-means : goal.returns-in-None-clause-means
 returns-in-None-clause-means c = λ call log.

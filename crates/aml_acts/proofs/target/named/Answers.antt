@@ -21,7 +21,7 @@ pub returns-in-Field-clause-means : goal.returns-in-Field-clause-means
 returns-in-Field-clause-means g c = λ call. rw (← c.in-Field.ensures) (c.field_read.ensures.means call)
 
 pub returns-in-BufferField-clause-means : goal.returns-in-BufferField-clause-means
-returns-in-BufferField-clause-means g c = λ call. rw (← c.in-BufferField.ensures, ← c.named_part.ensures.is) (c.part_read.ensures call (g.W.World.log c.args.world.now))
+returns-in-BufferField-clause-means g c = λ call. rw (← c.in-BufferField.ensures, ← c.named_buffer_field.ensures.is) (c.buffer_field_read.ensures call (g.W.World.log c.args.world.now))
 
 pub returns-in_default-clause-means : goal.returns-in_default-clause-means
 returns-in_default-clause-means g c = λ call.

@@ -26,4 +26,4 @@ returns-in-Field-clause-means g c = λ call. rw (← c.in-Field.ensures) (c.fiel
 
 pub returns-in-BufferField-clause-means : goal.returns-in-BufferField-clause-means
 returns-in-BufferField-clause-means g c = λ call.
-    rw (← c.in-BufferField.ensures, ← c.named_part.ensures.is) (c.part_stored.ensures.means call (g.W.World.log c.args.world.now))
+    rw (← c.in-BufferField.ensures, ← c.named_buffer_field.ensures.is) (c.buffer_field_stored.ensures.means call (g.W.World.log c.args.world.now))

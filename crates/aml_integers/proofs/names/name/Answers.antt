@@ -1,5 +1,5 @@
 use Rattle.std.proofs.Common.{◌∙◌, ap}
-use Rattle.aml_judged.specs.Integers.{is_integer, is_narrow_part}
+use Rattle.aml_judged.specs.Integers.{is_integer, is_narrow_buffer_field}
 use Rattle.aml_integers.proofs.names.name.Goals as goal
 
 pub returns-in-Data : goal.returns-in-Data
@@ -10,4 +10,4 @@ returns-in-Field g c = λ only. rw c.in-Field.is (c.is_narrow.ensures _ c.field.
 
 pub returns-in-BufferField : goal.returns-in-BufferField
 returns-in-BufferField g c = λ only.
-    rw c.in-BufferField.is (c.is_narrow_part.ensures ∙ ap (is_narrow_part (g.A.Around.around c.args.here.now).width) c.buffer_field.ensures)
+    rw c.in-BufferField.is (c.is_narrow_buffer_field.ensures ∙ ap (is_narrow_buffer_field (g.A.Around.around c.args.here.now).width) c.buffer_field.ensures)

@@ -5,7 +5,7 @@ use Rattle.aml_operators.specs.Tree.{view}
 use Rattle.aml_operators.proofs.Views.{view_out}
 use Rattle.aml_meaning.specs.Meaning.{at_of}
 use Rattle.aml_judged.specs.Bodies.{may_make}
-use Rattle.aml_objects.specs.declared.object.BufferFieldSize.TheVariants as size
+use Rattle.aml_objects.specs.declared.object.CreatedFieldSize.TheVariants as size
 use Rattle.aml_judging.proofs.Makings.{counted_goes}
 use Rattle.aml_judging.proofs.definitions.counted_made.Goals as goal
 use Rattle.aml_judging.proofs.definitions.counted_made.Goals.{in-Some, in-None}

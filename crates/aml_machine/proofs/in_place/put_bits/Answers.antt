@@ -13,13 +13,13 @@ loop-place-init g c = record {
   put = λ bytes e.
       let is : c.bytes_of.result.now ≡ bytes = c.bytes_of.ensures ∙ ap buffer_of (c.get.ensures ∙ e) in
       let are = subst (λ (b : List ℕ). (i : ℕ) → slice_index b i < 2 ^ 8) is c.are_bytes.ensures in
-      stored_none (contents c.args.names.now) c.args.id.0 c.args.part (g.B.Bits.bit c.args.value.now) bytes are e c.args.part.byte (omega arith);
+      stored_none (contents c.args.names.now) c.args.id.0 c.args.field (g.B.Bits.bit c.args.value.now) bytes are e c.args.field.byte (omega arith);
   kinds = refl;
 }
 
 pub loop-place-preserved : goal.loop-place-preserved
 loop-place-preserved g c =
-    let f = c.args.part in
+    let f = c.args.field in
     let k = c.args.id.0 in
     let place = c.loop-place.place in
     let bit = g.B.Bits.bit c.args.value.now in
@@ -40,7 +40,7 @@ loop-place-preserved g c =
 
 pub returns-clause-put : goal.returns-clause-put
 returns-clause-put g c = λ bytes e.
-    let f = c.args.part in
+    let f = c.args.field in
     let is : c.bytes_of.result.now ≡ bytes = c.bytes_of.ensures ∙ ap buffer_of (c.get.ensures ∙ e) in
     let are = subst (λ (b : List ℕ). (i : ℕ) → slice_index b i < 2 ^ 8) is c.are_bytes.ensures in
     stored_all (contents c.args.names.now) c.args.id.0 f (g.B.Bits.bit c.args.value.now) bytes are e (contents c.loop-place.names) c.loop-place.place c.requires.laid_out.some (omega (arith, c.loop-place-test.false, c.bytes_from.ensures)) (c.loop-place.invariant.put bytes e)
