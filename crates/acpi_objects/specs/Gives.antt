@@ -5,6 +5,8 @@ use Rattle.acpi_objects.specs.declared.given.Given.TheVariants as given
 use Rattle.acpi_verdicts.specs.Verdicts.{said_of}
 use Rattle.aml_contents.specs.Contents.{content_at}
 use Rattle.aml_interp.specs.Answers.{IsDone}
+-- what is wanted of whoever asks an object
+pub use Rattle.aml_interp.specs.Answers.{WereChecked}
 use Rattle.aml_meaning.specs.State.{Names}
 use Rattle.aml_objects.specs.declared.object.Method.{Method}
 use Rattle.aml_objects.specs.declared.object.Object.{Object}

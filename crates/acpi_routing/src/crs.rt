@@ -1,12 +1,12 @@
 // The resource descriptors of a link device.
 
 ghost use Rattle.std.specs.Prelude.{◌≡◌, IfOk, Some, option_map, true};
+ghost use Rattle.acpi_objects.specs.Gives.{WereChecked};
 ghost use Rattle.acpi_objects.specs.Gives as objects;
 ghost use Rattle.acpi_routing.specs.Crs.{HasItems, HasItemsBy, crs_of, items_given, octets_given, value_under};
 ghost use Rattle.acpi_routing.specs.Faults.{Answers};
 ghost use Rattle.aml_contents.specs.Belongs.{Belong};
 ghost use Rattle.aml_contents.specs.Held.{content_kinds};
-ghost use Rattle.aml_interp.specs.Answers.{WereChecked};
 ghost use Rattle.aml_machine.specs.Views.{names_of};
 ghost use Rattle.aml_objects.specs.Entries.{object_at};
 ghost use Rattle.aml_namespace.specs.Shows.{shown};

@@ -1,12 +1,12 @@
 // The resource descriptors of link devices, one after the other.
 
 ghost use Rattle.std.specs.Prelude.{◌≡◌, ◌++◌, OnOk, option_map};
+ghost use Rattle.acpi_objects.specs.Gives.{WereChecked};
 ghost use Rattle.acpi_resources.specs.Interrupts.{crs_of_links};
 ghost use Rattle.acpi_routing.specs.Faults.{Answers};
 ghost use Rattle.acpi_routing.specs.Links.{HaveItems, link_with};
 ghost use Rattle.aml_contents.specs.Belongs.{Belong};
 ghost use Rattle.aml_contents.specs.Held.{content_kinds};
-ghost use Rattle.aml_interp.specs.Answers.{WereChecked};
 ghost use Rattle.aml_machine.specs.Views.{names_of};
 ghost use Rattle.aml_namespace.specs.Shows.{shown};
 

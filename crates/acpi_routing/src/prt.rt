@@ -1,12 +1,11 @@
 // What an object gives whose value is taken as a `_PRT`, and the items of the links that it names.
 
 ghost use Rattle.std.specs.Prelude.{◌≡◌, IfOk, true};
-ghost use Rattle.acpi_objects.specs.Gives.{gives_value};
+ghost use Rattle.acpi_objects.specs.Gives.{WereChecked, gives_value};
 ghost use Rattle.acpi_routing.specs.Faults.{Answers};
 ghost use Rattle.acpi_routing.specs.Prt.{GivesPrt, devices_given};
 ghost use Rattle.aml_contents.specs.Belongs.{Belong};
 ghost use Rattle.aml_contents.specs.Held.{content_kinds};
-ghost use Rattle.aml_interp.specs.Answers.{WereChecked};
 ghost use Rattle.aml_machine.specs.Views.{names_of};
 ghost use Rattle.aml_objects.specs.Entries.{object_at};
 ghost use Rattle.aml_namespace.specs.Shows.{shown};
