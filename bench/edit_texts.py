@@ -48,9 +48,10 @@ def below(crates, crate):
 
 
 def edit_files(top, crate):
-    """The files of a crate's edits, those of the gate first."""
+    """The files of a crate's edits, those of the gate first. Those that turn a law's definition touch no function: rt ci tries them."""
     folders = [f"{top}/crates/{crate}/{it}" for it in ("must-fail", "edits")]
-    return [file for folder in folders for file in sorted(glob.glob(f"{folder}/*.edit"))]
+    files = [file for folder in folders for file in sorted(glob.glob(f"{folder}/*.edit"))]
+    return [file for file in files if not read_text(file).startswith("file: specs/")]
 
 
 def read_text(path):
