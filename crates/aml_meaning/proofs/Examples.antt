@@ -10,7 +10,7 @@ use Rattle.aml_meaning.specs.declared.error.AmlCause.TheVariants as cause
 use Rattle.aml_meaning.specs.State.{State, Goes, Halts, NoAnswer, Spent, error}
 use Rattle.aml_regions.specs.Events.{Slept}
 use Rattle.aml_meaning.specs.Parts.{◌>>=◌, give, stop_with, tick, paid, get_local, get_arg, set_local, set_arg, sleep}
-use Rattle.aml_meaning.specs.Mutexes.{acquire, none_held, release}
+use Rattle.aml_meaning.specs.Mutexes.{none_held}
 use Rattle.aml_meaning.specs.Owns.{get_own, make_own, own_field}
 use Rattle.aml_meaning.specs.Changes.{change}
 use Rattle.aml_meaning.specs.Loops.{loop, spent, turned}

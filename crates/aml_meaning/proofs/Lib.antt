@@ -5,6 +5,8 @@ pub mod Called
 pub mod Stable
 pub mod InOrder
 pub mod Quiet
+pub mod QuietFields
+pub mod QuietParts
 pub mod Examples
 pub mod UnitReads
 pub mod Bits

@@ -1,11 +1,11 @@
 -- Events, run: those that need no answer, and Sleeps.
-use Rattle.std.proofs.Common.{◌≡◌, ℕ, zero, suc, ◌≤◌, List, [], ◌∷◌, ◌++◌, Option, Some, None, Ok, Err, refl, sym, ap, ◌∙◌, subst, length, ◌⊎◌, inl, inr, Bool, true}
-use Rattle.std.specs.Prelude.{slice_get, cond, ◌==◌}
+use Rattle.std.proofs.Common.{◌≡◌, ℕ, zero, suc, ◌≤◌, List, [], ◌∷◌, ◌++◌, Option, Some, None, Ok, Err, refl, ap, ◌∙◌, subst, length, ◌⊎◌, inl, inr, true}
+use Rattle.std.specs.Prelude.{slice_get, ◌==◌}
 use Rattle.std.specs.Cmp.{unsigned_Decides}
 use Rattle.aml_contents.specs.Contents.{Contents, ContentKinds, are_fitting}
-use Rattle.aml_regions.specs.Events.{Event, Read, Slept, AreWords, IsWord}
+use Rattle.aml_regions.specs.Events.{Event, Slept, AreWords, IsWord}
 use Rattle.aml_regions.specs.Worlds.{behind_sleep}
-use Rattle.aml_meaning.specs.State.{State, Frame, Names, Goes, NoAnswer}
+use Rattle.aml_meaning.specs.State.{State, Frame, Names, Goes}
 use Rattle.aml_meaning.specs.Parts.{make_event, sleep, with_sleep, woken}
 use Rattle.aml_meaning.specs.Runs.{NoMemory, OutOfSteps, IsPrefix, Runs, state}
 use Rattle.aml_meaning.proofs.Runs.{runs_no_memory_at, runs_paid, runs_unpaid}
