@@ -1,5 +1,6 @@
 pub mod BytesBits
 pub mod Events
+pub mod Gathering
 pub mod Limits
 pub mod Made
 pub mod Masks

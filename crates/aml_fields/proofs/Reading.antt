@@ -1,18 +1,19 @@
 -- How a field's answers become its value.
-use Rattle.std.proofs.Common.{◌≡◌, ℕ, suc, ◌+◌, ◌-◌, ◌*◌, ◌/◌, ◌%◌, ◌^◌, ◌<◌, List, [], ◌∷◌, ◌++◌, length, get_or, Result, Ok, Err, refl, ap, subst, ◌∙◌, arith}
+use Rattle.std.proofs.Common.{◌≡◌, ℕ, suc, ◌+◌, ◌-◌, ◌*◌, ◌/◌, ◌%◌, ◌<◌, List, [], ◌∷◌, ◌++◌, length, get_or, Result, Ok, Err, refl, sym, ap, subst, ◌∙◌, arith}
 use Rattle.std.proofs.lemmas.Nat.{div-mul-add, mod-mul-add, div_below}
 use Rattle.std.proofs.lemmas.List.{get_or_at, get_or_append_left}
 use Rattle.std.proofs.lemmas.Nat.Bits.{bit_at-lt}
 use Rattle.std.specs.Int.{bit_at}
 use Rattle.aml_regions.specs.Bits.{number}
-use Rattle.aml_fields.proofs.Numbers.{number-add, number-lt, number_same}
-use Rattle.aml_meaning.specs.Fields.{UnitPlan, bytes_in, bytes_read, integer_read, plan_reads, read_from}
+use Rattle.aml_fields.specs.Gathered.{GoesOn, bits_read}
+use Rattle.aml_fields.proofs.Numbers.{number_same}
+use Rattle.aml_meaning.specs.Fields.{UnitPlan, plan_reads, read_from}
 use Rattle.aml_meaning.specs.Parts.{M}
 use Rattle.aml_meaning.specs.State.{State}
 use Rattle.aml_meaning.specs.Runs.{Halt, Runs}
 use Rattle.aml_meaning.proofs.Runs.{runs_then, runs_stop, runs_give}
 use Rattle.aml_regions.specs.declared.field.FieldLayout.{FieldLayout}
-use Rattle.aml_regions.specs.Fields.{bits_of, count, end, first, field_bit, integer_of}
+use Rattle.aml_regions.specs.Fields.{bits_of, count, end, first, field_bit}
 use Rattle.aml_fields.proofs.Places.{Places, bits_some, first_below}
 
 -- bit i of the field, where its unit and its place there are known
@@ -32,25 +33,22 @@ bit_before f xs x i u len lt low =
     let within : (f.at + i) / bits_of f.width - first f < length xs = omega arith in
     ap (λ y. bit_at y ((f.at + i) % bits_of f.width)) (get_or_append_left xs (x ∷ []) 0 _ within)
 
-module _ (f : FieldLayout) (xs : List ℕ) (x u done skip take : ℕ) (p : Places (bits_of f.width) f.at f.bits u done skip take) (len : length xs ≡ u - first f) where
-  -- one more answer has its run of bits, and the bits before stay
-  pub run_there : number take (λ i. field_bit f (xs ++ x ∷ []) (done + i)) ≡ number take (λ i. bit_at x (skip + i))
-  run_there = number_same take _ _
-      (λ i lt. bit_there f (xs ++ x ∷ []) (done + i) u (skip + i) x (omega (arith, p.place)) (omega (arith, p.fits)) (get_or_at xs x [] 0 (u - first f) len))
-
-  pub bits_before : (i : ℕ) → i < done → field_bit f (xs ++ x ∷ []) i ≡ field_bit f xs i
-  bits_before i lt = bit_before f xs x i u len (p.below i lt) (first_below f u i (p.below i lt))
-
-  pub value_more : number (done + take) (field_bit f (xs ++ x ∷ [])) ≡ number take (λ i. bit_at x (skip + i)) * 2 ^ done + number done (field_bit f xs)
-  value_more = rw (number-add done take (field_bit f (xs ++ x ∷ [])), run_there, number_same done _ _ bits_before) refl
-
 pub field_bit_lt : (f : FieldLayout) (xs : List ℕ) (i : ℕ) → field_bit f xs i < 2
 unfolding field_bit
 field_bit_lt f xs i = bit_at-lt _ _
 
-pub value_lt : (f : FieldLayout) (xs : List ℕ) (n : ℕ) → number n (field_bit f xs) < 2 ^ n
-unfolding field_bit
-value_lt f xs n = number-lt n (field_bit f xs) (λ i. bit_at-lt _ _)
+module _ (f : FieldLayout) (xs : List ℕ) (x u done skip take : ℕ) (p : Places (bits_of f.width) f.at f.bits u done skip take) (len : length xs ≡ u - first f) where
+  -- one more answer has its run of bits, and the bits before stay
+  run_there : number take (λ i. field_bit f (xs ++ x ∷ []) (done + i)) ≡ number take (λ i. bit_at x (skip + i))
+  run_there = number_same take _ _
+      (λ i lt. bit_there f (xs ++ x ∷ []) (done + i) u (skip + i) x (omega (arith, p.place)) (omega (arith, p.fits)) (get_or_at xs x [] 0 (u - first f) len))
+
+  bits_before : (i : ℕ) → i < done → field_bit f (xs ++ x ∷ []) i ≡ field_bit f xs i
+  bits_before i lt = bit_before f xs x i u len (p.below i lt) (first_below f u i (p.below i lt))
+
+  -- so with it the field's bits go on behind those before
+  pub goes_on : (part : ℕ) → part ≡ number take (λ i. bit_at x (skip + i)) → GoesOn (field_bit f xs) (field_bit f (xs ++ x ∷ [])) done take part
+  goes_on part is = record { before_are = field_bit_lt f xs; are = field_bit_lt f (xs ++ x ∷ []); same = bits_before; run = is ∙ sym run_there }
 
 module _ {V : Type 0} (read : ℕ → M ℕ) (value : List ℕ → V) (xs : List ℕ) where
   -- one unit is read, and then the rest
@@ -69,13 +67,9 @@ module _ {V : Type 0} (read : ℕ → M ℕ) (value : List ℕ → V) (xs : List
 
 -- the parts of a plan
 module _ (p : UnitPlan) (f : FieldLayout) (u : ℕ) (e : f ≡ p.layout) (low : u ≡ first f) where
-  pub plan_integer : (r : Result ℕ Halt) (s0 s1 : State) → Runs r (read_from p.read (integer_of f) (end f - u) u []) s0 s1 → Runs r (integer_read p) s0 s1
-  unfolding integer_read count
-  plan_integer r s0 s1 runs = subst (λ g. Runs r (read_from p.read (integer_of g) (end g - first g) (first g) []) s0 s1) e (subst (λ v. Runs r (read_from p.read (integer_of f) (end f - v) v []) s0 s1) low runs)
-
-  pub plan_bytes : (r : Result (List ℕ) Halt) (s0 s1 : State) → Runs r (read_from p.read (bytes_in f) (end f - u) u []) s0 s1 → Runs r (bytes_read p) s0 s1
-  unfolding bytes_read count
-  plan_bytes r s0 s1 runs = subst (λ g. Runs r (read_from p.read (bytes_in g) (end g - first g) (first g) []) s0 s1) e (subst (λ v. Runs r (read_from p.read (bytes_in f) (end f - v) v []) s0 s1) low runs)
+  pub plan_bits : {V : Type 0} (made : ℕ → (ℕ → ℕ) → V) (r : Result V Halt) (s0 s1 : State) → Runs r (read_from p.read (λ xs. made f.bits (field_bit f xs)) (end f - u) u []) s0 s1 → Runs r (bits_read p made) s0 s1
+  unfolding count
+  plan_bits made r s0 s1 runs = subst (λ g. Runs r (read_from p.read (λ xs. made g.bits (field_bit g xs)) (end g - first g) (first g) []) s0 s1) e (subst (λ v. Runs r (read_from p.read (λ xs. made f.bits (field_bit f xs)) (end f - v) v []) s0 s1) low runs)
 
   pub plan_reads_left : (left : ℕ) → left - (end f - u) * p.read_events ≡ left - plan_reads p
   unfolding plan_reads count

@@ -1,7 +1,8 @@
 -- Bytes that a field's bits are put into, a run at a time.
-use Rattle.std.proofs.Common.{◌≡◌, ℕ, zero, suc, ◌+◌, ◌-◌, ◌*◌, ◌^◌, ◌<◌, ◌≤◌, Bool, true, false, List, length, get_or, map, ⊎_elim, refl, sym, ap, ◌∙◌, arith}
+use Rattle.std.proofs.Common.{◌≡◌, ℕ, zero, suc, ◌+◌, ◌-◌, ◌*◌, ◌^◌, ◌<◌, ◌≤◌, Bool, true, false, length, replicate, map, ⊎_elim, refl, sym, ap, ◌∙◌, arith}
 use Rattle.std.proofs.lemmas.Bool.{cases_lt}
 use Rattle.std.proofs.lemmas.Bool.Decides.{nat_tests}
+use Rattle.std.proofs.lemmas.List.{length-replicate, get_or-replicate}
 use Rattle.std.proofs.lemmas.List.FromFn.{fill_by_all, length-map-range_with_len, get_or-map-range_with_len}
 use Rattle.std.specs.Prelude.{nat_lt, if◌then◌else◌}
 use Rattle.std.specs.List.{range_with_len}
@@ -72,9 +73,9 @@ unfolding number
 zero_number_of x = refl
 
 -- before the first bit there are zeros
-pub bytes_none : (bytes : List ℕ) (size : ℕ) (b : ℕ → ℕ) → length bytes ≡ size → ((k : ℕ) → k < size → get_or bytes k 0 ≡ 0) → bytes ≡ bytes_of size 0 b
+pub bytes_none : (size : ℕ) (b : ℕ → ℕ) → replicate size 0 ≡ bytes_of size 0 b
 unfolding bytes_of
-bytes_none bytes size b len zeros = fill_by_all _ bytes size 0 len (λ k lt. zeros k lt ∙ sym (zero_number 8 _ (λ i. so_far_out 0 b (k * 8 + i) (omega arith))))
+bytes_none size b = fill_by_all _ (replicate size 0) size 0 (length-replicate size 0) (λ k lt. get_or-replicate size k 0 0 lt ∙ sym (zero_number 8 _ (λ i. so_far_out 0 b (k * 8 + i) (omega arith))))
 
 -- a byte of the bits that are there: those that it has, and zeros behind them
 pub byte_so_far : (n take m : ℕ) (f : ℕ → ℕ) → take ≤ 8 → m * 8 + take ≤ n → (take < 8 → n ≤ m * 8 + take) → number take (λ i. f (m * 8 + i)) ≡ number 8 (λ i. so_far n f (m * 8 + i))

@@ -3,7 +3,7 @@
 ghost use Rattle.aml_regions.specs.Fields.{IsSoundIndexed};
 ghost use Rattle.aml_meaning.specs.Fields.{indexed_plan};
 
-use crate::read::read_units;
+use crate::read::read_integer;
 use crate::units::{Units, place_of};
 use crate::write::write_units;
 use aml_paths::NoMemory;
@@ -24,7 +24,7 @@ impl<W: World> Units<W> for IndexedField {
         if !write_units(world, &self.index_field, &place, left)? {
             return Ok(None);
         }
-        read_units(world, &self.data_field, left)
+        read_integer(world, &self.data_field, left)
     }
 
     fn write_unit(

@@ -7,6 +7,7 @@ mod buffer;
 mod buffer_field;
 mod bytes;
 mod count;
+mod gather;
 mod index;
 mod kernel;
 mod law;

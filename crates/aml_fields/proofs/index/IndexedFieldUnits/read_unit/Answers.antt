@@ -15,15 +15,15 @@ unfolding indexed_plan
 returns-then-not-branch-clause-means g c = λ frame names.
     runs_stop _ (rw (c.if-not-branch.true, c.place_of-place.ensures) at (c.in_ok-write_units.ensures.means frame names))
 
-pub read_units-requires-clause-short : goal.read_units-requires-clause-short
+pub read_integer-requires-clause-short : goal.read_integer-requires-clause-short
 unfolding region_plan
-read_units-requires-clause-short g c = rw c.requires.ready.wide (bits_most c.args.self.now.layout.width)
+read_integer-requires-clause-short g c = rw c.requires.ready.wide (bits_most c.args.self.now.layout.width)
 
 pub returns-clause-means : goal.returns-clause-means
 unfolding indexed_plan
 returns-clause-means g c = λ frame names.
-    runs_then _ (rw (c.if-not-branch.false, c.place_of-place.ensures) at (c.in_ok-write_units.ensures.means frame names)) (c.read_units.ensures.means frame names)
+    runs_then _ (rw (c.if-not-branch.false, c.place_of-place.ensures) at (c.in_ok-write_units.ensures.means frame names)) (c.read_integer.ensures.means frame names)
 
 pub returns-clause-fits : goal.returns-clause-fits
 unfolding indexed_plan region_plan
-returns-clause-fits g c = rw c.requires.ready.wide at c.read_units.ensures.fits
+returns-clause-fits g c = rw c.requires.ready.wide at c.read_integer.ensures.fits
