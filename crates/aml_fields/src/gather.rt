@@ -10,9 +10,10 @@ use crate::kernel::above;
 
 /// What gathers bits, a run of them behind another.
 pub(crate) trait Gathers {
+    /// What bits make.
     ghost Value: { Type 0 };
 
-    /// What it has gathered.
+    /// What the bits that it has make.
     ghost value: { Self → Value };
 
     /// The reference behind which that stands, if there is one.
