@@ -1,12 +1,2 @@
-pub mod Among
-pub mod ChainLaws
-pub mod Marks
-pub mod Searching
-pub mod Ordered
 pub mod OneByOne
-pub mod Places
-pub mod Visited
-pub mod GoingOn
-pub mod Spreading
-pub mod Others
 pub mod Held

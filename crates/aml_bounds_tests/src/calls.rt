@@ -1,7 +1,7 @@
 // Who calls whom.
 
 use crate::graphs::{Row, chain, complete, ids, pairs_of, star};
-use aml_bounds::{call_order, chains_are_counted, reaches};
+use aml_calls::{call_order, chains_are_counted, reaches};
 use aml_paths::{NoMemory, ObjectId};
 use std::alloc::Global;
 use std::process::Abort;

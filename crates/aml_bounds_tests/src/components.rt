@@ -1,7 +1,7 @@
 // Which methods reach each other.
 
 use crate::graphs::{Row, chain, complete, pairs_of, star};
-use aml_bounds::reaches;
+use aml_calls::reaches;
 use aml_components::Components;
 use aml_paths::{NoMemory, ObjectId};
 use std::alloc::Global;

@@ -1,7 +1,7 @@
 // How long chains of calls are.
 
 use crate::graphs::{Row, chain, complete, pairs_of, star};
-use aml_bounds::call_order;
+use aml_calls::call_order;
 use aml_components::Heights;
 use aml_paths::{NoMemory, ObjectId};
 use std::alloc::Global;

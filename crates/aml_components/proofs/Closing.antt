@@ -3,8 +3,8 @@ use Rattle.std.proofs.Common.{◌≡◌, ◌<◌, ◌≤◌, ◌+◌, ℕ, List,
 use Rattle.std.proofs.lemmas.Bool.Decides.{leb_tells}
 use Rattle.std.proofs.lemmas.List.{length-take-le}
 use Rattle.std.specs.Prelude.{Bool, true, false, if◌then◌else◌}
-use Rattle.aml_bounds.specs.Chains.{is_among, Reaches}
-use Rattle.aml_bounds.proofs.Among.{among_back, among_cases, among_front, first_among, is_false, not_both}
+use Rattle.aml_calls.specs.Chains.{is_among, Reaches}
+use Rattle.aml_calls.proofs.Among.{among_back, among_cases, among_front, first_among, is_false, not_both}
 use Rattle.aml_components.specs.declared.search.Call.{Call}
 use Rattle.aml_components.specs.declared.search.Mark.{Mark}
 use Rattle.aml_components.specs.declared.search.Mark.TheVariants.{Closed, Open}

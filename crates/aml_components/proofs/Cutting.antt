@@ -7,11 +7,11 @@ use Rattle.std.proofs.lemmas.Option.{slice_get-map}
 use Rattle.std.specs.Option.{option_map, option_to_list}
 use Rattle.std.specs.Prelude.{Bool, true, false, ◌&&◌, ◌||◌, nat_le, ◌==◌, slice_get, unwrap_or, if◌then◌else◌}
 use Rattle.aml_paths.specs.declared.scope.ObjectId.{ObjectId}
-use Rattle.aml_bounds.specs.Chains.{is_among}
-use Rattle.aml_bounds.specs.Pairs.{numbers}
-use Rattle.aml_bounds.proofs.Among.{among_append, among_cases, among_front, among_last, first_among, is_false, or_left, rest_among, same_number}
-use Rattle.aml_bounds.proofs.GoingOn.{numbers_take}
-use Rattle.aml_bounds.proofs.Searching.{same_or_other}
+use Rattle.aml_calls.specs.Chains.{is_among}
+use Rattle.aml_calls.specs.Pairs.{numbers}
+use Rattle.aml_calls.proofs.Among.{among_append, among_cases, among_front, among_last, first_among, is_false, or_left, rest_among, same_number}
+use Rattle.aml_calls.proofs.GoingOn.{numbers_take}
+use Rattle.aml_calls.proofs.Searching.{same_or_other}
 use Rattle.aml_components.specs.declared.search.Call.{Call}
 use Rattle.aml_components.specs.declared.search.Mark.{Mark}
 use Rattle.aml_components.specs.declared.search.Mark.TheVariants.{Closed}

@@ -6,11 +6,11 @@ use Rattle.std.proofs.lemmas.List.{append-nil, length-set}
 use Rattle.std.proofs.lemmas.Option.{slice_get_within}
 use Rattle.std.specs.Prelude.{Bool, true, false, ◌&&◌, slice_get, nat_le}
 use Rattle.aml_paths.specs.declared.scope.ObjectId.{ObjectId}
-use Rattle.aml_bounds.specs.Chains.{end_of, is_among, IsChain, Reaches}
-use Rattle.aml_bounds.specs.Pairs.{numbers}
-use Rattle.aml_bounds.proofs.Among.{among_cases, among_front, among_last, is_false, not_both}
-use Rattle.aml_bounds.proofs.ChainLaws.{reaches_itself, reaches_more}
-use Rattle.aml_bounds.proofs.Searching.{same_or_other}
+use Rattle.aml_calls.specs.Chains.{end_of, is_among, IsChain, Reaches}
+use Rattle.aml_calls.specs.Pairs.{numbers}
+use Rattle.aml_calls.proofs.Among.{among_cases, among_front, among_last, is_false, not_both}
+use Rattle.aml_calls.proofs.ChainLaws.{reaches_itself, reaches_more}
+use Rattle.aml_calls.proofs.Searching.{same_or_other}
 use Rattle.aml_components.specs.declared.search.Call.{Call}
 use Rattle.aml_components.specs.declared.search.Mark.{Mark}
 use Rattle.aml_components.specs.declared.search.Mark.TheVariants.{Closed, New, Open}

@@ -2,10 +2,10 @@
 use Rattle.std.proofs.Common.{◌≡◌, ◌<◌, ℕ, List, [], ◌∷◌, length, refl, sym, ap, ◌∙◌, subst, arith, Some}
 use Rattle.std.proofs.lemmas.Bool.{eqb-true}
 use Rattle.std.specs.Prelude.{Bool, true, false, ◌==◌, slice_get}
-use Rattle.aml_bounds.specs.Chains.{is_among, Reaches}
-use Rattle.aml_bounds.specs.Pairs.{AnswersReach, calls_in, named, Pair}
-use Rattle.aml_bounds.proofs.Among.{not_both, same_number}
-use Rattle.aml_bounds.proofs.ChainLaws.{reached_inside, reaches_itself, reaches_more}
+use Rattle.aml_calls.specs.Chains.{is_among, Reaches}
+use Rattle.aml_calls.specs.Pairs.{AnswersReach, calls_in, named, Pair}
+use Rattle.aml_calls.proofs.Among.{not_both, same_number}
+use Rattle.aml_calls.proofs.ChainLaws.{reached_inside, reaches_itself, reaches_more}
 use Rattle.aml_components.specs.declared.components.Components.{Components}
 use Rattle.aml_components.specs.declared.search.Call.{Call}
 use Rattle.aml_components.specs.declared.search.Mark.{Mark}

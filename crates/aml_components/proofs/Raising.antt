@@ -9,12 +9,12 @@ use Rattle.std.proofs.lemmas.Option.{unwrap_or-slice_get}
 use Rattle.std.specs.List.{list_all}
 use Rattle.std.specs.Prelude.{Bool, true, false, ◌&&◌, ◌||◌, ◌==◌, nat_le, if◌then◌else◌}
 use Rattle.aml_paths.specs.declared.scope.ObjectId.{ObjectId}
-use Rattle.aml_bounds.specs.Chains.{is_among, IsBehindCallees, is_short}
-use Rattle.aml_bounds.specs.Pairs.{calls_in, IsCallOrder, named, numbers, Pair}
-use Rattle.aml_bounds.proofs.Among.{among_all, among_append, among_cases, append_cases, first_among, is_false, neither, not_both, or_left, or_right, rest_among}
-use Rattle.aml_bounds.proofs.ChainLaws.{chains_are_counted}
-use Rattle.aml_bounds.proofs.GoingOn.{among_at, numbers_take}
-use Rattle.aml_bounds.proofs.Searching.{same_or_other}
+use Rattle.aml_calls.specs.Chains.{is_among, IsBehindCallees, is_short}
+use Rattle.aml_calls.specs.Pairs.{calls_in, IsCallOrder, named, numbers, Pair}
+use Rattle.aml_calls.proofs.Among.{among_all, among_append, among_cases, append_cases, first_among, is_false, neither, not_both, or_left, or_right, rest_among}
+use Rattle.aml_calls.proofs.ChainLaws.{chains_are_counted}
+use Rattle.aml_calls.proofs.GoingOn.{among_at, numbers_take}
+use Rattle.aml_calls.proofs.Searching.{same_or_other}
 use Rattle.aml_components.specs.Heights.{are_low, BeginsWith, height_at, MayRaise, Tells, too_long}
 
 height_get : (heights : List ℕ) (k : ℕ) → height_at heights k ≡ get_or heights k 1

@@ -1,8 +1,8 @@
 -- Numbers of which none is less than one before it, and where numbers stand in lists.
 use Rattle.std.proofs.Common.{◌≡◌, ◌<◌, ◌≤◌, ℕ, zero, suc, List, [], ◌∷◌, ◌++◌, length, take, drop, refl, sym, ap, ◌∙◌, arith, Some}
 use Rattle.std.specs.Prelude.{Bool, true, false, ◌||◌, slice_get}
-use Rattle.aml_bounds.specs.Chains.{is_among}
-use Rattle.aml_bounds.proofs.Among.{among_append, among_back, among_cases, among_front, first_among, rest_among}
+use Rattle.aml_calls.specs.Chains.{is_among}
+use Rattle.aml_calls.proofs.Among.{among_append, among_back, among_cases, among_front, first_among, rest_among}
 use Rattle.aml_components.specs.Search.{IsRising}
 
 pub either : (P : Type 0) (p q : Bool) → (p || q) ≡ true → (p ≡ true → P) → (q ≡ true → P) → P

@@ -7,10 +7,10 @@ use Rattle.std.proofs.Math.Nat.{mul-le-mul_right}
 use Rattle.std.specs.List.{count_by}
 use Rattle.std.specs.Prelude.{Bool, true, false, ◌==◌, if◌then◌else◌}
 use Rattle.aml_paths.specs.declared.scope.ObjectId.{ObjectId}
-use Rattle.aml_bounds.specs.Chains.{is_among, Reaches}
-use Rattle.aml_bounds.specs.Pairs.{calls_in, named, named_by, numbers, Pair}
-use Rattle.aml_bounds.proofs.ChainLaws.{reaches_more}
-use Rattle.aml_bounds.proofs.GoingOn.{length_numbers}
+use Rattle.aml_calls.specs.Chains.{is_among, Reaches}
+use Rattle.aml_calls.specs.Pairs.{calls_in, named, named_by, numbers, Pair}
+use Rattle.aml_calls.proofs.ChainLaws.{reaches_more}
+use Rattle.aml_calls.proofs.GoingOn.{length_numbers}
 use Rattle.aml_components.specs.declared.search.Call.{Call}
 use Rattle.aml_components.specs.declared.search.Mark.{Mark}
 use Rattle.aml_components.specs.declared.search.Mark.TheVariants.{Closed, New, Open}

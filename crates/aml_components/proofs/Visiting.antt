@@ -2,8 +2,8 @@
 use Rattle.std.proofs.Common.{◌≡◌, ◌<◌, ℕ, List, [], length, sym, ap, subst}
 use Rattle.std.specs.Prelude.{true, false}
 use Rattle.aml_components.specs.declared.search.Search.{Search}
-use Rattle.aml_bounds.specs.Chains.{Reaches}
-use Rattle.aml_bounds.specs.Pairs.{numbers}
+use Rattle.aml_calls.specs.Chains.{Reaches}
+use Rattle.aml_calls.specs.Pairs.{numbers}
 use Rattle.aml_components.specs.declared.search.Call.{Call}
 use Rattle.aml_components.specs.declared.search.Mark.TheVariants.{Open}
 use Rattle.aml_components.specs.Search.{Begins, Ends, is_new, Keeps, mark_at, Searches, SearchesWith, Visits}

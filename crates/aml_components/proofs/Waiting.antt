@@ -5,9 +5,9 @@ use Rattle.std.proofs.lemmas.List.{map-append}
 use Rattle.std.proofs.lemmas.List.Folds.{list_any-append}
 use Rattle.std.specs.Prelude.{Bool, true, ◌==◌, ◌&&◌, ◌||◌}
 use Rattle.aml_paths.specs.declared.scope.ObjectId.{ObjectId}
-use Rattle.aml_bounds.specs.Chains.{is_among}
-use Rattle.aml_bounds.specs.Pairs.{numbers}
-use Rattle.aml_bounds.proofs.Among.{among_cases, both, first_among, or_left, or_right, rest_among, same_number}
+use Rattle.aml_calls.specs.Chains.{is_among}
+use Rattle.aml_calls.specs.Pairs.{numbers}
+use Rattle.aml_calls.proofs.Among.{among_cases, both, first_among, or_left, or_right, rest_among, same_number}
 use Rattle.aml_components.specs.declared.search.Call.{Call}
 use Rattle.aml_components.specs.Search.{callers, calls_from, IsRising, waits}
 use Rattle.aml_components.proofs.Rising.{either, join, split}

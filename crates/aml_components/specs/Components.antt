@@ -1,7 +1,7 @@
 -- Which methods reach each other, as marks of methods tell it.
 use Rattle.std.specs.Prelude.{◌≡◌, ◌==◌, ℕ, List, Bool, true}
-use Rattle.aml_bounds.specs.Chains.{is_among, Reaches}
-use Rattle.aml_bounds.specs.Pairs.{AnswersReach, calls_in, Pair}
+use Rattle.aml_calls.specs.Chains.{is_among, Reaches}
+use Rattle.aml_calls.specs.Pairs.{AnswersReach, calls_in, Pair}
 use Rattle.aml_components.specs.declared.components.Components.{Components}
 use Rattle.aml_components.specs.declared.search.Mark.{Mark}
 use Rattle.aml_components.specs.declared.search.Mark.TheVariants.{Closed}

@@ -2,8 +2,8 @@
 use Rattle.std.specs.Prelude.{◌≡◌, ◌<◌, ◌≤◌, ℕ, List, [], length, slice_get, unwrap_or, nat_le, Bool, true, false, if◌then◌else◌}
 use Rattle.std.specs.List.{list_all}
 use Rattle.aml_components.specs.declared.heights.Heights.{Heights}
-use Rattle.aml_bounds.specs.Chains.{is_among, IsBehindCallees, is_short}
-use Rattle.aml_bounds.specs.Pairs.{calls_in, Pair}
+use Rattle.aml_calls.specs.Chains.{is_among, IsBehindCallees, is_short}
+use Rattle.aml_calls.specs.Pairs.{calls_in, Pair}
 
 -- kept of chains of more than 64 methods, and of those with a cycle
 abbrev pub too_long : ℕ

@@ -1,13 +1,13 @@
 // Which methods reach each other.
 
 ghost use Rattle.std.specs.Prelude.{◌≡◌, ◌<◌, ℕ, true, IfOk};
-ghost use Rattle.aml_bounds.specs.Chains.{is_among};
-ghost use Rattle.aml_bounds.specs.Pairs.{calls_in, named, numbers, PlacesAre};
+ghost use Rattle.aml_calls.specs.Chains.{is_among};
+ghost use Rattle.aml_calls.specs.Pairs.{calls_in, named, numbers, PlacesAre};
 ghost use Rattle.aml_components.specs.Components.{AreComponents, are_together};
 ghost use Rattle.aml_components.specs.Search.{AreFound, mark_at};
 
 use crate::search::{Mark, mark_of, marks_of};
-use aml_bounds::calls::{Calls, Pair, places_of, room_for};
+use aml_calls::{Calls, Pair, places_of, room_for};
 use aml_paths::{NoMemory, ObjectId};
 use std::alloc::{AllocError, Global};
 

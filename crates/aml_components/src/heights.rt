@@ -1,11 +1,11 @@
 // How long the longest chains of calls are.
 
 ghost use Rattle.std.specs.Prelude.{◌≡◌, ◌<◌, ℕ, true, min, suc, nat_le, IfOk};
-ghost use Rattle.aml_bounds.specs.Chains.{is_among};
-ghost use Rattle.aml_bounds.specs.Pairs.{calls_in, IsCallOrder, named, numbers, PlacesAre};
+ghost use Rattle.aml_calls.specs.Chains.{is_among};
+ghost use Rattle.aml_calls.specs.Pairs.{calls_in, IsCallOrder, named, numbers, PlacesAre};
 ghost use Rattle.aml_components.specs.Heights.{AreHeights, are_low, BeginsWith, height_at, is_short_in, MayRaise, Tells, too_long};
 
-use aml_bounds::calls::{Calls, Pair, places_of, room_for};
+use aml_calls::{Calls, Pair, places_of, room_for};
 use aml_paths::{NoMemory, ObjectId};
 use std::alloc::{AllocError, Global};
 

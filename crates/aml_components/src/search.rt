@@ -1,11 +1,11 @@
 // The search for components of the graph of calls.
 
 ghost use Rattle.std.specs.Prelude.{◌≡◌, ◌<◌, ◌≤◌, ℕ, List, true, [], ◌∷◌, ◌++◌, length, vec_len, IfOk, OnOk, MatchOption};
-ghost use Rattle.aml_bounds.specs.Chains.{is_among};
-ghost use Rattle.aml_bounds.specs.Pairs.{calls_in, named, numbers, PlacesAre};
+ghost use Rattle.aml_calls.specs.Chains.{is_among};
+ghost use Rattle.aml_calls.specs.Pairs.{calls_in, named, numbers, PlacesAre};
 ghost use Rattle.aml_components.specs.Search.{AreBefore, AreClosed, AreFound, Begins, callers, calls_from, Closes, Ends, GoesOn, is_new, IsCut, IsRising, mark_at, Searches, SearchesWith, Visits};
 
-use aml_bounds::calls::Calls;
+use aml_calls::Calls;
 use aml_paths::ObjectId;
 use std::alloc::{AllocError, Global};
 

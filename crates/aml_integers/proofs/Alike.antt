@@ -13,9 +13,9 @@ use Rattle.aml_meaning.specs.Actions.{action}
 use Rattle.aml_meaning.specs.Definitions.{definition}
 use Rattle.aml_meaning.specs.Meaning.{at_of}
 use Rattle.aml_meaning.specs.Within.{Callee, Methods}
-use Rattle.aml_bounds.specs.Calls.{called, called_by, calls_in_term, calls_of}
-use Rattle.aml_bounds.specs.Chains.{is_among}
-use Rattle.aml_bounds.proofs.Among.{among_back, among_front, first_among}
+use Rattle.aml_calls.specs.Calls.{called, called_by, calls_in_term, calls_of}
+use Rattle.aml_calls.specs.Chains.{is_among}
+use Rattle.aml_calls.proofs.Among.{among_back, among_front, first_among}
 use Rattle.aml_judged.specs.Integers.{integer_asked, integer_called, integer_name, integers, integers_by, integers_in, is_narrow, is_narrow_buffer_field, makes_nothing}
 use Rattle.aml_judged.specs.Judged.{Around}
 use Rattle.aml_integers.specs.Known.{body_in, IsAround, methods_in}

@@ -6,8 +6,8 @@ use Rattle.std.proofs.lemmas.Option.{unwrap_or-slice_get}
 use Rattle.std.specs.List.{list_all}
 use Rattle.std.specs.Prelude.{Bool, true, false, ◌==◌, ◌||◌, ◌&&◌, slice_set}
 use Rattle.aml_meaning.specs.Within.{Callee}
-use Rattle.aml_bounds.specs.Chains.{is_among, is_short, IsBehindCallees}
-use Rattle.aml_bounds.proofs.Among.{among_all, neither, not_both, same_number}
+use Rattle.aml_calls.specs.Chains.{is_among, is_short, IsBehindCallees}
+use Rattle.aml_calls.proofs.Among.{among_all, neither, not_both, same_number}
 use Rattle.aml_judged.specs.Integers.{are_integers, AreIntegerOnly, integer_only_by}
 use Rattle.aml_judged.specs.Judged.{Accepted}
 use Rattle.aml_judged.specs.Verdicts.{AreAccepted, called_from, calls_by, Judging}

@@ -3,8 +3,8 @@ use Rattle.std.specs.Prelude.{◌==◌, ◌≡◌, ◌<◌, ◌||◌, ℕ, lengt
 use Rattle.aml_operators.specs.Tree.{Trees}
 use Rattle.aml_contents.specs.Contents.{ContentKinds}
 use Rattle.aml_meaning.specs.Within.{Callee, Methods}
-use Rattle.aml_bounds.specs.Calls.{calls_of}
-use Rattle.aml_bounds.specs.Chains.{is_among, is_short, IsBehindCallees}
+use Rattle.aml_calls.specs.Calls.{calls_of}
+use Rattle.aml_calls.specs.Chains.{is_among, is_short, IsBehindCallees}
 use Rattle.aml_judged.specs.Integers.{AreIntegerOnly, integer_only_by, integers_in}
 use Rattle.aml_judged.specs.Judged.{Accepted}
 use Rattle.aml_judged.specs.Verdicts.{AreAccepted, called_from, Judging}

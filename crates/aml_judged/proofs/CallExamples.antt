@@ -8,10 +8,10 @@ use Rattle.aml_namespace.specs.declared.link.Link.{Link}
 use Rattle.aml_namespace.specs.declared.link.Link.TheVariants as link
 use Rattle.aml_values.specs.Values.{Int}
 use Rattle.aml_meaning.specs.Within.{Callee}
-use Rattle.aml_bounds.specs.Calls.{calls_of}
-use Rattle.aml_bounds.specs.Chains.{is_among, Reaches, TellsReach}
-use Rattle.aml_bounds.proofs.Among.{not_both, or_left, or_right, same_number}
-use Rattle.aml_bounds.proofs.ChainLaws.{reached_inside, reaches_itself}
+use Rattle.aml_calls.specs.Calls.{calls_of}
+use Rattle.aml_calls.specs.Chains.{is_among, Reaches, TellsReach}
+use Rattle.aml_calls.proofs.Among.{not_both, or_left, or_right, same_number}
+use Rattle.aml_calls.proofs.ChainLaws.{reached_inside, reaches_itself}
 use Rattle.aml_judged.specs.Causes as cause
 use Rattle.aml_judged.specs.Judged.{Accepted}
 use Rattle.aml_judged.specs.Verdicts.{accepted_of, AreAccepted, called_from, calls_by, Judging, TellsChains, verdict_by, Verdict}

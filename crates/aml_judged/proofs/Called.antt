@@ -23,8 +23,8 @@ use Rattle.aml_meaning.specs.Mutexes.{ended_or, none_held}
 use Rattle.aml_meaning.specs.declared.mutex.TakenMutex.{TakenMutex}
 use Rattle.aml_meaning.specs.Within.{Callee, Methods, call_within, callee_or, setting_for, most_within}
 use Rattle.aml_meaning.specs.Whole.{evaluated}
-use Rattle.aml_bounds.specs.Chains.{is_among, is_short}
-use Rattle.aml_bounds.proofs.Among.{among_all}
+use Rattle.aml_calls.specs.Chains.{is_among, is_short}
+use Rattle.aml_calls.proofs.Among.{among_all}
 use Rattle.aml_judged.specs.Causes.{Refusal}
 use Rattle.aml_judged.specs.Known.{join_env, Held, These, Different, Env}
 use Rattle.aml_judged.specs.Judge.{judged_none_held, none_held_at}

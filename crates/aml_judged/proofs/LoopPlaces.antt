@@ -8,9 +8,9 @@ use Rattle.aml_meaning.specs.declared.action.Action.{Action}
 use Rattle.aml_meaning.specs.declared.action.Action.TheVariants.{If, While}
 use Rattle.aml_meaning.specs.Actions.{action}
 use Rattle.aml_meaning.specs.Meaning.{is_else}
-use Rattle.aml_bounds.specs.Chains.{has_cycle, is_among}
 use Rattle.aml_bounds.specs.Shapes.{Shape, Once, Up, Down, Endless}
-use Rattle.aml_bounds.proofs.Among.{is_false, neither, same_number}
+use Rattle.aml_calls.specs.Chains.{has_cycle, is_among}
+use Rattle.aml_calls.proofs.Among.{is_false, neither, same_number}
 use Rattle.aml_judged.specs.Known.{Env, Slot}
 use Rattle.aml_judged.specs.Judged.{Around, Judged, Goes, Stops}
 use Rattle.aml_judged.specs.Judge.{judged, shape_of}

@@ -4,8 +4,8 @@ use Rattle.std.proofs.lemmas.Bool.{or_parts, eqb-true}
 use Rattle.std.specs.List.{list_all}
 use Rattle.std.specs.Prelude.{Bool, true, false, ◌==◌, ◌||◌, not, if◌then◌else◌}
 use Rattle.aml_meaning.specs.Within.{Callee}
-use Rattle.aml_bounds.specs.Chains.{is_among, is_short, IsBehindCallees}
-use Rattle.aml_bounds.proofs.Among.{all_among, among_all, neither, rest_among, same_number}
+use Rattle.aml_calls.specs.Chains.{is_among, is_short, IsBehindCallees}
+use Rattle.aml_calls.proofs.Among.{all_among, among_all, neither, rest_among, same_number}
 use Rattle.aml_judged.specs.Causes as cause
 use Rattle.aml_judged.specs.Judged.{Accepted, Judged, Goes, Stops}
 use Rattle.aml_judged.specs.Bodies.{shared_only, judged_method, entry}

@@ -14,11 +14,11 @@ use Rattle.aml_meaning.specs.Actions.{action}
 use Rattle.aml_meaning.specs.Definitions.{definition}
 use Rattle.aml_meaning.specs.Meaning.{at_of, is_else}
 use Rattle.aml_meaning.specs.Rules.{Place}
-use Rattle.aml_bounds.specs.Calls.{called, called_by, calls_in_term, calls_of}
-use Rattle.aml_bounds.specs.Chains.{end_of, has_cycle, is_among, is_short, Reaches, TellsReach}
 use Rattle.aml_bounds.specs.Shapes.{is_operand, Shape}
-use Rattle.aml_bounds.proofs.Among.{among_back, among_front, first_among, not_both, or_left, rest_among}
-use Rattle.aml_bounds.proofs.ChainLaws.{chains_are_counted}
+use Rattle.aml_calls.specs.Calls.{called, called_by, calls_in_term, calls_of}
+use Rattle.aml_calls.specs.Chains.{end_of, has_cycle, is_among, is_short, Reaches, TellsReach}
+use Rattle.aml_calls.proofs.Among.{among_back, among_front, first_among, not_both, or_left, rest_among}
+use Rattle.aml_calls.proofs.ChainLaws.{chains_are_counted}
 use Rattle.aml_judged.specs.Causes as cause
 use Rattle.aml_judged.specs.Causes.{Refusal}
 use Rattle.aml_judged.specs.Known.{Env}

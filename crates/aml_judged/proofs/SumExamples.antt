@@ -7,8 +7,8 @@ use Rattle.aml_namespace.specs.declared.link.Link.TheVariants as link
 use Rattle.aml_kinds.specs.Kinds.{IntUpTo}
 use Rattle.aml_bounds.specs.declared.turn_count.TurnCount.{TurnCount}
 use Rattle.aml_bounds.specs.declared.turn_count.TurnCount.TheVariants.{AtMost, Once}
-use Rattle.aml_bounds.specs.Chains.{has_cycle}
 use Rattle.aml_bounds.specs.Steps.{steps_of_all}
+use Rattle.aml_calls.specs.Chains.{has_cycle}
 use Rattle.aml_judged.specs.Judged.{Always, Around}
 use Rattle.aml_judged.specs.Bodies.{entry}
 use Rattle.aml_judged.specs.Sums.{known_costs, Loop, loops_in_body, only_calls_take, turns_among, while_places_in}

@@ -26,10 +26,10 @@ use Rattle.aml_meaning.specs.Meaning.{at_of, is_else}
 use Rattle.aml_bounds.specs.declared.role.Role.TheVariants as role_is
 use Rattle.aml_bounds.specs.declared.turn_count.TurnCount.{TurnCount}
 use Rattle.aml_bounds.specs.declared.turn_count.TurnCount.TheVariants as turn_count
-use Rattle.aml_bounds.specs.Chains.{has_cycle, is_among}
-use Rattle.aml_bounds.proofs.Among.{same_number}
 use Rattle.aml_bounds.specs.Shapes.{Shape, Once, Up, Down, Endless}
 use Rattle.aml_bounds.specs.Steps.{every_operand, first_steps, steps_as, steps_by, steps_from, steps_of_all, steps_of_block, steps_of_else, turned}
+use Rattle.aml_calls.specs.Chains.{has_cycle, is_among}
+use Rattle.aml_calls.proofs.Among.{same_number}
 use Rattle.aml_judged.specs.Causes as cause
 use Rattle.aml_judged.specs.Causes.{Refusal}
 use Rattle.aml_judged.specs.KindRules.{integer_kind}

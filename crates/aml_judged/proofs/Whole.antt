@@ -13,7 +13,7 @@ use Rattle.aml_regions.specs.Events.{Event}
 use Rattle.aml_meaning.specs.State.{Names}
 use Rattle.aml_meaning.specs.Within.{Callee}
 use Rattle.aml_meaning.specs.Whole.{before}
-use Rattle.aml_bounds.specs.Chains.{is_short}
+use Rattle.aml_calls.specs.Chains.{is_short}
 use Rattle.aml_judged.specs.Judged.{Always, Accepted}
 use Rattle.aml_judged.specs.Safe.{FitNames, FitScript}
 use Rattle.aml_judged.specs.Small.{AllSmall}

@@ -17,7 +17,7 @@ use Rattle.aml_meaning.specs.Parts.{◌>>=◌, give, stop_with, tick, paid}
 use Rattle.aml_meaning.specs.State.{Names, State, Halts, entered, error, no_names, with_steps}
 use Rattle.aml_meaning.specs.Whole.{before}
 use Rattle.aml_meaning.specs.Within.{Callee}
-use Rattle.aml_bounds.specs.Chains.{is_short}
+use Rattle.aml_calls.specs.Chains.{is_short}
 use Rattle.aml_judged.specs.Judged.{Always, Accepted}
 use Rattle.aml_judged.specs.Laws.{AreSmall, AreVerdicts, IsCallable, IsDone, evaluation}
 use Rattle.aml_judged.specs.Safe.{FitNames, FitScript}

@@ -12,7 +12,7 @@ use Rattle.aml_judged.specs.Judged.{Accepted, Around}
 use Rattle.aml_judged.specs.Safe.{Allows, FitScript, FitAll, FitNames, FitsYield, IsCalled}
 use Rattle.aml_judged.specs.Small.{AllSmall}
 use Rattle.aml_judged.specs.Bodies.{judged_method, shared_only}
-use Rattle.aml_bounds.specs.Chains.{is_among, is_short, IsBehindCallees}
+use Rattle.aml_calls.specs.Chains.{is_among, is_short, IsBehindCallees}
 use Rattle.aml_judged.specs.Verdicts.{accepted_of, around_for, called_from, Judging, seen_from, TellsChains, verdict_by, AreAccepted}
 use Rattle.aml_meaning.specs.State as state
 

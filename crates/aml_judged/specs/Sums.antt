@@ -15,9 +15,9 @@ use Rattle.aml_meaning.specs.Meaning.{at_of, is_else}
 use Rattle.aml_meaning.specs.Within.{Callee}
 use Rattle.aml_bounds.specs.declared.turn_count.TurnCount.{TurnCount}
 use Rattle.aml_bounds.specs.declared.turn_count.TurnCount.TheVariants as turn_count
-use Rattle.aml_bounds.specs.Chains.{has_cycle}
 use Rattle.aml_bounds.specs.Shapes.{Shape, Once, Up, Down, Endless}
 use Rattle.aml_bounds.specs.Steps.{Knows, steps_of_all}
+use Rattle.aml_calls.specs.Chains.{has_cycle}
 use Rattle.aml_judged.specs.Known.{Slot, Env, in_loop}
 use Rattle.aml_judged.specs.Judged.{Accepted, Around, Exits, Judged, Goes, Stops}
 use Rattle.aml_judged.specs.Judge.{begun, judged, judged_test, judged_value, shape_of}

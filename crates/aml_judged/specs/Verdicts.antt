@@ -3,8 +3,8 @@ use Rattle.std.specs.Prelude.{◌&&◌, Result, Ok, Err, not, ◌≡◌, ℕ, �
 use Rattle.aml_kinds.specs.Kinds.{Kind}
 use Rattle.aml_contents.specs.Contents.{ContentKinds}
 use Rattle.aml_meaning.specs.Within.{Callee, Methods}
-use Rattle.aml_bounds.specs.Calls.{calls_of}
-use Rattle.aml_bounds.specs.Chains.{is_among, is_short, TellsReach}
+use Rattle.aml_calls.specs.Calls.{calls_of}
+use Rattle.aml_calls.specs.Chains.{is_among, is_short, TellsReach}
 use Rattle.aml_judged.specs.Causes.{Refusal}
 use Rattle.aml_judged.specs.Known.{Env}
 use Rattle.aml_judged.specs.Judged.{Yield, Always, Sometimes, Never, Accepted, Seen, Around, Judged, Goes, Stops}

@@ -4,9 +4,9 @@
 //! The text to believe stands in `specs/`: `Known` (what is known of a frame), `Judged` (what judging
 //! gives), `KindRules` (the kinds of what operators give), `Judge` (a clause an operator, in the order
 //! of causes, beside `aml_meaning`'s `Meaning`), `Bodies`, `Verdicts`, `Integers` (which methods
-//! evaluate integers alone), and in `Safe` and `Laws` what a verdict means. Shapes of loops, calls of
-//! bodies and lengths of chains are those of `aml_bounds`. `docs/VERDICTS.md` tells the same in plain
-//! words, with the clause for each cause.
+//! evaluate integers alone), and in `Safe` and `Laws` what a verdict means. Shapes of loops are those
+//! of `aml_bounds`, calls of bodies and lengths of chains those of `aml_calls`. `docs/VERDICTS.md`
+//! tells the same in plain words, with the clause for each cause.
 #![tactic(auto)]
 
 ghost use Rattle.std.specs.Prelude.{Option};

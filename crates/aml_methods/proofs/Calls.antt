@@ -6,10 +6,10 @@ use Rattle.std.proofs.lemmas.List.{append-nil, at_drop_all, map-append, map_push
 use Rattle.std.specs.Cmp.{nat_eq_equiv}
 use Rattle.std.specs.Prelude.{Bool, true, false, ◌==◌, if◌then◌else◌, option_and_then, IsSome, Vec}
 use Rattle.std.specs.declared.alloc.Global.{Global}
-use Rattle.aml_bounds.specs.Calls.{called_by, calls_in_term, calls_of}
-use Rattle.aml_bounds.specs.Chains.{is_among}
-use Rattle.aml_bounds.specs.Pairs.{calls_in, named, numbers, Pair}
-use Rattle.aml_bounds.proofs.Among.{among_back, among_cases, among_front, first_among, neither, not_both}
+use Rattle.aml_calls.specs.Calls.{called_by, calls_in_term, calls_of}
+use Rattle.aml_calls.specs.Chains.{is_among}
+use Rattle.aml_calls.specs.Pairs.{calls_in, named, numbers, Pair}
+use Rattle.aml_calls.proofs.Among.{among_back, among_cases, among_front, first_among, neither, not_both}
 use Rattle.aml_meaning.specs.Actions.{action}
 use Rattle.aml_meaning.specs.declared.action.Action.{Action}
 use Rattle.aml_namespace.specs.declared.link.Link.{Link}

@@ -6,7 +6,7 @@ use Rattle.std.proofs.lemmas.Option.{same_Some, unwrap_or-slice_get}
 use Rattle.std.specs.Prelude.{Bool, true, false, ◌==◌, Vec}
 use Rattle.std.specs.declared.alloc.Global.{Global}
 use Rattle.aml_bodies.specs.Methods.{AreStatementsOf}
-use Rattle.aml_bounds.proofs.Among.{same_number}
+use Rattle.aml_calls.proofs.Among.{same_number}
 use Rattle.aml_namespace.specs.Load.{Shown}
 use Rattle.aml_operators.specs.declared.term.Term.{Term}
 use Rattle.aml_operators.specs.Tree.{view}

@@ -1,6 +1,6 @@
 -- What is found of the methods of a namespace, as they are judged.
 use Rattle.std.proofs.Common.{◌≡◌, ℕ, List, [], ◌∷◌, Option, Some, None, Err, refl, ap, ◌∙◌}
-use Rattle.aml_bounds.specs.Calls.{calls_of}
+use Rattle.aml_calls.specs.Calls.{calls_of}
 use Rattle.aml_judged.specs.Verdicts.{called_from, calls_by, Judging}
 use Rattle.aml_meaning.specs.Methods.{callee_in, callee_of, listed}
 use Rattle.aml_meaning.specs.Within.{Methods}

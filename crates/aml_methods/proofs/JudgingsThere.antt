@@ -5,8 +5,8 @@ use Rattle.std.proofs.lemmas.Option.{slice_get_past}
 use Rattle.std.specs.Prelude.{true, option_and_then}
 use Rattle.aml_bodies.proofs.Around.{around_there}
 use Rattle.aml_bodies.specs.Methods.{Around}
-use Rattle.aml_bounds.proofs.Among.{among_back, among_front}
-use Rattle.aml_bounds.specs.Chains.{is_among}
+use Rattle.aml_calls.proofs.Among.{among_back, among_front}
+use Rattle.aml_calls.specs.Chains.{is_among}
 use Rattle.aml_contents.specs.FirstContents.{first_kinds}
 use Rattle.aml_judged.specs.Verdicts.{calls_by, Judging}
 use Rattle.aml_kinds.specs.Kinds.{Kind}

@@ -1,7 +1,7 @@
 -- What methods call, as it is gathered from their bodies.
 use Rattle.std.specs.Prelude.{◌≡◌, ℕ, List, [], ◌∷◌, Option, Some, None, true}
-use Rattle.aml_bounds.specs.Chains.{is_among}
-use Rattle.aml_bounds.specs.Pairs.{calls_in, named, Pair}
+use Rattle.aml_calls.specs.Chains.{is_among}
+use Rattle.aml_calls.specs.Pairs.{calls_in, named, Pair}
 use Rattle.aml_judged.specs.Verdicts.{called_from, Judging}
 use Rattle.aml_namespace.specs.declared.link.Link.{Link}
 use Rattle.aml_objects.specs.declared.object.Method.{Method}

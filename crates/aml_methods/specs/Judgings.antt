@@ -1,6 +1,6 @@
 -- The methods of a namespace, as they are judged.
 use Rattle.std.specs.Prelude.{◌≡◌, ◌≤◌, ℕ, List, map, take, slice_get, Option, Some, true, false}
-use Rattle.aml_bounds.specs.Chains.{is_among, is_short, TellsReach}
+use Rattle.aml_calls.specs.Chains.{is_among, is_short, TellsReach}
 use Rattle.aml_components.specs.Components.{are_together}
 use Rattle.aml_components.specs.declared.components.Components.{Components}
 use Rattle.aml_components.specs.Heights.{is_short_in}

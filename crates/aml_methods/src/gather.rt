@@ -1,8 +1,8 @@
 // What bodies call, and the shapes of their literals.
 
 ghost use Rattle.std.specs.Prelude.{◌≡◌, ◌++◌, ◌∷◌, [], IfOk, OnOk};
-ghost use Rattle.aml_bounds.specs.Calls.{called_by, calls_in_term, calls_of};
-ghost use Rattle.aml_bounds.specs.Pairs.{numbers};
+ghost use Rattle.aml_calls.specs.Calls.{called_by, calls_in_term, calls_of};
+ghost use Rattle.aml_calls.specs.Pairs.{numbers};
 ghost use Rattle.aml_namespace.specs.Shows.{shown};
 ghost use Rattle.aml_operators.specs.Tree.{view, views};
 ghost use Rattle.aml_meaning.specs.Actions as actions;

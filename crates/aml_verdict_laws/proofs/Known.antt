@@ -1,9 +1,9 @@
 -- An answer to which methods are accepted, by the lengths of the chains that begin with them.
 use Rattle.std.proofs.Common.{◌≡◌, ℕ, zero, suc, List, Option, None, refl, sym, ap, ◌∙◌}
 use Rattle.std.specs.Prelude.{Bool, true, false, if◌then◌else◌}
-use Rattle.aml_bounds.specs.Chains.{is_among, is_short}
-use Rattle.aml_bounds.proofs.Among.{among_all}
-use Rattle.aml_bounds.proofs.ChainLaws.{short_up}
+use Rattle.aml_calls.specs.Chains.{is_among, is_short}
+use Rattle.aml_calls.proofs.Among.{among_all}
+use Rattle.aml_calls.proofs.ChainLaws.{short_up}
 use Rattle.aml_judged.specs.Judged.{Accepted}
 use Rattle.aml_judged.specs.Verdicts.{accepted_of, called_from, Judging, verdict_by}
 use Rattle.aml_judged.proofs.Order.{local_verdict, long_refused}

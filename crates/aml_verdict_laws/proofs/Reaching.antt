@@ -3,9 +3,9 @@ use Rattle.std.proofs.Common.{◌≡◌, ◌≤◌, ℕ, zero, suc, List, [], �
 use Rattle.std.proofs.lemmas.Bool.{or_parts, eqb-true}
 use Rattle.std.specs.List.{list_any}
 use Rattle.std.specs.Prelude.{Bool, true, false, ◌==◌, ◌||◌}
-use Rattle.aml_bounds.specs.Chains.{end_of, has_cycle, is_among, IsChain, Reaches, TellsReach}
-use Rattle.aml_bounds.proofs.Among.{among_cases, first_among, neither, no_more, not_both, or_left, or_right, rest_among, same_number}
-use Rattle.aml_bounds.proofs.ChainLaws.{reaches_itself}
+use Rattle.aml_calls.specs.Chains.{end_of, has_cycle, is_among, IsChain, Reaches, TellsReach}
+use Rattle.aml_calls.proofs.Among.{among_cases, first_among, neither, no_more, not_both, or_left, or_right, rest_among, same_number}
+use Rattle.aml_calls.proofs.ChainLaws.{reaches_itself}
 use Rattle.aml_verdict_laws.specs.Laws.{CallAmong, ReachIsTold}
 
 -- one of a list for which a test holds

@@ -1,4 +1,4 @@
-//! That there are verdicts to speak of: laws over the definitions of `aml_judged` and `aml_bounds` alone
+//! That there are verdicts to speak of: laws over the definitions of `aml_judged` and `aml_calls` alone
 //! (ACPI 6.5, 5.5.2 and 19.6, Method; verdicts and the limit on chains are the project's own).
 //!
 //! What is said of verdicts is said of any answer to which methods are accepted, and of any telling of

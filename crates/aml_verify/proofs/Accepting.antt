@@ -2,7 +2,7 @@
 use Rattle.std.proofs.Common.{◌≡◌, ℕ, List, [], ◌∷◌, map, Option, Some, None, Ok, Err, refl, sym, ap, subst, ◌∙◌}
 use Rattle.std.proofs.lemmas.Option.{same_Some}
 use Rattle.std.specs.Prelude.{◌&&◌, Bool, true, false}
-use Rattle.aml_bounds.specs.Chains.{is_short}
+use Rattle.aml_calls.specs.Chains.{is_short}
 use Rattle.aml_judged.specs.Bodies.{entry, judged_method}
 use Rattle.aml_judged.specs.Causes.{Refusal}
 use Rattle.aml_judged.specs.Judged as judged

@@ -1,7 +1,7 @@
 -- A verifier before its first step, and how many are left behind each.
 use Rattle.std.proofs.Common.{Vec, ◌≡◌, ◌≤◌, ◌<◌, ◌+◌, ℕ, List, ◌++◌, length, Option, Some, None, subst, ap, ◌∙◌, arith}
 use Rattle.std.specs.declared.alloc.Global.{Global}
-use Rattle.aml_bounds.specs.Pairs.{IsCallOrder, numbers, Pair}
+use Rattle.aml_calls.specs.Pairs.{IsCallOrder, numbers, Pair}
 use Rattle.aml_components.specs.Components.{AreComponents}
 use Rattle.aml_components.specs.declared.components.Components.{Components}
 use Rattle.aml_components.specs.Heights.{AreHeights}

@@ -6,7 +6,7 @@ use Rattle.std.specs.Prelude.{IsSome}
 use Rattle.aml_bodies.specs.Kept.{IsKept}
 use Rattle.aml_bodies.specs.Methods.{AreStatementsOf}
 use Rattle.aml_bodies.specs.declared.keeping.Kept.{Kept}
-use Rattle.aml_bounds.specs.Pairs.{numbers}
+use Rattle.aml_calls.specs.Pairs.{numbers}
 use Rattle.aml_objects.specs.declared.object.Method.{Method}
 use Rattle.aml_namespace.specs.Load.{Shown}
 use Rattle.aml_namespace.specs.Names.{IsBodyOf, method_at, ReadsBodyOf}

@@ -9,7 +9,7 @@ use Rattle.aml_judged.specs.Integers.{are_integers, integer_only_by, integers_in
 use Rattle.aml_components.specs.declared.components.Components.{Components}
 use Rattle.aml_components.specs.Heights.{is_short_in}
 use Rattle.aml_components.specs.declared.heights.Heights.{Heights}
-use Rattle.aml_bounds.specs.Chains.{is_short}
+use Rattle.aml_calls.specs.Chains.{is_short}
 use Rattle.aml_judged.specs.Bodies.{entry, judged_method}
 use Rattle.aml_causes.specs.declared.cause.Refusal.{Refusal}
 use Rattle.aml_judged.specs.Causes as cause

@@ -6,8 +6,8 @@ use Rattle.std.proofs.lemmas.Option.{unwrap_or-slice_get}
 use Rattle.std.specs.Prelude.{Bool, true, false, IsSome, ◌==◌, ◌||◌}
 use Rattle.aml_bodies.specs.Kept.{IsKept, kept_at}
 use Rattle.aml_bodies.specs.declared.keeping.Kept.{Kept}
-use Rattle.aml_bounds.proofs.Among.{same_number}
-use Rattle.aml_bounds.specs.Chains.{is_among}
+use Rattle.aml_calls.proofs.Among.{same_number}
+use Rattle.aml_calls.specs.Chains.{is_among}
 use Rattle.aml_objects.specs.declared.object.Method.{Method}
 use Rattle.aml_namespace.specs.Load.{Shown}
 use Rattle.aml_namespace.specs.Names.{IsBodyOf, method_at}

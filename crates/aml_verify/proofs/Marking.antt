@@ -4,7 +4,7 @@ use Rattle.std.proofs.lemmas.Bool.{eqb-true, or_parts}
 use Rattle.std.proofs.lemmas.List.{get_or-set_other, get_or-set_same, get_or_past, length-set, take_all}
 use Rattle.std.proofs.lemmas.Option.{unwrap_or-slice_get}
 use Rattle.std.specs.Prelude.{Bool, true, false, ◌==◌, ◌||◌}
-use Rattle.aml_bounds.specs.Chains.{is_among}
+use Rattle.aml_calls.specs.Chains.{is_among}
 use Rattle.aml_integers.proofs.Order.{done_decides, marks_decide, refused_is_not}
 use Rattle.aml_integers.specs.Known.{marked}
 use Rattle.aml_integers.specs.Laws.{AreDecided, CallsDone, decided}

@@ -4,11 +4,11 @@ use Rattle.std.proofs.lemmas.Bool.{or_parts}
 use Rattle.std.proofs.lemmas.List.{map-append}
 use Rattle.std.proofs.lemmas.Option.{same_Some}
 use Rattle.std.specs.Prelude.{Bool, true, false, ◌==◌, ◌||◌}
-use Rattle.aml_bounds.specs.Chains.{is_among, is_short, IsBehindCallees, TellsReach}
-use Rattle.aml_bounds.specs.Pairs.{calls_in, IsCallOrder, named, numbers, Pair}
-use Rattle.aml_bounds.proofs.Among.{among_all, among_append, first_among, neither, not_both, rest_among}
-use Rattle.aml_bounds.proofs.ChainLaws.{chains_are_counted}
-use Rattle.aml_bounds.proofs.Places.{callee_named}
+use Rattle.aml_calls.specs.Chains.{is_among, is_short, IsBehindCallees, TellsReach}
+use Rattle.aml_calls.specs.Pairs.{calls_in, IsCallOrder, named, numbers, Pair}
+use Rattle.aml_calls.proofs.Among.{among_all, among_append, first_among, neither, not_both, rest_among}
+use Rattle.aml_calls.proofs.ChainLaws.{chains_are_counted}
+use Rattle.aml_calls.proofs.Places.{callee_named}
 use Rattle.aml_components.specs.Components.{AreComponents, are_together}
 use Rattle.aml_components.specs.declared.components.Components.{Components}
 use Rattle.aml_components.specs.Heights.{AreHeights}

@@ -4,8 +4,8 @@ use Rattle.std.proofs.lemmas.List.{get_or-set_other, get_or-set_same}
 use Rattle.std.proofs.lemmas.Option.{same_Some, unwrap_or-slice_get}
 use Rattle.std.specs.Prelude.{false, ◌==◌, ◌||◌}
 use Rattle.aml_paths.specs.Paths.{Path}
-use Rattle.aml_bounds.specs.Chains.{is_among}
-use Rattle.aml_bounds.proofs.Among.{among_append}
+use Rattle.aml_calls.specs.Chains.{is_among}
+use Rattle.aml_calls.proofs.Among.{among_append}
 use Rattle.aml_objects.specs.declared.object.Entry.{Entry}
 use Rattle.aml_objects.specs.declared.object.Method.{Method}
 use Rattle.aml_namespace.specs.Load.{Shown}

@@ -1,7 +1,7 @@
 -- A body is judged by what the definition sees.
 use Rattle.std.proofs.Common.{◌≡◌, ℕ, List, [], Option, Some, refl, sym, ap, subst, ◌∙◌}
 use Rattle.std.specs.Prelude.{Bool, true, false, if◌then◌else◌}
-use Rattle.aml_bounds.specs.Chains.{is_among, TellsReach}
+use Rattle.aml_calls.specs.Chains.{is_among, TellsReach}
 use Rattle.aml_contents.specs.BodyData.{body_data}
 use Rattle.aml_contents.specs.FirstContents.{first_kinds}
 use Rattle.aml_judged.specs.Bodies.{judged_method}

@@ -4,9 +4,9 @@ use Rattle.std.proofs.lemmas.Bool.{or_parts, eqb-true}
 use Rattle.std.proofs.lemmas.List.{length-set, take_all}
 use Rattle.std.proofs.lemmas.Option.{same_Some}
 use Rattle.std.specs.Prelude.{Bool, true, false, not, IsSome, ◌==◌, ◌||◌, if◌then◌else◌}
-use Rattle.aml_bounds.specs.Chains.{is_among}
-use Rattle.aml_bounds.specs.Pairs.{numbers}
-use Rattle.aml_bounds.proofs.Among.{same_number}
+use Rattle.aml_calls.specs.Chains.{is_among}
+use Rattle.aml_calls.specs.Pairs.{numbers}
+use Rattle.aml_calls.proofs.Among.{same_number}
 use Rattle.aml_paths.specs.declared.scope.ObjectId.{ObjectId}
 use Rattle.aml_components.specs.Components.{are_together}
 use Rattle.aml_components.specs.declared.components.Components.{Components}

@@ -4,7 +4,7 @@ use Rattle.std.specs.Option.{option_map}
 use Rattle.std.specs.declared.alloc.Global.{Global}
 use Rattle.aml_bodies.specs.Kept.{AreKept, kept_at}
 use Rattle.aml_bodies.specs.declared.keeping.Kept.{Kept}
-use Rattle.aml_bounds.specs.Chains.{is_among}
+use Rattle.aml_calls.specs.Chains.{is_among}
 use Rattle.aml_integers.specs.Known.{marked}
 use Rattle.aml_integers.specs.Laws.{AreDecided}
 use Rattle.aml_judged.specs.Integers.{AreIntegerOnly}

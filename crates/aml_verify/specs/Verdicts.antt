@@ -2,8 +2,8 @@
 use Rattle.std.specs.Prelude.{◌≡◌, ◌≤◌, ◌+◌, ◌-◌, ℕ, List, length, take, slice_get, slice_set, IsSome, Option, Some, None, Ok, Err, Bool, true, false}
 use Rattle.aml_bodies.specs.Kept.{AreAllKept, AreKept, IsKept}
 use Rattle.aml_bodies.specs.declared.keeping.Kept.{Kept}
-use Rattle.aml_bounds.specs.Chains.{is_among}
-use Rattle.aml_bounds.specs.Pairs.{numbers}
+use Rattle.aml_calls.specs.Chains.{is_among}
+use Rattle.aml_calls.specs.Pairs.{numbers}
 use Rattle.aml_components.specs.declared.components.Components.{Components}
 use Rattle.aml_components.specs.declared.heights.Heights.{Heights}
 use Rattle.aml_contents.specs.FirstContents.{first_kinds}

@@ -2,7 +2,7 @@
 
 ghost use Rattle.std.specs.Prelude.{◌≡◌, ◌++◌, ℕ, IfOk, OnErr, None, Some, false, length, map, slice_get, slice_set};
 ghost use Rattle.aml_bodies.specs.Kept.{IsKept, kept_at};
-ghost use Rattle.aml_bounds.specs.Pairs.{numbers};
+ghost use Rattle.aml_calls.specs.Pairs.{numbers};
 ghost use Rattle.aml_integers.specs.Known.{marked};
 ghost use Rattle.aml_namespace.specs.Names.{method_at};
 ghost use Rattle.aml_operators.specs.Tree.{view};
@@ -17,7 +17,7 @@ use crate::named::Named;
 use crate::read::Read;
 use crate::verdict::Verdict;
 use aml_bodies::{Kept, keep_with};
-use aml_bounds::call_order;
+use aml_calls::call_order;
 use aml_components::{Components, Heights};
 use aml_integers::integers_alone;
 use aml_judging::Finding;

@@ -1,5 +1,5 @@
 use Rattle.std.proofs.Common.{take}
-use Rattle.aml_bounds.specs.Pairs.{numbers}
+use Rattle.aml_calls.specs.Pairs.{numbers}
 use Rattle.aml_components.specs.Heights.{BeginsWith}
 use Rattle.aml_components.proofs.heights.first_heights.Given as goal
 

@@ -1,7 +1,7 @@
 use Rattle.std.proofs.Common.{◌∙◌, ap}
 use Rattle.aml_paths.specs.declared.scope.ObjectId.{ObjectId}
-use Rattle.aml_bounds.specs.Pairs.{calls_in}
-use Rattle.aml_bounds.proofs.GoingOn.{among_at}
+use Rattle.aml_calls.specs.Pairs.{calls_in}
+use Rattle.aml_calls.proofs.GoingOn.{among_at}
 use Rattle.aml_components.specs.Heights.{are_low}
 use Rattle.aml_components.proofs.Raising.{raised_more}
 use Rattle.aml_components.proofs.heights.raise.Goals as goal

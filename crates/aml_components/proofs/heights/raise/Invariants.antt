@@ -1,4 +1,4 @@
-use Rattle.aml_bounds.specs.Pairs.{calls_in}
+use Rattle.aml_calls.specs.Pairs.{calls_in}
 use Rattle.aml_components.proofs.Raising.{RaisedTo}
 use Rattle.aml_components.proofs.heights.raise.Given as goal
 

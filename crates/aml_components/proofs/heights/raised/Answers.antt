@@ -1,5 +1,5 @@
 use Rattle.std.proofs.Common.{List, ℕ, sym, subst}
-use Rattle.aml_bounds.specs.Pairs.{calls_in, numbers}
+use Rattle.aml_calls.specs.Pairs.{calls_in, numbers}
 use Rattle.aml_components.specs.Heights.{MayRaise}
 use Rattle.aml_components.proofs.Raising.{may_raise}
 use Rattle.aml_components.proofs.heights.raised.Goals as goal

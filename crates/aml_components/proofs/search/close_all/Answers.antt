@@ -1,6 +1,6 @@
 use Rattle.std.proofs.Common.{arith}
 use Rattle.aml_paths.specs.declared.scope.ObjectId.{ObjectId}
-use Rattle.aml_bounds.proofs.GoingOn.{among_at}
+use Rattle.aml_calls.proofs.GoingOn.{among_at}
 use Rattle.aml_components.proofs.Cutting.{closed_more}
 use Rattle.aml_components.proofs.search.close_all.Goals as goal
 

@@ -1,5 +1,5 @@
 use Rattle.std.proofs.Common.{take}
-use Rattle.aml_bounds.specs.Pairs.{numbers}
+use Rattle.aml_calls.specs.Pairs.{numbers}
 use Rattle.aml_components.specs.Search.{AreClosed}
 use Rattle.aml_components.proofs.search.close_all.Given as goal
 

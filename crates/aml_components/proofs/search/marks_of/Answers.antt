@@ -1,6 +1,6 @@
 use Rattle.std.proofs.Common.{arith}
-use Rattle.aml_bounds.specs.Pairs.{calls_in, numbers}
-use Rattle.aml_bounds.proofs.Places.{callee_named}
+use Rattle.aml_calls.specs.Pairs.{calls_in, numbers}
+use Rattle.aml_calls.proofs.Places.{callee_named}
 use Rattle.aml_components.proofs.Found.{found}
 use Rattle.aml_components.proofs.search.marks_of.Goals as goal
 

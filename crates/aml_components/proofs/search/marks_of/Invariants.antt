@@ -1,4 +1,4 @@
-use Rattle.aml_bounds.specs.Pairs.{calls_in}
+use Rattle.aml_calls.specs.Pairs.{calls_in}
 use Rattle.aml_components.proofs.Visiting.{HasVisited}
 use Rattle.aml_components.proofs.search.marks_of.Given as goal
 

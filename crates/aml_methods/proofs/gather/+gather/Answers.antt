@@ -2,7 +2,7 @@ use Rattle.std.proofs.Common.{arith}
 use Rattle.std.proofs.lemmas.Result.{on_ok_weaker}
 use Rattle.aml_namespace.proofs.Weights.{lighter_item}
 use Rattle.aml_methods.specs.Gathered.{links_of}
-use Rattle.aml_bounds.specs.Pairs.{numbers}
+use Rattle.aml_calls.specs.Pairs.{numbers}
 use Rattle.aml_methods.proofs.Calls.{term_gathered}
 use Rattle.aml_methods.proofs.gather.+gather.Goals as goal
 

@@ -1,6 +1,6 @@
 use Rattle.std.proofs.Common.{◌≡◌, ◌++◌, ◌+◌, ◌*◌, drop}
-use Rattle.aml_bounds.specs.Calls.{calls_of}
-use Rattle.aml_bounds.specs.Pairs.{numbers}
+use Rattle.aml_calls.specs.Calls.{calls_of}
+use Rattle.aml_calls.specs.Pairs.{numbers}
 use Rattle.aml_methods.specs.Gathered.{links_of}
 use Rattle.aml_namespace.proofs.Weights.{weight, weights}
 use Rattle.aml_operators.specs.Tree.{view, views}

@@ -1,7 +1,7 @@
 use Rattle.std.proofs.Common.{◌++◌, List, map, ap, ◌∙◌, rules}
 use Rattle.std.specs.Prelude.{IsSome}
-use Rattle.aml_bounds.specs.Calls.{calls_of}
-use Rattle.aml_bounds.specs.Pairs.{numbers}
+use Rattle.aml_calls.specs.Calls.{calls_of}
+use Rattle.aml_calls.specs.Pairs.{numbers}
 use Rattle.aml_namespace.specs.Names.{link_with_owns, method_at}
 use Rattle.aml_namespace.specs.Shows.{shown}
 use Rattle.aml_operators.specs.declared.term.Term.{Term}

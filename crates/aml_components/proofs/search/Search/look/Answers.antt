@@ -1,5 +1,5 @@
 use Rattle.std.proofs.Common.{◌∙◌, List, length, refl, sym, ap, arith}
-use Rattle.aml_bounds.specs.Pairs.{calls_in, named}
+use Rattle.aml_calls.specs.Pairs.{calls_in, named}
 use Rattle.aml_components.specs.declared.search.Mark.{Mark}
 use Rattle.aml_components.specs.Search.{mark_at}
 use Rattle.aml_components.proofs.Stepping.{called_below, calls_most, look_closed, look_new, look_open}

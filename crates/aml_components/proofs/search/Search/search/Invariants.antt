@@ -1,5 +1,5 @@
 use Rattle.std.proofs.Common.{length}
-use Rattle.aml_bounds.specs.Pairs.{calls_in, named}
+use Rattle.aml_calls.specs.Pairs.{calls_in, named}
 use Rattle.aml_components.specs.Search.{left}
 use Rattle.aml_components.proofs.Visiting.{IsOn}
 use Rattle.aml_components.proofs.search.Search.search.Given as goal

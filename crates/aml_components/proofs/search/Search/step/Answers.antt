@@ -2,10 +2,10 @@ use Rattle.std.proofs.Common.{Vec, ◌≡◌, ℕ, List, true, length, subst, ar
 use Rattle.std.specs.declared.alloc.Global.{Global}
 use Rattle.aml_components.specs.declared.search.Call.{Call}
 use Rattle.aml_components.specs.Search.{Closes}
-use Rattle.aml_bounds.specs.Chains.{is_among}
-use Rattle.aml_bounds.specs.Pairs.{calls_in, named, numbers}
-use Rattle.aml_bounds.proofs.Among.{among_last}
-use Rattle.aml_bounds.proofs.GoingOn.{length_numbers, on_ok}
+use Rattle.aml_calls.specs.Chains.{is_among}
+use Rattle.aml_calls.specs.Pairs.{calls_in, named, numbers}
+use Rattle.aml_calls.proofs.Among.{among_last}
+use Rattle.aml_calls.proofs.GoingOn.{length_numbers, on_ok}
 use Rattle.aml_components.proofs.Marking.{open_inside}
 use Rattle.aml_components.proofs.Rising.{at_most_last, stands_at}
 use Rattle.aml_components.proofs.Stepping.{closes}

@@ -1,5 +1,5 @@
 use Rattle.std.proofs.Common.{◌∙◌, List, sym, ap, arith}
-use Rattle.aml_bounds.specs.Pairs.{calls_in}
+use Rattle.aml_calls.specs.Pairs.{calls_in}
 use Rattle.aml_components.specs.declared.search.Mark.{Mark}
 use Rattle.aml_components.specs.Search.{is_new, mark_at}
 use Rattle.aml_components.proofs.Visiting.{visit_begun, visited}

@@ -1,4 +1,4 @@
-use Rattle.aml_bounds.specs.Pairs.{numbers}
+use Rattle.aml_calls.specs.Pairs.{numbers}
 use Rattle.aml_namespace.specs.Shows.{shown}
 use Rattle.aml_signatures.specs.Signed.{kinds_told}
 use Rattle.aml_verify.proofs.Finding.{all_done}

@@ -1,5 +1,5 @@
 use Rattle.std.proofs.Common.{List, map, refl, sym, ap, ◌∙◌, ℕ}
-use Rattle.aml_bounds.specs.Pairs.{numbers}
+use Rattle.aml_calls.specs.Pairs.{numbers}
 use Rattle.aml_known.specs.Views.{kinds_of}
 use Rattle.aml_namespace.specs.Shows.{shown}
 use Rattle.aml_operators.specs.Tree.{view}

@@ -1,5 +1,5 @@
 use Rattle.std.proofs.Common.{◌∙◌}
-use Rattle.aml_bounds.specs.Pairs.{numbers}
+use Rattle.aml_calls.specs.Pairs.{numbers}
 use Rattle.aml_namespace.specs.Shows.{shown}
 use Rattle.aml_signatures.specs.Signed.{kinds_told}
 use Rattle.aml_verify.proofs.Beginning.{begins}

@@ -1,8 +1,0 @@
-use Rattle.std.proofs.Common.{take}
-use Rattle.aml_bounds.specs.Pairs.{numbers}
-use Rattle.aml_bounds.proofs.Places.{HasRoom}
-use Rattle.aml_bounds.proofs.calls.room_for_all.Given as goal
-
--- there is room for the methods so far
-abbrev pub invariant-methods : goal.invariant-methods
-invariant-methods l = HasRoom l.room l.more (numbers (take l.method-index l.methods))

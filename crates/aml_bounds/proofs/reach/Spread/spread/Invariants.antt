@@ -1,9 +1,0 @@
-use Rattle.aml_bounds.specs.Pairs.{calls_in, named, numbers}
-use Rattle.aml_bounds.specs.Spread.{SpreadsOn, work}
-use Rattle.aml_bounds.proofs.reach.Spread.spread.Given as goal
-
-abbrev pub invariant-waiting : goal.invariant-waiting
-invariant-waiting l = SpreadsOn (calls_in l.calls.pairs.now) (named l.calls.pairs.now) l.fn.from.0 (numbers l.self.waiting.items) l.self
-
-abbrev pub decreases-waiting : goal.decreases-waiting
-decreases-waiting l = work l.self.seen.items (numbers l.self.waiting.items)

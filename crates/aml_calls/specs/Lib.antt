@@ -1,0 +1,5 @@
+pub mod Calls
+pub mod Chains
+pub mod Pairs
+pub mod Search
+pub mod Spread
