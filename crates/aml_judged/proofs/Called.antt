@@ -39,7 +39,7 @@ use Rattle.aml_judged.proofs.Owned.{IsMade, made_tick, made_safe}
 use Rattle.aml_judged.proofs.Levels.{allows_left, allows_right}
 use Rattle.aml_judged.proofs.Parts.{return_left, return_right, stop_left, stepped}
 use Rattle.aml_judged.proofs.Sound.{mean_safe}
-use Rattle.aml_judged.proofs.FieldsSafe.{around_of}
+use Rattle.aml_judged.proofs.Words.{around_of}
 use Rattle.aml_judged.proofs.KindRules.{plain}
 use Rattle.aml_meaning.specs.declared.buffer_field.BufferField.{BufferField}
 

@@ -3,14 +3,12 @@ use Rattle.std.proofs.Common.{◌≡◌, ℕ, zero, suc, ◌+◌, ◌≤◌, Lis
 use Rattle.std.specs.Prelude.{Bool, true, false, ◌==◌, if◌then◌else◌, slice_get, length}
 use Rattle.aml_namespace.specs.declared.link.Link.{Link}
 use Rattle.aml_namespace.specs.declared.link.Link.TheVariants as link
-use Rattle.aml_values.specs.Values.{Value}
-use Rattle.aml_kinds.specs.Kinds.{Kind}
 use Rattle.aml_contents.specs.Contents.{Contents}
 use Rattle.aml_regions.specs.Events.{Event, Read, Written, Notified, Slept, Stalled}
 use Rattle.aml_meaning.specs.declared.action.Action.{Action}
 use Rattle.aml_meaning.specs.declared.action.Action.TheVariants.{Local, Argument, Name, NoTarget}
 use Rattle.aml_meaning.specs.State as state
-use Rattle.aml_meaning.specs.State.{State, Names, Out, with_steps}
+use Rattle.aml_meaning.specs.State.{State, Names, with_steps}
 use Rattle.aml_meaning.specs.Parts.{give, paid, take_step, then_do, make_event, with_event, sleep, woken, woken_or}
 use Rattle.aml_meaning.specs.Rules.{Place}
 use Rattle.aml_meaning.specs.Notices.{is_notifiable, notice, paused}
@@ -21,29 +19,16 @@ use Rattle.aml_paths.specs.declared.scope.ObjectId.{ObjectId}
 use Rattle.aml_meaning.specs.Meaning.{notified_name, notified, untargeted, Setting}
 use Rattle.aml_judged.specs.Known.{Env}
 use Rattle.aml_judged.specs.Judge.{judged_notified_name, judged_notified, judged_untargeted}
-use Rattle.aml_judged.specs.Judged.{NameKinds, Yield, Never, Seen, Around, Judged, pays}
+use Rattle.aml_judged.specs.Judged.{NameKinds, Never, Seen, pays}
 use Rattle.aml_judged.specs.KindRules.{notice_kind}
-use Rattle.aml_judged.proofs.FieldsSafe.{around_of}
+use Rattle.aml_judged.proofs.Words.{words_of}
 use Rattle.aml_judged.proofs.KindRules.{plain, Follows}
-use Rattle.aml_judged.specs.Safe.{FitScript, FitNames, IsOf, FitsState, FitsYield, IsSafe}
+use Rattle.aml_judged.specs.Safe.{FitScript, FitNames}
 use Rattle.aml_judged.proofs.Parts.{stepped}
 use Rattle.aml_judged.proofs.Loops.{IsUnit}
 
 module _ (here : Setting) (kinds : NameKinds) (callee : ℕ → Seen) (above : ℕ) (script : List Event) (slept : FitScript here.width kinds.shared script) where
-  abbrev around : Around
-  around = around_of here kinds callee
-
-  abbrev Fine : Env → State → Type 0
-  Fine = FitsState here.width kinds above
-
-  abbrev Safe : {V K : Type 0} → (V → K → State → Type 0) → ℕ → Judged K → Out V → Type 0
-  Safe P before j o = IsSafe here.width kinds above P before j o
-
-  abbrev Is : Value → Kind → Type 0
-  Is = IsOf here.width
-
-  abbrev Yields : Option Value → Yield → Type 0
-  Yields = FitsYield here.width
+  open words_of here kinds callee above use {around, Fine, Safe, Yields}
 
   -- whether an object that is there may be notified
   abbrev pub MayNotify : Option ObjectId → Bool → Type 0

@@ -20,19 +20,16 @@ use Rattle.aml_judged.specs.Causes.{Refusal}
 use Rattle.aml_judged.specs.Known.{Env}
 use Rattle.aml_judged.specs.Judge as judge
 use Rattle.aml_judged.specs.Judge.{judged_field, judged_field_stored, judged_written}
-use Rattle.aml_judged.specs.Judged.{NameKinds, Always, Seen, Around, no_exits, pays, refuses, ruled, then_judge}
+use Rattle.aml_judged.specs.Judged.{NameKinds, Always, Seen, no_exits, pays, refuses, ruled, then_judge}
 use Rattle.aml_judged.specs.KindRules.{field_kind, given_kind}
 use Rattle.aml_judged.specs.Events.{Costs}
-use Rattle.aml_judged.specs.Safe.{FitsHeld, FitNames, FitSlots, FitsState, FitsYield, IsOf, IsSafe}
+use Rattle.aml_judged.specs.Safe.{FitsHeld, FitNames, FitSlots, IsOf}
+use Rattle.aml_judged.proofs.Words.{words_of}
 use Rattle.aml_judged.proofs.Events.{fields_cost}
 use Rattle.aml_judged.proofs.FieldValues.{Makes, field_made}
 use Rattle.aml_judged.proofs.KindRules.{plain, Follows}
 use Rattle.aml_judged.proofs.Loops.{IsUnit}
 use Rattle.aml_judged.proofs.Parts.{after_safe, stepped, tick_then}
-
--- where the rules around a body are those of where it stands
-abbrev pub around_of : Setting → NameKinds → (ℕ → Seen) → Around
-around_of here kinds callee = record { table = here.table; width = here.width; link = here.link; lone = here.lone; object = here.object; field = here.field; buffer_field = here.buffer_field; literal = here.literal; kinds = kinds; callee = callee }
 
 abbrev pub Given : (ℕ → ℕ) → Unit {0} → Type 0
 Given bit u = Unit {0}
@@ -53,8 +50,7 @@ given_follows width bits p q (BufOf n) (Pkg xs) h = absurd (let bad : false ≡ 
 given_follows width bits p q k v h = tt
 
 module _ (here : Setting) (kinds : NameKinds) (callee : ℕ → Seen) (above : ℕ) (script : List Event) where
-  abbrev Fine : Env → State → Type 0
-  Fine = FitsState here.width kinds above
+  open words_of here kinds callee above use {around, Fine, Safe, Is, Yields}
 
   -- what is known stays, where frame and names do
   moved : (env : Env) (s last : State) → last.frame ≡ s.frame → last.names ≡ s.names → Fine env s → Fine env last
@@ -69,33 +65,33 @@ module _ (here : Setting) (kinds : NameKinds) (callee : ℕ → Seen) (above : �
     callers = subst (λ f. f.outside ≡ above) (sym e) fits.callers;
   }
 
-  read_out : (n : ℕ) (k : Kind) (env : Env) (s : State) (o : Out Value) → Costs n s o → Makes (λ v. IsOf here.width v k) o → Fine env s → IsSafe here.width kinds above (plain (FitsYield here.width)) s.steps (pays n (Always k) env) (then_do o (λ v next. state.Goes (Some v) next))
+  read_out : (n : ℕ) (k : Kind) (env : Env) (s : State) (o : Out Value) → Costs n s o → Makes (λ v. Is v k) o → Fine env s → Safe (plain Yields) s.steps (pays n (Always k) env) (then_do o (λ v next. state.Goes (Some v) next))
   read_out n k env s (state.Goes v last) c m fits = (m, moved env s last c.1 c.2 fits, c.0)
   read_out n k env s (Halts stop last) c m fits = absurd c
   read_out n k env s (NoAnswer last) c m fits = tt
   read_out n k env s (Spent last) c m fits = c
 
-  write_out : (n : ℕ) (env : Env) (s : State) (o : Out (Unit {0})) → Costs n s o → Fine env s → IsSafe here.width kinds above IsUnit s.steps (pays n tt env) o
+  write_out : (n : ℕ) (env : Env) (s : State) (o : Out (Unit {0})) → Costs n s o → Fine env s → Safe IsUnit s.steps (pays n tt env) o
   write_out n env s (state.Goes v last) c fits = (tt, moved env s last c.1 c.2 fits, c.0)
   write_out n env s (Halts stop last) c fits = absurd c
   write_out n env s (NoAnswer last) c fits = tt
   write_out n env s (Spent last) c fits = c
 
-  pub field_safe : (at : ℕ) (o : Option AnyField) (env : Env) (s : State) → Fine env s → IsSafe here.width kinds above (plain (FitsYield here.width)) s.steps (judged_field (around_of here kinds callee) o at env) ((lift (wanted_field (place_at here at) o) >>= (λ f. read_value here.width f >>= (λ v. yields here v))).run script s)
+  pub field_safe : (at : ℕ) (o : Option AnyField) (env : Env) (s : State) → Fine env s → Safe (plain Yields) s.steps (judged_field around o at env) ((lift (wanted_field (place_at here at) o) >>= (λ f. read_value here.width f >>= (λ v. yields here v))).run script s)
   unfolding ◌>>=◌ give
   field_safe at None env s fits = tt
   field_safe at (Some f) env s fits = read_out (read_count f) (field_kind here.width (layout_of f).bits) env s ((read_value here.width f).run script s) (fields_cost.read here.width f script s) (field_made here.width f script s) fits
 
-  written_safe : (at : ℕ) (o : Option AnyField) (k : Kind) (v : Value) (env : Env) (s : State) → IsOf here.width v k → Fine env s → IsSafe here.width kinds above IsUnit s.steps (judged_written (around_of here kinds callee) o at k env) ((lift (wanted_field (place_at here at) o) >>= (λ f. bits_stored here at f v)).run script s)
+  written_safe : (at : ℕ) (o : Option AnyField) (k : Kind) (v : Value) (env : Env) (s : State) → Is v k → Fine env s → Safe IsUnit s.steps (judged_written around o at k env) ((lift (wanted_field (place_at here at) o) >>= (λ f. bits_stored here at f v)).run script s)
   unfolding ◌>>=◌ give stop_with
   written_safe at None k v env s h fits = tt
-  written_safe at (Some f) k v env s h fits = by (given_kind here.width (judge.place_at (around_of here kinds callee) at) (layout_of f).bits k) (given_bits here.width (place_at here at) (layout_of f).bits v) (given_follows here.width (layout_of f).bits _ _ k v h)
+  written_safe at (Some f) k v env s h fits = by (given_kind here.width (judge.place_at around at) (layout_of f).bits k) (given_bits here.width (place_at here at) (layout_of f).bits v) (given_follows here.width (layout_of f).bits _ _ k v h)
     where
-      by : (rk : Result (Unit {0}) Refusal) (rv : Result (ℕ → ℕ) AmlError) → Follows Given rk rv → IsSafe here.width kinds above IsUnit s.steps (then_judge (ruled rk env) (λ u e. pays (write_count f) tt e)) (then_do ((lift rv).run script s) (λ bit next. (write_bits f bit).run script next))
+      by : (rk : Result (Unit {0}) Refusal) (rv : Result (ℕ → ℕ) AmlError) → Follows Given rk rv → Safe IsUnit s.steps (then_judge (ruled rk env) (λ u e. pays (write_count f) tt e)) (then_do ((lift rv).run script s) (λ bit next. (write_bits f bit).run script next))
       by (Err r) rv g = tt
       by (Ok u) (Ok bit) g = after_safe here.width kinds above IsUnit no_exits 0 s.steps s.steps (pays (write_count f) tt env) ((write_bits f bit).run script s) (omega arith) (write_out (write_count f) env s ((write_bits f bit).run script s) (fields_cost.write f bit script s) fits)
       by (Ok u) (Err e) g = absurd g
 
-  pub field_stored_safe : (at : ℕ) (o : Option AnyField) (k : Kind) (v : Value) (env : Env) (s : State) → IsOf here.width v k → Fine env s → IsSafe here.width kinds above IsUnit s.steps (judged_field_stored (around_of here kinds callee) o at k env) ((tick >>= (λ u. lift (wanted_field (place_at here at) o) >>= (λ f. bits_stored here at f v))).run script s)
+  pub field_stored_safe : (at : ℕ) (o : Option AnyField) (k : Kind) (v : Value) (env : Env) (s : State) → Is v k → Fine env s → Safe IsUnit s.steps (judged_field_stored around o at k env) ((tick >>= (λ u. lift (wanted_field (place_at here at) o) >>= (λ f. bits_stored here at f v))).run script s)
   unfolding ◌>>=◌ tick paid
-  field_stored_safe at o k v env s h fits = tick_then here.width kinds above IsUnit (judged_written (around_of here kinds callee) o at k env) s.steps s _ (λ m. written_safe at o k v env (with_steps s m) h (stepped here.width kinds above env s m fits))
+  field_stored_safe at o k v env s h fits = tick_then here.width kinds above IsUnit (judged_written around o at k env) s.steps s _ (λ m. written_safe at o k v env (with_steps s m) h (stepped here.width kinds above env s m fits))

@@ -29,8 +29,8 @@ use Rattle.aml_judged.specs.Judge as judge
 use Rattle.aml_judged.specs.Judge.{held_kind, judged_bound, judged_indexed, judged_name_indexed}
 use Rattle.aml_judged.specs.Judged.{NameKinds, Seen, goes, no_exits, pays, refuses, ruled, then_judge}
 use Rattle.aml_judged.specs.KindRules.{byte_written_kind}
-use Rattle.aml_judged.specs.Safe.{AreBytes, FitNames, FitsState, IsOf, IsSafe}
-use Rattle.aml_judged.proofs.FieldsSafe.{around_of}
+use Rattle.aml_judged.specs.Safe.{AreBytes, FitNames}
+use Rattle.aml_judged.proofs.Words.{words_of}
 use Rattle.aml_judged.proofs.Fits.{HasFit, name_fits, stored_names}
 use Rattle.aml_judged.proofs.KindRules.{plain}
 use Rattle.aml_judged.proofs.Loops.{IsUnit}
@@ -85,29 +85,28 @@ held_steps (link.Own k) s v = refl
 held_steps link.Missing s v = refl
 
 module _ (here : Setting) (kinds : NameKinds) (callee : ℕ → Seen) (above : ℕ) (script : List Event) where
-  abbrev Fine : Env → State → Type 0
-  Fine = FitsState here.width kinds above
+  open words_of here kinds callee above use {around, Fine, Safe, Is}
 
-  bound_safe : (l : Link) (at : ℕ) (env : Env) (s : State) → Fine env s → IsSafe here.width kinds above (plain SamePlace) s.steps (judged_bound (around_of here kinds callee) l at env) ((bound here l at).run script s)
+  bound_safe : (l : Link) (at : ℕ) (env : Env) (s : State) → Fine env s → Safe (plain SamePlace) s.steps (judged_bound around l at env) ((bound here l at).run script s)
   unfolding give
   bound_safe link.Missing at env s fits = tt
   bound_safe l at env s fits = (refl, fits, omega arith)
 
-  name_indexed_safe : (at : ℕ) (a : Action) (from : ℕ) (parts : Trees) (env : Env) (s : State) → Fine env s → IsSafe here.width kinds above (plain SamePlace) s.steps (judged_name_indexed (around_of here kinds callee) at a from parts env) ((name_indexed here at a from parts).run script s)
+  name_indexed_safe : (at : ℕ) (a : Action) (from : ℕ) (parts : Trees) (env : Env) (s : State) → Fine env s → Safe (plain SamePlace) s.steps (judged_name_indexed around at a from parts env) ((name_indexed here at a from parts).run script s)
   name_indexed_safe at Name from parts env s fits = bound_safe (here.link from) from env s fits
   name_indexed_safe at Invoke from (more name arguments) env s fits = bound_safe (here.link (at_of name)) (at_of name) env s fits
   name_indexed_safe at a from parts env s fits = tt
 
-  pub indexed_safe : (at : ℕ) (into : Action) (x : Tree) (env : Env) (s : State) → Fine env s → IsSafe here.width kinds above (plain SamePlace) s.steps (judged_indexed (around_of here kinds callee) at into x env) ((indexed here at into x).run script s)
+  pub indexed_safe : (at : ℕ) (into : Action) (x : Tree) (env : Env) (s : State) → Fine env s → Safe (plain SamePlace) s.steps (judged_indexed around at into x env) ((indexed here at into x).run script s)
   indexed_safe at NoTarget (Node o from stop parts) env s fits = name_indexed_safe at (action o) from parts env s fits
   indexed_safe at a x env s fits = tt
 
-  pub held_buffer : (l : Link) (n : ℕ) (env : Env) (s : State) → held_kind (around_of here kinds callee) l ≡ Some (BufOf n) → Fine env s → IsBuffer here.width n (held_by l s)
+  pub held_buffer : (l : Link) (n : ℕ) (env : Env) (s : State) → held_kind around l ≡ Some (BufOf n) → Fine env s → IsBuffer here.width n (held_by l s)
   held_buffer (link.Data id) n env s e fits = there_buffer here.width n _ (name_fits here.width kinds.shared s.names id.0 (BufOf n) fits.shared e)
   held_buffer (link.Own k) n env s e fits = there_buffer here.width n _ (name_fits here.width kinds.owns s.frame.owns k (BufOf n) fits.owned e)
   held_buffer l n env s e fits = absurd cc
 
-  pub held_fits : (l : Link) (n : ℕ) (bytes : List ℕ) (env : Env) (s : State) → held_kind (around_of here kinds callee) l ≡ Some (BufOf n) → length bytes ≡ n → AreBytes bytes → Fine env s → Fine env (holding l s (Buf bytes))
+  pub held_fits : (l : Link) (n : ℕ) (bytes : List ℕ) (env : Env) (s : State) → held_kind around l ≡ Some (BufOf n) → length bytes ≡ n → AreBytes bytes → Fine env s → Fine env (holding l s (Buf bytes))
   held_fits (link.Data id) n bytes env s e long small fits = record { reached = fits.reached; own = fits.own; given = fits.given; shared = set_names here.width kinds.shared s.names id.0 n bytes e long small fits.shared; owned = fits.owned; fields = fits.fields; holds = fits.holds; callers = fits.callers }
   held_fits (link.Own k) n bytes env s e long small fits = record { reached = fits.reached; own = fits.own; given = fits.given; shared = fits.shared; owned = set_names here.width kinds.owns s.frame.owns k n bytes e long small fits.owned; fields = fits.fields; holds = fits.holds; callers = fits.callers }
   held_fits l n bytes env s e long small fits = absurd cc
@@ -119,24 +118,24 @@ module _ (here : Setting) (kinds : NameKinds) (callee : ℕ → Seen) (above : �
       choice true e = refl
       choice false e = absurd (let yes : nat_lt x (length bytes) ≡ true = (let less : x < length bytes = omega (arith, lt, long) in grind (arith, nat_tests)) in let bad : true ≡ false = sym yes ∙ e in cc)
 
-  set_safe : (l : Link) (op p q : Place) (n x m : ℕ) (env : Env) (s : State) → held_kind (around_of here kinds callee) l ≡ Some (BufOf n) → x < n → Fine env s → IsSafe here.width kinds above IsUnit s.steps (goes tt env) (changed_or l s (byte_written op p q (Int x) (Int m) (held_by l s)))
+  set_safe : (l : Link) (op p q : Place) (n x m : ℕ) (env : Env) (s : State) → held_kind around l ≡ Some (BufOf n) → x < n → Fine env s → Safe IsUnit s.steps (goes tt env) (changed_or l s (byte_written op p q (Int x) (Int m) (held_by l s)))
   set_safe l op p q n x m env s e lt fits =
       let b = held_buffer l n env s e fits in
-      subst (λ r. IsSafe here.width kinds above IsUnit s.steps (goes tt env) (changed_or l s r)) (sym (ap (byte_written op p q (Int x) (Int m)) b.is ∙ byte_ok op p q b.bytes x m n lt b.long))
+      subst (λ r. Safe IsUnit s.steps (goes tt env) (changed_or l s r)) (sym (ap (byte_written op p q (Int x) (Int m)) b.is ∙ byte_ok op p q b.bytes x m n lt b.long))
       (tt, held_fits l n (slice_set b.bytes x (m % 256)) env s e (set_length b.bytes x (m % 256) ∙ b.long) (set_bytes b.bytes x (m % 256) (mod-lt m (omega arith)) b.small) fits, (let same = held_steps l s (Buf (slice_set b.bytes x (m % 256))) in omega (arith, same)))
 
-  changed_safe : (l : Link) (op p q : Place) (n x m : ℕ) (env : Env) (s : State) → held_kind (around_of here kinds callee) l ≡ Some (BufOf n) → x < n → Fine env s → IsSafe here.width kinds above IsUnit s.steps (pays 1 tt env) ((change l (byte_written op p q (Int x) (Int m))).run script s)
+  changed_safe : (l : Link) (op p q : Place) (n x m : ℕ) (env : Env) (s : State) → held_kind around l ≡ Some (BufOf n) → x < n → Fine env s → Safe IsUnit s.steps (pays 1 tt env) ((change l (byte_written op p q (Int x) (Int m))).run script s)
   unfolding change paid
   changed_safe l op p q n x m env s e lt fits = ticked here.width kinds above IsUnit (goes tt env) s.steps s _ (λ k. set_safe l op p q n x m env (with_steps s k) e lt (stepped here.width kinds above env s k fits))
 
-  refused_either : (c : Bool) (r q : Refusal) (env : Env) (before : ℕ) (o : Out (Unit {0})) → IsSafe here.width kinds above IsUnit before (then_judge (ruled {K = Unit {0}} (if c then Err r else Err q) env) (λ u e. pays 1 tt e)) o
+  refused_either : (c : Bool) (r q : Refusal) (env : Env) (before : ℕ) (o : Out (Unit {0})) → Safe IsUnit before (then_judge (ruled {K = Unit {0}} (if c then Err r else Err q) env) (λ u e. pays 1 tt e)) o
   refused_either true r q env before o = tt
   refused_either false r q env before o = tt
 
-  pub byte_safe : (at from : ℕ) (i : Tree) (old : Option Kind) (j k : Kind) (y v : Value) (env : Env) (s : State) → held_kind (around_of here kinds callee) (here.link from) ≡ old → IsOf here.width y j → IsOf here.width v k → Fine env s → IsSafe here.width kinds above IsUnit s.steps (then_judge (ruled (byte_written_kind (judge.place_at (around_of here kinds callee) at) (judge.place_at (around_of here kinds callee) from) old (judge.place (around_of here kinds callee) i) j k) env) (λ u e. pays 1 tt e)) ((change (here.link from) (byte_written (place_at here at) (place_at here from) (place here i) y v)).run script s)
+  pub byte_safe : (at from : ℕ) (i : Tree) (old : Option Kind) (j k : Kind) (y v : Value) (env : Env) (s : State) → held_kind around (here.link from) ≡ old → Is y j → Is v k → Fine env s → Safe IsUnit s.steps (then_judge (ruled (byte_written_kind (judge.place_at around at) (judge.place_at around from) old (judge.place around i) j k) env) (λ u e. pays 1 tt e)) ((change (here.link from) (byte_written (place_at here at) (place_at here from) (place here i) y v)).run script s)
   byte_safe at from i (Some (BufOf n)) (IntUpTo a) (IntUpTo b) (Int x) (Int m) env s e h g fits = choice (nat_lt a n) refl
     where
-      choice : (c : Bool) → nat_lt a n ≡ c → IsSafe here.width kinds above IsUnit s.steps (then_judge (ruled {K = Unit {0}} (if c then Ok tt else refuses causes.Index (judge.place_at (around_of here kinds callee) at)) env) (λ u e. pays 1 tt e)) ((change (here.link from) (byte_written (place_at here at) (place_at here from) (place here i) (Int x) (Int m))).run script s)
+      choice : (c : Bool) → nat_lt a n ≡ c → Safe IsUnit s.steps (then_judge (ruled {K = Unit {0}} (if c then Ok tt else refuses causes.Index (judge.place_at around at)) env) (λ u e. pays 1 tt e)) ((change (here.link from) (byte_written (place_at here at) (place_at here from) (place here i) (Int x) (Int m))).run script s)
       choice true f =
           let le : x ≤ a = leb-true x a h.fit in
           let lt : a < n = ltb-true a n f in

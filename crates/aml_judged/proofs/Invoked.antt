@@ -18,12 +18,13 @@ use Rattle.aml_judged.specs.Causes as causes
 use Rattle.aml_judged.specs.Known.{Env, within, Held, These, Different}
 use Rattle.aml_judged.specs.Judge as judge
 use Rattle.aml_judged.specs.Judge.{wanted, are_within, not_reaching, with_result, is_accepted, not_deep, judged_call, judged_invoked, judged_interface, holding_by, is_level, level_or, judged_levels, calling}
-use Rattle.aml_judged.specs.Judged.{NameKinds, Yield, Always, Sometimes, Never, Accepted, Seen, Around, Judged, Goes, Stops, Rule, then_judge, goes}
+use Rattle.aml_judged.specs.Judged.{NameKinds, Yield, Always, Sometimes, Never, Accepted, Seen, Judged, Goes, Stops, Rule, then_judge, goes}
 use Rattle.aml_judged.specs.KindRules.{interface_kind}
-use Rattle.aml_judged.proofs.FieldsSafe.{around_of, field_safe}
+use Rattle.aml_judged.proofs.Words.{words_of}
+use Rattle.aml_judged.proofs.FieldsSafe.{field_safe}
 use Rattle.aml_judged.proofs.BufferFieldsSafe.{buffer_field_safe}
 use Rattle.aml_judged.proofs.KindRules.{plain, interface_follows}
-use Rattle.aml_judged.specs.Safe.{FitScript, FitNames, IsOf, FitSlots, FitAll, FitsState, FitsYield, IsSafe, IsCalled, AreCalls, Allows, FitsHeld}
+use Rattle.aml_judged.specs.Safe.{FitScript, FitNames, FitSlots, FitAll, IsCalled, AreCalls, Allows, FitsHeld}
 use Rattle.aml_judged.proofs.Fits.{within_fits}
 use Rattle.aml_judged.proofs.Parts.{safe_then, after_safe}
 use Rattle.aml_judged.proofs.ReadsSafe.{lift_safe, content_safe, own_safe}
@@ -31,20 +32,7 @@ use Rattle.aml_meaning.specs.declared.mutex.TakenMutex.{TakenMutex}
 use Rattle.aml_judged.proofs.Levels.{level_allowed}
 
 module _ (here : Setting) (kinds : NameKinds) (callee : ℕ → Seen) (above : ℕ) (script : List Event) (slept : FitScript here.width kinds.shared script) (calls : AreCalls here.width kinds callee here.call) where
-  abbrev around : Around
-  around = around_of here kinds callee
-
-  abbrev Fine : Env → State → Type 0
-  Fine = FitsState here.width kinds above
-
-  abbrev Safe : {V K : Type 0} → (V → K → State → Type 0) → ℕ → Judged K → Out V → Type 0
-  Safe P before j o = IsSafe here.width kinds above P before j o
-
-  abbrev Is : Value → Kind → Type 0
-  Is = IsOf here.width
-
-  abbrev Yields : Option Value → Yield → Type 0
-  Yields = FitsYield here.width
+  open words_of here kinds callee above use {around, Fine, Safe, Is, Yields}
 
   -- rules that evaluate nothing
   abbrev Free : {K : Type 0} → (K → Type 0) → Env → Judged K → Type 0

@@ -4,33 +4,20 @@ use Rattle.std.specs.Prelude.{Bool, true, false}
 use Rattle.aml_values.specs.Values.{Value}
 use Rattle.aml_kinds.specs.Kinds.{Kind}
 use Rattle.aml_regions.specs.Events.{Event}
-use Rattle.aml_meaning.specs.State.{State, Returned, Broke, Continued, Out, Halts}
+use Rattle.aml_meaning.specs.State.{State, Returned, Broke, Continued, Halts}
 use Rattle.aml_meaning.specs.Parts.{stop_with, then_do}
 use Rattle.aml_meaning.specs.Mutexes.{ended_or, none_held}
 use Rattle.aml_meaning.specs.declared.mutex.TakenMutex.{TakenMutex}
 use Rattle.aml_meaning.specs.Meaning.{Setting, held}
 use Rattle.aml_judged.specs.Known.{Env, Held, These, Different}
 use Rattle.aml_judged.specs.Judge.{if_counts, returning, leaving, judged_none_held, none_held_at}
-use Rattle.aml_judged.specs.Judged.{NameKinds, Yield, Seen, Around, Judged, then_judge, no_exits}
-use Rattle.aml_judged.proofs.FieldsSafe.{around_of}
+use Rattle.aml_judged.specs.Judged.{NameKinds, Seen, then_judge, no_exits}
+use Rattle.aml_judged.proofs.Words.{words_of}
 use Rattle.aml_judged.proofs.KindRules.{plain}
-use Rattle.aml_judged.specs.Safe.{IsOf, FitsState, FitsYield, FitsExit, FitsReturn, IsSafe, FitsHeld}
+use Rattle.aml_judged.specs.Safe.{FitsExit, FitsReturn, FitsHeld}
 
 module _ (here : Setting) (kinds : NameKinds) (callee : ℕ → Seen) (above : ℕ) (script : List Event) where
-  abbrev around : Around
-  around = around_of here kinds callee
-
-  abbrev Fine : Env → State → Type 0
-  Fine = FitsState here.width kinds above
-
-  abbrev Safe : {V K : Type 0} → (V → K → State → Type 0) → ℕ → Judged K → Out V → Type 0
-  Safe P before j o = IsSafe here.width kinds above P before j o
-
-  abbrev Is : Value → Kind → Type 0
-  Is = IsOf here.width
-
-  abbrev Yields : Option Value → Yield → Type 0
-  Yields = FitsYield here.width
+  open words_of here kinds callee above use {around, Fine, Safe, Is, Yields}
 
   -- exits, where they count
   counted_return : (c : Bool) (k : Kind) (v : Value) → c ≡ true → Is v k → FitsReturn here.width (if_counts around c k) v

@@ -8,6 +8,7 @@ pub mod Integers
 pub mod Turns
 pub mod Shapes
 pub mod Loops
+pub mod Words
 pub mod FieldValues
 pub mod FieldsSafe
 pub mod IndexSafe

@@ -32,7 +32,7 @@ use Rattle.aml_judged.specs.Small.{IsSmallBy, IsSmall, AllSmall}
 use Rattle.aml_judged.specs.Bodies.{grown_kinds, unless_computed, first_kind_by, judged_data, judged_made, Made, Holding, Field, judged_own_source, judged_source, judged_field_made}
 use Rattle.aml_judged.proofs.Fits.{both, fits_by, in_range, in_greatest}
 use Rattle.aml_judged.proofs.Turns.{value_of}
-use Rattle.aml_judged.proofs.FieldsSafe.{around_of}
+use Rattle.aml_judged.proofs.Words.{around_of}
 use Rattle.aml_judged.proofs.Parts.{stop_left, stop_right}
 use Rattle.aml_judged.proofs.KindRules.{plain}
 use Rattle.std.specs.Option.{option_map}

@@ -13,7 +13,7 @@ use Rattle.aml_meaning.specs.declared.action.Action.{Action}
 use Rattle.aml_meaning.specs.declared.action.Action.TheVariants.{Local, Argument, Name, NoTarget}
 use Rattle.aml_meaning.specs.Actions.{action}
 use Rattle.aml_meaning.specs.State as state
-use Rattle.aml_meaning.specs.State.{State, Out}
+use Rattle.aml_meaning.specs.State.{State}
 use Rattle.aml_meaning.specs.Parts.{◌>>=◌, give, stop_with, lift, then_do, get_local, get_arg, get_name, content_or}
 use Rattle.aml_meaning.specs.declared.buffer_field.BufferField.{BufferField}
 use Rattle.aml_meaning.specs.Owns.{field_at, get_own, own_field}
@@ -23,31 +23,19 @@ use Rattle.aml_judged.specs.Causes.{Refusal}
 use Rattle.aml_judged.specs.Known.{Slot, Env}
 use Rattle.aml_judged.specs.Judge as judge
 use Rattle.aml_judged.specs.Judge.{wanted, judged_slot, judged_content, judged_name, judged_literal, judged_slot_seen, judged_content_seen, judged_name_seen, judged_seen, judged_size, judged_asked, judged_condition, judged_own, judged_own_seen}
-use Rattle.aml_judged.specs.Judged.{NameKinds, Yield, Always, Sometimes, Never, Seen, Around, Judged, goes, ruled}
+use Rattle.aml_judged.specs.Judged.{NameKinds, Yield, Always, Sometimes, Never, Seen, goes, ruled}
 use Rattle.aml_judged.specs.KindRules.{size_kind}
-use Rattle.aml_judged.proofs.FieldsSafe.{around_of, field_safe}
+use Rattle.aml_judged.proofs.Words.{words_of}
+use Rattle.aml_judged.proofs.FieldsSafe.{field_safe}
 use Rattle.aml_judged.proofs.BufferFieldsSafe.{buffer_field_safe}
 use Rattle.aml_judged.proofs.KindRules.{plain, Follows, truth_fits, size_follows}
-use Rattle.aml_judged.specs.Safe.{IsOf, FitSlots, FitsState, FitsYield, IsSafe}
+use Rattle.aml_judged.specs.Safe.{FitSlots}
 use Rattle.aml_judged.proofs.Fits.{HasFit, get_fits, name_fits}
 use Rattle.aml_judged.proofs.Parts.{safe_then}
 use Rattle.aml_meaning.specs.BufferFields.{usable_buffer_field}
 
 module _ (here : Setting) (kinds : NameKinds) (callee : ℕ → Seen) (above : ℕ) (script : List Event) where
-  abbrev around : Around
-  around = around_of here kinds callee
-
-  abbrev Fine : Env → State → Type 0
-  Fine = FitsState here.width kinds above
-
-  abbrev Safe : {V K : Type 0} → (V → K → State → Type 0) → ℕ → Judged K → Out V → Type 0
-  Safe P before j o = IsSafe here.width kinds above P before j o
-
-  abbrev Is : Value → Kind → Type 0
-  Is = IsOf here.width
-
-  abbrev Yields : Option Value → Yield → Type 0
-  Yields = FitsYield here.width
+  open words_of here kinds callee above use {around, Fine, Safe, Is, Yields}
 
   pub lift_safe : {V K : Type 0} (P : V → K → Type 0) (rk : Result K Refusal) (rv : Result V AmlError) (env : Env) (s : State) → Follows P rk rv → Fine env s → Safe (plain P) s.steps (ruled rk env) ((lift rv).run script s)
   unfolding give stop_with

@@ -26,13 +26,13 @@ use Rattle.aml_judged.specs.Causes as causes
 use Rattle.aml_judged.specs.Known.{Env}
 use Rattle.aml_judged.specs.Judge as judge
 use Rattle.aml_judged.specs.Judge.{judged_indexed, held_kind, judged_stored, judged_store, shape_of, number_of, judged_test, judged, judged_value, judged_act, judged_values, judged_all, judged_block, judged_otherwise, judged_untargeted, judged_dereferenced, judged_led, refusal, judged_taken, judged_released, not_defined}
-use Rattle.aml_judged.specs.Judged.{NameKinds, Yield, Seen, Around, Judged, Goes, Stops, Rule, then_judge, pays, goes, ruled, meet}
+use Rattle.aml_judged.specs.Judged.{NameKinds, Yield, Seen, Judged, Goes, Stops, Rule, then_judge, pays, goes, ruled, meet}
 use Rattle.aml_judged.specs.KindRules.{byte_written_kind, integer_kind, combined_kind, transformed_kind, negated_kind, divided_kind, converted_kind, concatenated_kind, notice_kind, led_kind, compared_kind}
-use Rattle.aml_judged.proofs.FieldsSafe.{around_of}
+use Rattle.aml_judged.proofs.Words.{words_of}
 use Rattle.aml_judged.proofs.IndexSafe.{SamePlace, indexed_safe, byte_safe}
 use Rattle.aml_judged.proofs.KindRules.{plain, IsBelow, IsNumber, le_test, integer_follows, combined_follows, compared_follows, transformed_follows, negated_follows, AreDivision, divided_follows, converted_follows, concatenated_follows, led_follows}
 use Rattle.aml_bounds.specs.Shapes.{is_operand}
-use Rattle.aml_judged.specs.Safe.{FitScript, IsOf, FitAll, FitsState, FitsYield, IsSafe, AreCalls, AreTame}
+use Rattle.aml_judged.specs.Safe.{FitScript, FitAll, AreCalls, AreTame}
 use Rattle.aml_judged.specs.Small.{IsSmallBy, IsSmall, AllSmall}
 use Rattle.aml_judged.proofs.Fits.{fits_by, in_range}
 use Rattle.aml_judged.proofs.Parts.{safe_then, tick_then, stepped, meet_left, meet_right}
@@ -54,20 +54,7 @@ use Rattle.aml_meaning.specs.declared.definition.Definition.TheVariants as makes
 use Rattle.aml_meaning.specs.Definitions.{definition}
 
 module _ (here : Setting) (kinds : NameKinds) (callee : ℕ → Seen) (above : ℕ) where
-  abbrev around : Around
-  around = around_of here kinds callee
-
-  abbrev Fine : Env → State → Type 0
-  Fine = FitsState here.width kinds above
-
-  abbrev Safe : {V K : Type 0} → (V → K → State → Type 0) → ℕ → Judged K → Out V → Type 0
-  Safe P before j o = IsSafe here.width kinds above P before j o
-
-  abbrev Is : Value → Kind → Type 0
-  Is = IsOf here.width
-
-  abbrev Yields : Option Value → Yield → Type 0
-  Yields = FitsYield here.width
+  open words_of here kinds callee above use {around, Fine, Safe, Is, Yields}
 
   abbrev SmallBy : Action → Trees → Type 0
   SmallBy = IsSmallBy here.width here.literal

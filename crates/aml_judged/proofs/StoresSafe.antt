@@ -12,7 +12,7 @@ use Rattle.aml_meaning.specs.declared.action.Action.{Action}
 use Rattle.aml_meaning.specs.declared.action.Action.TheVariants.{Debug, Local, Argument, Name, Dereference, NoTarget}
 use Rattle.aml_meaning.specs.Actions.{action}
 use Rattle.aml_meaning.specs.State as state
-use Rattle.aml_meaning.specs.State.{State, Out, with_steps}
+use Rattle.aml_meaning.specs.State.{State, with_steps}
 use Rattle.aml_meaning.specs.Parts as parts
 use Rattle.aml_meaning.specs.Parts.{◌>>=◌, give, tick, paid, take_step, set_local, set_arg, set_name, stored_or, may_store}
 use Rattle.aml_meaning.specs.declared.buffer_field.BufferField.{BufferField}
@@ -23,31 +23,18 @@ use Rattle.aml_judged.specs.Known as known
 use Rattle.aml_judged.specs.Known.{Env}
 use Rattle.aml_judged.specs.Judge as judge
 use Rattle.aml_judged.specs.Judge.{judged_into, judged_target, judged_put, judged_in_place, judged_placed, judged_own_stored}
-use Rattle.aml_judged.specs.Judged.{NameKinds, Yield, Seen, Around, Judged, pays, goes}
+use Rattle.aml_judged.specs.Judged.{NameKinds, Seen, pays, goes}
 use Rattle.aml_judged.specs.KindRules.{may_replace}
-use Rattle.aml_judged.proofs.FieldsSafe.{around_of, field_stored_safe}
+use Rattle.aml_judged.proofs.Words.{words_of}
+use Rattle.aml_judged.proofs.FieldsSafe.{field_stored_safe}
 use Rattle.aml_judged.proofs.BufferFieldsSafe.{buffer_field_stored_safe}
-use Rattle.aml_judged.specs.Safe.{IsOf, FitsState, FitsYield, IsSafe}
 use Rattle.aml_judged.proofs.Fits.{set_fits, may_be_stored, stored_names}
 use Rattle.aml_judged.proofs.Parts.{ticked, tick_then, stepped}
 use Rattle.aml_judged.proofs.Loops.{IsUnit}
 use Rattle.aml_meaning.specs.BufferFields.{usable_buffer_field}
 
 module _ (here : Setting) (kinds : NameKinds) (callee : ℕ → Seen) (above : ℕ) (script : List Event) where
-  abbrev around : Around
-  around = around_of here kinds callee
-
-  abbrev Fine : Env → State → Type 0
-  Fine = FitsState here.width kinds above
-
-  abbrev Safe : {V K : Type 0} → (V → K → State → Type 0) → ℕ → Judged K → Out V → Type 0
-  Safe P before j o = IsSafe here.width kinds above P before j o
-
-  abbrev Is : Value → Kind → Type 0
-  Is = IsOf here.width
-
-  abbrev Yields : Option Value → Yield → Type 0
-  Yields = FitsYield here.width
+  open words_of here kinds callee above use {around, Fine, Safe, Is}
 
   local_fits : (i : ℕ) (k : Kind) (env : Env) (v : Value) (s : State) → Is v k → Fine env s → Fine (known.with_local env i k) (parts.with_local s i v)
   local_fits i k env v s h fits = record { owned = fits.owned; fields = fits.fields; holds = fits.holds; callers = fits.callers; reached = fits.reached; own = set_fits here.width s.frame.locals env.locals i v k h fits.own; given = fits.given; shared = fits.shared }

@@ -18,31 +18,17 @@ use Rattle.aml_judged.specs.Causes.{Refusal}
 use Rattle.aml_judged.specs.Known.{Env}
 use Rattle.aml_judged.specs.Judge as judge
 use Rattle.aml_judged.specs.Judge.{narrowed_by, narrowed_act, narrowed, number_of, judged_test, judged_value}
-use Rattle.aml_judged.specs.Judged.{NameKinds, Yield, Seen, Around, Judged, Goes, Stops, then_judge, goes, ruled}
+use Rattle.aml_judged.specs.Judged.{NameKinds, Seen, Judged, Goes, Stops, then_judge, goes, ruled}
 use Rattle.aml_judged.specs.KindRules.{integer_kind}
-use Rattle.aml_judged.proofs.FieldsSafe.{around_of}
+use Rattle.aml_judged.proofs.Words.{words_of}
 use Rattle.aml_judged.proofs.KindRules.{plain, Follows, IsBelow, integer_follows}
-use Rattle.aml_judged.specs.Safe.{IsOf, FitsState, FitsYield, IsSafe}
 use Rattle.aml_judged.proofs.Fits.{lower_fits}
 use Rattle.aml_judged.proofs.Parts.{safe_then}
 use Rattle.aml_judged.proofs.Shapes.{OnGoes, BelowBy, BelowAct, BelowTree, test_tells}
 use Rattle.aml_judged.proofs.Loops.{Held}
 
 module _ (here : Setting) (kinds : NameKinds) (callee : ℕ → Seen) (above : ℕ) (script : List Event) where
-  abbrev around : Around
-  around = around_of here kinds callee
-
-  abbrev Fine : Env → State → Type 0
-  Fine = FitsState here.width kinds above
-
-  abbrev Safe : {V K : Type 0} → (V → K → State → Type 0) → ℕ → Judged K → Out V → Type 0
-  Safe P before j o = IsSafe here.width kinds above P before j o
-
-  abbrev Is : Value → Kind → Type 0
-  Is = IsOf here.width
-
-  abbrev Yields : Option Value → Yield → Type 0
-  Yields = FitsYield here.width
+  open words_of here kinds callee above use {around, Fine, Safe, Is}
 
   narrowed_by_fits : (a : Action) (o : Option ℕ) (env : Env) (s : State) → Fine env s → BelowBy around here refl a o s.frame → Fine (narrowed_by around a o env) s
   narrowed_by_fits (Local i) (Some (suc n)) env s f h = record { owned = f.owned; fields = f.fields; holds = f.holds; callers = f.callers; reached = f.reached; own = lower_fits here.width s.frame.locals env.locals i h.number n h.is h.below f.own; given = f.given; shared = f.shared }

@@ -6,7 +6,7 @@ use Rattle.std.proofs.lemmas.Nat.{pow-add}
 use Rattle.std.proofs.Math.Nat.{mod-eq_of_lt, add-mul-mod_self_right}
 use Rattle.aml_operators.specs.Tree.{Trees}
 use Rattle.aml_values.specs.Values.{Value, Int}
-use Rattle.aml_kinds.specs.Kinds.{Kind, IntUpTo}
+use Rattle.aml_kinds.specs.Kinds.{IntUpTo}
 use Rattle.aml_regions.specs.Events.{Event}
 use Rattle.aml_meaning.specs.State as state
 use Rattle.aml_meaning.specs.State.{State, Error, Returned, Broke, Continued, Out, Halts, NoAnswer, Spent}
@@ -17,11 +17,11 @@ use Rattle.aml_judged.specs.Causes.{Refusal}
 use Rattle.aml_judged.specs.Known.{Slot, Env, in_loop}
 use Rattle.aml_judged.specs.Judge as judge
 use Rattle.aml_judged.specs.Judge.{begun, comes_back, closed, once, once_ended, often, falling, judged_loop, refusal, past, exit_holds, holds_back}
-use Rattle.aml_judged.specs.Judged.{NameKinds, Yield, Seen, Around, Judged, Goes, Stops, Rule, after, then_judge, agreed}
-use Rattle.aml_judged.proofs.FieldsSafe.{around_of}
+use Rattle.aml_judged.specs.Judged.{NameKinds, Seen, Judged, Goes, Stops, Rule, after, then_judge, agreed}
 use Rattle.aml_bounds.specs.Loops.{steps, rises, falls}
 use Rattle.aml_bounds.specs.Shapes.{Shape, Once, Up, Down, Endless}
-use Rattle.aml_judged.specs.Safe.{IsOf, FitsState, FitsYield, IsSafe, AreTame}
+use Rattle.aml_judged.specs.Safe.{AreTame}
+use Rattle.aml_judged.proofs.Words.{words_of}
 use Rattle.aml_judged.proofs.Fits.{HasFit, get_fits, widened_slots_fit}
 use Rattle.aml_judged.proofs.Parts.{in_loop_fits}
 use Rattle.aml_judged.proofs.Tame.{are_calm}
@@ -42,20 +42,7 @@ wraps w x le lt =
     ap (λ n. n % 2 ^ w) (shift x (2 ^ 64) (2 ^ (64 - w) * 2 ^ w) p (omega arith)) ∙ add-mul-mod_self_right x (2 ^ (64 - w)) (2 ^ w) ∙ mod-eq_of_lt below
 
 module _ (here : Setting) (kinds : NameKinds) (callee : ℕ → Seen) (above : ℕ) (script : List Event) (tame : AreTame here.call) (narrow : here.width ≤ 64) where
-  abbrev around : Around
-  around = around_of here kinds callee
-
-  abbrev Fine : Env → State → Type 0
-  Fine = FitsState here.width kinds above
-
-  abbrev Safe : {V K : Type 0} → (V → K → State → Type 0) → ℕ → Judged K → Out V → Type 0
-  Safe P before j o = IsSafe here.width kinds above P before j o
-
-  abbrev Is : Value → Kind → Type 0
-  Is = IsOf here.width
-
-  abbrev Yields : Option Value → Yield → Type 0
-  Yields = FitsYield here.width
+  open words_of here kinds callee above use {around, Fine, Safe, Is}
 
   begun_fits : (ts : Trees) (env : Env) (s : State) → Fine env s → Fine (begun around ts env) s
   begun_fits ts env s f = record { owned = f.owned; fields = f.fields; holds = f.holds; callers = f.callers; reached = f.reached; own = widened_slots_fit here.width _ 0 s.frame.locals env.locals f.own; given = widened_slots_fit here.width _ 0 s.frame.args env.args f.given; shared = f.shared }
