@@ -8,11 +8,10 @@ mod values;
 mod whole;
 
 use acpi_listing::run;
+use acpi_samples::Narrow;
 use acpi_text::RunFault;
 use hex;
 use std::alloc::{AllocError, Global};
-use std::io;
-use std::io::Write;
 use std::test::Fail;
 
 // A field of 8 bits at bit 4 of a region, which a method writes; registers before it.
@@ -35,27 +34,6 @@ const MADT: &str =
 const TABLE_1: &str =
     "4453445430000000021f41435049434b524f57533030303101000000524f575301000000140b4d30303001a472680100";
 
-// Takes at most so many bytes at a time, and so many in all.
-#[derive(Drop)]
-struct Narrow {
-    text: Vec<u8>,
-    width: usize,
-    room: usize,
-}
-
-impl Write for Narrow {
-    fn write(&mut self, bytes: &[u8]) -> io::Result<usize> {
-        let n = bytes.len().min(self.width).min(self.room);
-        self.text.extend_from_slice(&bytes[..n])?;
-        self.room -= n;
-        Ok(n)
-    }
-
-    fn flush(&mut self) -> io::Result<()> {
-        Ok(())
-    }
-}
-
 // What the program writes, and how it ends.
 #[derive(Drop)]
 struct Answer {
@@ -65,11 +43,7 @@ struct Answer {
 
 // What the program answers to an input, by a writer of that width and room.
 fn told(alloc: Global, input: &str, width: usize, room: usize) -> Result<Answer, AllocError> {
-    let mut out = Narrow {
-        text: Vec::with_capacity(alloc, 4096)?,
-        width,
-        room,
-    };
+    let mut out = Narrow::new(alloc, width, room)?;
     let ended = run(alloc, &mut input.as_bytes(), &mut out);
     Ok(Answer {
         text: out.text,

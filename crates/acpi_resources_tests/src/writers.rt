@@ -3,40 +3,9 @@
 
 use acpi_resource_text::{list_resources, list_routes};
 use acpi_resources::{GlobalInterrupt, Item, Pin, Polarity, Route, Trigger, items};
+use acpi_samples::Narrow;
 use acpi_text::RunFault;
-use std::alloc::{AllocError, Global};
-use std::io;
-use std::io::Write;
 use std::test::Fail;
-
-// Takes at most so many bytes at a time, and so many in all.
-#[derive(Drop)]
-struct Narrow {
-    text: Vec<u8>,
-    width: usize,
-    room: usize,
-}
-
-impl Write for Narrow {
-    fn write(&mut self, bytes: &[u8]) -> io::Result<usize> {
-        let n = bytes.len().min(self.width).min(self.room);
-        self.text.extend_from_slice(&bytes[..n])?;
-        self.room -= n;
-        Ok(n)
-    }
-
-    fn flush(&mut self) -> io::Result<()> {
-        Ok(())
-    }
-}
-
-fn writer_of(alloc: Global, width: usize, room: usize) -> Result<Narrow, AllocError> {
-    Ok(Narrow {
-        text: Vec::with_capacity(alloc, 128)?,
-        width,
-        room,
-    })
-}
 
 const RESOURCES: &str = "irq 9 level low shared\nend\n";
 
@@ -58,11 +27,11 @@ fn route(address: u64, pin: Pin, number: u32) -> Route {
 fn resources(rt: HostRuntime) -> Result<(), Fail> {
     let alloc = rt.alloc();
     let found = items(alloc, &[0x23, 0, 2, 0x18, 0x79, 0])?;
-    let mut slow = writer_of(alloc, 1, 128)?;
+    let mut slow = Narrow::new(alloc, 1, 128)?;
     assert_eq!(rt; list_resources(alloc, &mut slow, &found), Ok(()));
     assert_eq!(rt; slow.text.as_slice(), RESOURCES.as_bytes());
     for room in 0..RESOURCES.len() {
-        let mut full = writer_of(alloc, 7, room)?;
+        let mut full = Narrow::new(alloc, 7, room)?;
         assert_eq!(rt;
             list_resources(alloc, &mut full, &found),
             Err(RunFault::Write)
@@ -76,11 +45,11 @@ fn resources(rt: HostRuntime) -> Result<(), Fail> {
 fn routes(rt: HostRuntime) -> Result<(), Fail> {
     let alloc = rt.alloc();
     let found = [route(0x1FFFF, Pin::A, 20), route(0x2FFFF, Pin::B, 17)];
-    let mut slow = writer_of(alloc, 1, 128)?;
+    let mut slow = Narrow::new(alloc, 1, 128)?;
     assert_eq!(rt; list_routes(alloc, &mut slow, &found), Ok(()));
     assert_eq!(rt; slow.text.as_slice(), ROUTES.as_bytes());
     for room in 0..ROUTES.len() {
-        let mut full = writer_of(alloc, 7, room)?;
+        let mut full = Narrow::new(alloc, 7, room)?;
         assert_eq!(rt; list_routes(alloc, &mut full, &found), Err(RunFault::Write));
         assert_eq!(rt; full.text.as_slice(), &ROUTES.as_bytes()[..room]);
     }

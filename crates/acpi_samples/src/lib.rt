@@ -1,9 +1,12 @@
-//! Tables and methods that tests of several crates read.
+//! Tables and methods that tests of several crates read, and a writer that fails.
 #![tactic(auto)]
 
 ghost use Rattle.std.specs.Prelude.{◌≡◌, IfOk, drop, length};
 
+mod narrow;
+
 use aml_namespace::Host;
+pub use narrow::Narrow;
 use std::alloc::{AllocError, Global};
 
 /// An operating system, and what `_OSI` knows of it.

@@ -1,8 +1,8 @@
 // The program as a whole: words at fault, and a standard output that fails.
 
-use super::Narrow;
 use super::calls::{LINE_1, Shelf};
 use acpi_listing::run_program;
+use acpi_samples::Narrow;
 use acpi_sources::{Fault, FaultCause};
 use std::alloc::{AllocError, Global};
 use std::fmt::Display;
@@ -37,11 +37,7 @@ fn ended(
     words: Result<Vec<String>, Fault>,
     room: usize,
 ) -> io::Result<(Vec<u8>, u8)> {
-    let narrow = Narrow {
-        text: Vec::new(alloc),
-        width: 4096,
-        room,
-    };
+    let narrow = Narrow::new(alloc, 4096, room)?;
     let mut out = BufWriter::new(alloc, narrow)?;
     let mut files = Shelf { alloc };
     let mut input = b"".as_slice();
