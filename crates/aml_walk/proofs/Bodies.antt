@@ -10,22 +10,21 @@ use Rattle.aml_meaning.specs.declared.mutex.TakenMutex.{TakenMutex}
 use Rattle.aml_judged.specs.Causes as cause
 use Rattle.aml_judged.specs.Known as known
 use Rattle.aml_judged.specs.Judged as judged
-use Rattle.aml_judged.specs.Judged.{Around, Judged, Rule, Stops, no_exits}
+use Rattle.aml_judged.specs.Judged.{Around, Judged, Rule, Stops}
 use Rattle.aml_judged.specs.Judge.{judged_none_held, none_held_at}
 use Rattle.aml_judged.specs.Bodies.{entry, judged_body, judged_method}
 use Rattle.aml_judged.specs.Verdicts.{Verdict, bounded, most_steps, none_left, result_of, verdict_of}
 use Rattle.aml_known.specs.declared.accepted.Yield.{Yield}
 use Rattle.aml_known.specs.declared.env.Env.{Env}
-use Rattle.aml_known.specs.declared.exits.Exits.{Exits}
 use Rattle.aml_known.specs.declared.known.Known.{Known}
-use Rattle.aml_known.specs.declared.locks.Locks.{Locks}
 use Rattle.aml_known.specs.declared.stop.Stop.{Stop}
 use Rattle.aml_known.specs.declared.stop.Stop.TheVariants as stop
-use Rattle.aml_known.specs.Views.{AreApart, CanBeRead, env_of, exits_of, kind_of, kinds_of, yield_of}
+use Rattle.aml_known.specs.Views.{AreApart, env_of, exits_of, kind_of, kinds_of, yield_of}
 use Rattle.aml_judging.specs.declared.progress.Progress.{Progress}
 use Rattle.aml_judging.specs.Views.{held_cost, standing}
 use Rattle.aml_judging.specs.Follows.{Goes, IsVerdict, Judges}
 use Rattle.aml_judging.proofs.Going.{stops_judge, then_judges}
+use Rattle.aml_walk.specs.Begins.{Begins}
 
 -- what is held at an end is told by the table alone
 abbrev still : ℕ → ℕ → Judged (Unit {0})
@@ -59,28 +58,6 @@ module _ (shapes : ℕ → Shape) (here : Around) (at : ℕ) (body : Trees) wher
   -- a body that stops
   pub body_judges : {old mid : Progress} (e : Stop) → Judges shapes (λ l (u : Unit {0}). u) (judged_body here body) old mid (Err e) → Judges shapes (λ l (u : Unit {0}). u) (judged_method here at body) old mid (Err e)
   body_judges e a = stops_judge {see = λ u. u} {m = judged_body here body} (λ u. judged_none_held here at) e a
-
--- where a method begins: nothing is left, and nothing paid for
-pub record Begins (shapes : ℕ → Shape) (args : List Known) (p : Progress) : Type 0 where
-  pub env : (lists : ℕ → List TakenMutex) → env_of shapes lists p.env ≡ entry (kinds_of shapes args)
-  pub exits : (lists : ℕ → List TakenMutex) → exits_of shapes lists p.exits ≡ no_exits
-  pub cost : p.cost ≡ 0
-  pub read : CanBeRead p.locks.takings.items
-
-pub begins : (shapes : ℕ → Shape) (args given : List Known) (env : Env) (exits : Exits) (locks : Locks) → given ≡ args → ((lists : ℕ → List TakenMutex) → env_of shapes lists env ≡ entry (kinds_of shapes given)) → ((lists : ℕ → List TakenMutex) → exits_of shapes lists exits ≡ no_exits) → CanBeRead locks.takings.items → Begins shapes args (record { env = env; exits = exits; cost = 0; locks = locks })
-begins shapes args given env exits locks same known nothing read = record {
-  env = λ lists. known lists ∙ ap (λ ks. entry (kinds_of shapes ks)) same;
-  exits = nothing;
-  cost = refl;
-  read = read;
-}
-
--- whether a body is left by a Break or a Continue
-pub left_first : (left first : Bool) (b c : Option Env) → first ≡ is_some b → first ≡ true → left ≡ first → left ≡ (is_some b || is_some c)
-left_first left first b c tells is e = e ∙ is ∙ ap (λ (x : Bool). x || is_some c) (sym is ∙ tells)
-
-pub left_second : (left first second : Bool) (b c : Option Env) → first ≡ is_some b → first ≡ false → second ≡ is_some c → left ≡ second → left ≡ (is_some b || is_some c)
-left_second left first second b c tells is also e = e ∙ also ∙ ap (λ (x : Bool). x || is_some c) (sym is ∙ tells)
 
 some_left : (see : Env → known.Env) (b c : Option Env) → (is_some b || is_some c) ≡ true → none_left (option_map see b) (option_map see c) ≡ false
 some_left see None None e = absurd cc

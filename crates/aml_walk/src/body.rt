@@ -1,6 +1,6 @@
 // A method's body: its own names, its statements one by one, and what they make of it.
 
-ghost use Rattle.std.specs.Prelude.{◌≡◌, ℕ, OnOk};
+ghost use Rattle.std.specs.Prelude.{◌≡◌, ◌||◌, ℕ, OnOk, is_some};
 ghost use Rattle.std.specs.Option.{option_map};
 ghost use Rattle.aml_kinds.specs.Kinds.{Shape};
 ghost use Rattle.aml_operators.specs.Tree.{view, views};
@@ -10,6 +10,7 @@ ghost use Rattle.aml_judged.specs.Verdicts.{result_of, verdict_of};
 ghost use Rattle.aml_known.specs.Views.{AreApart, kind_of, kinds_of, yield_of};
 ghost use Rattle.aml_judging.specs.Follows.{IsVerdict, Judges};
 ghost use Rattle.aml_judging.specs.Views.{made_of};
+ghost use Rattle.aml_walk.specs.Begins.{Begins};
 
 use crate::terms::acts::statement;
 use aml_causes::Cause;
@@ -65,6 +66,43 @@ fn statements<A: Around>(
     Ok(())
 }
 
+/// The statements of a method's body, and its end.
+fn method<A: Around>(
+    alloc: Global,
+    here: &mut A,
+    opcode: usize,
+    body: &[Term],
+    progress: &mut Progress,
+) -> Result<(), Stop>
+    ensures judges { Judges (A.numbered here.old) (λ lists u. u)
+        (judged_method (A.around here.old) opcode (views body.now))
+        progress.old progress.new result }
+    ensures table { OnOk result ((A.around here.new).table ≡ (A.around here.old).table) }
+    ensures shapes { A.numbered here.new ≡ A.numbered here.old }
+{
+    statements(alloc, here, body, progress)?;
+    none_held(here, opcode, progress)
+}
+
+/// Where a method begins, whose arguments are of these kinds.
+fn beginning(alloc: Global, args: &[Known]) -> Progress
+    ensures { (shapes : ℕ → Shape) → Begins shapes args.now result }
+{
+    Progress {
+        env: Env::new(args),
+        exits: Exits::new(),
+        cost: 0,
+        locks: Locks::new(alloc),
+    }
+}
+
+/// Whether a body is left by a Break or a Continue.
+fn is_left(exits: &Exits) -> bool
+    ensures { result ≡ (is_some exits.now.broke || is_some exits.now.continued) }
+{
+    exits.broke.is_some() || exits.continued.is_some()
+}
+
 /// What a method gives, by whether its end is reached and by its Returns.
 fn result_of(counts: bool, returned: Option<Known>) -> Yield
     ensures { (shapes : ℕ → Shape) → yield_of shapes result
@@ -94,17 +132,10 @@ pub fn judge<A: Around>(
         (judged_method (A.around here.old) opcode (views body.now)
         (entry (kinds_of (A.numbered here.old) args.items)))) result }
 {
-    let mut progress = Progress {
-        env: Env::new(&args),
-        exits: Exits::new(),
-        cost: 0,
-        locks: Locks::new(alloc),
-    };
-    statements(alloc, here, body, &mut progress)?;
-    none_held(here, opcode, &progress)?;
+    let mut progress = beginning(alloc, &args);
+    method(alloc, here, opcode, body, &mut progress)?;
     let exits = progress.exits;
-    let leaves = exits.broke.is_some() || exits.continued.is_some();
-    if !short || leaves || progress.cost >= MOST_STEPS {
+    if !short || is_left(&exits) || progress.cost >= MOST_STEPS {
         return Err(Stop::Refused(refusal(here, Cause::BoundTooLarge, opcode)));
     }
     Ok(Accepted {
