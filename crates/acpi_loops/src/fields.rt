@@ -1,6 +1,6 @@
 // A field of 8 bits in the midst of a unit, read and written again and again.
 
-use crate::one_field::{KeptUnit, ReadUnit};
+use crate::one_field::Unit;
 use aml_fields::{read_integer_field, sound, write_field};
 use aml_regions::{AnyField, FieldLayout, OtherBits, RegionField, UnitWidth};
 
@@ -22,10 +22,7 @@ fn field(at: u64) -> AnyField {
 
 /// The field's integer, once a turn, summed up.
 pub(crate) fn read_again(turns: u64) -> Option<u64> {
-    let mut world = ReadUnit {
-        reads: 0,
-        refused: 0,
-    };
+    let mut world = Unit::<false>::new(0);
     let field = field(4);
     if !sound(&field) || field.layout().bits > 64 {
         return None;
@@ -42,12 +39,7 @@ pub(crate) fn read_again(turns: u64) -> Option<u64> {
 
 /// The field is given an integer, once a turn; how many turns the world took.
 pub(crate) fn write_again(turns: u64) -> Option<u64> {
-    let mut world = KeptUnit {
-        written: 0xac3a,
-        turns: 0,
-        is_read: false,
-        refused: 0,
-    };
+    let mut world = Unit::<true>::new(0xac3a);
     let field = field(4);
     if !sound(&field) {
         return None;
