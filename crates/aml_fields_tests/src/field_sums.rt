@@ -74,19 +74,17 @@ impl World for Spread {
         self.make(Event::Written(access, value))
     }
 
-    fn notify(&mut self, _object: ObjectId, _value: u64) -> Result<(), NoMemory> {
-        self.refused = self.refused.saturating_add(1);
-        Err(NoMemory)
+    fn notify(&mut self, object: ObjectId, value: u64) -> Result<(), NoMemory> {
+        self.make(Event::Notified(object, value))
     }
 
-    fn sleep(&mut self, _milliseconds: u64, _names: &mut Names) -> Result<(), NoMemory> {
-        self.refused = self.refused.saturating_add(1);
-        Err(NoMemory)
+    fn sleep(&mut self, milliseconds: u64, names: &mut Names) -> Result<(), NoMemory> {
+        let _ = names;
+        self.make(Event::Slept(milliseconds, None))
     }
 
-    fn stall(&mut self, _microseconds: u64) -> Result<(), NoMemory> {
-        self.refused = self.refused.saturating_add(1);
-        Err(NoMemory)
+    fn stall(&mut self, microseconds: u64) -> Result<(), NoMemory> {
+        self.make(Event::Stalled(microseconds))
     }
 }
 

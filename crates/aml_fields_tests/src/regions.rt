@@ -1,51 +1,14 @@
-// Worlds that answer accesses: the register file, and one that refuses every call. Expected values
-// were worked out by hand.
+// Worlds that answer accesses: the register file, one of ones alone, and one that refuses every call.
+// Expected values were worked out by hand.
 
-ghost use Rattle.std.specs.Prelude.{◌<◌, ◌^◌, []};
+ghost use Rattle.std.specs.Prelude.{◌<◌, ◌^◌};
 ghost use Rattle.aml_regions.specs.Worlds.{IsUnit};
 
 use aml_contents::Names;
 use aml_paths::{NoMemory, ObjectId};
-use aml_regions::{Access, AllOnes, Event, RegisterFile, RegistersFault, World};
+use aml_regions::{Access, AllOnes, Event, Refusing, RegisterFile, RegistersFault, World};
 use std::alloc::Global;
 use std::test::Fail;
-
-/// A world that refuses every call.
-#[derive(Drop)]
-struct Refusing {
-    refused: u64,
-}
-
-impl World for Refusing {
-    ghost log = { λ _. [] };
-
-    ghost refusals = { λ world. world.refused };
-
-    fn read(&mut self, _access: Access) -> Result<u64, NoMemory> {
-        self.refused = self.refused.saturating_add(1);
-        Err(NoMemory)
-    }
-
-    fn write(&mut self, _access: Access, _value: u64) -> Result<(), NoMemory> {
-        self.refused = self.refused.saturating_add(1);
-        Err(NoMemory)
-    }
-
-    fn notify(&mut self, _object: ObjectId, _value: u64) -> Result<(), NoMemory> {
-        self.refused = self.refused.saturating_add(1);
-        Err(NoMemory)
-    }
-
-    fn sleep(&mut self, _milliseconds: u64, _names: &mut Names) -> Result<(), NoMemory> {
-        self.refused = self.refused.saturating_add(1);
-        Err(NoMemory)
-    }
-
-    fn stall(&mut self, _microseconds: u64) -> Result<(), NoMemory> {
-        self.refused = self.refused.saturating_add(1);
-        Err(NoMemory)
-    }
-}
 
 /// An event, but of a Sleep only whether it left other contents.
 #[derive(Clone, Copy, Debug, PartialEq, Eq)]
@@ -160,11 +123,11 @@ fn each_call_makes_its_event(rt: HostRuntime) -> Result<(), Fail> {
 
 #[test]
 fn refusals_are_counted(rt: HostRuntime) -> Result<(), Fail> {
-    let mut world = Refusing { refused: 0 };
+    let mut world = Refusing::new(AllOnes::new(rt.alloc()), 0);
     assert_eq!(rt; written_and_read(&mut world, LAST_BYTE, 1), Err(NoMemory));
     let mut names = Names::new(rt.alloc());
     assert_eq!(rt; world.sleep(1, &mut names), Err(NoMemory));
-    assert_eq!(rt; world.refused, 2);
+    assert_eq!(rt; world.refusals(), 2);
     Ok(())
 }
 
