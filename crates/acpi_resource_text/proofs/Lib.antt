@@ -1,2 +1,1 @@
 pub mod Irqs
-pub mod Listed

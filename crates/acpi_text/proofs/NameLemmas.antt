@@ -1,5 +1,5 @@
 -- Laws of lines that are printed one after the other.
-use Rattle.std.proofs.Common.{◌≡◌, ◌+◌, ◌<◌, ℕ, zero, suc, List, [], ◌∷◌, ◌++◌, Some, slice_get, get_or, length, drop, refl, ap, add-one, drop-cons, arith}
+use Rattle.std.proofs.Common.{◌≡◌, ◌+◌, ◌<◌, ℕ, zero, suc, List, [], ◌∷◌, ◌++◌, Some, slice_get, get_or, length, drop, refl, sym, ◌∙◌, ap, add-one, drop-cons, arith}
 use Rattle.std.specs.List.{flat_map}
 use Rattle.aml_paths.proofs.Positions.{drop_from}
 
@@ -18,3 +18,8 @@ next_text text xs i x there = ap (flat_map text) (drop_from xs i x there)
 pub next_item : {X : Type 0} (text : X → List ℕ) (xs : List X) (i : ℕ) (d : X) → i < length xs
     → flat_map text (drop i xs) ≡ text (get_or xs i d) ++ flat_map text (drop (i + 1) xs)
 next_item text xs i d within = rw add-one (ap (flat_map text) (drop-cons xs i d within))
+
+-- and of one that is held apart
+pub next_held : {X : Type 0} (text : X → List ℕ) (xs : List X) (i : ℕ) (x : X) → i < length xs → x ≡ get_or xs i x
+    → flat_map text (drop i xs) ≡ text x ++ flat_map text (drop (i + 1) xs)
+next_held text xs i x within is = next_item text xs i x within ∙ ap (λ e. text e ++ flat_map text (drop (i + 1) xs)) (sym is)

@@ -1,8 +1,8 @@
-use Rattle.std.proofs.Common.{◌≡◌, ◌++◌, ℕ, List, drop}
+use Rattle.std.proofs.Common.{drop}
 use Rattle.std.specs.List.{flat_map}
-use Rattle.std.specs.Io.KnownBytes.{Appends}
 use Rattle.acpi_text.specs.Events.{events_text}
 use Rattle.acpi_text.proofs.EventLemmas.{told_line}
+use Rattle.acpi_text.proofs.Listing.{Listed}
 use Rattle.aml_regions.specs.EventViews.{events_of}
 use Rattle.aml_namespace.specs.Shows.{shown}
 use Rattle.acpi_text.proofs.events.list_events.Given as goal
@@ -11,5 +11,5 @@ use Rattle.acpi_text.proofs.events.list_events.Given as goal
 abbrev pub invariant-loop-event : goal.invariant-loop-event
 invariant-loop-event g l =
     let entries = (shown l.namespace).entries in
-    (done : List ℕ) × (events_text entries (events_of l.events) ≡ done ++ flat_map (told_line entries) (drop l.event-index l.events))
-    × Appends (g.W.Write.contents l.initial.out) (g.W.Write.contents l.out) done
+    Listed (events_text entries (events_of l.events)) (flat_map (told_line entries) (drop l.event-index l.events))
+    (g.W.Write.contents l.initial.out) (g.W.Write.contents l.out)

@@ -4,4 +4,4 @@ use Rattle.acpi_text.proofs.Listing.{took}
 use Rattle.acpi_text.proofs.writing.put.Goals as goal
 
 pub loop-rest-preserved : goal.loop-rest-preserved
-loop-rest-preserved g c = took _ _ _ _ _ _ _ _ c.loop-rest.invariant.1 c.loop-rest.invariant.2 c.in-Ok.ensures.bytes (grind (arith, common_steps))
+loop-rest-preserved g c = took _ _ c.loop-rest.invariant c.in-Ok.ensures.bytes (grind (arith, common_steps))
