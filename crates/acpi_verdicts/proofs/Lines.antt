@@ -1,16 +1,12 @@
 -- Laws of lines that are told one after the other, and of how files are called.
-use Rattle.std.proofs.Common.{◌≡◌, ◌+◌, ◌-◌, ◌<◌, ◌≤◌, ℕ, zero, suc, List, [], ◌++◌, Bool, true, false, Option, Some, None, Result, Bor, map, length, drop, get_or, slice_get, refl, sym, ap, ◌∙◌, append_assoc, arith}
+use Rattle.std.proofs.Common.{◌≡◌, ◌+◌, ◌-◌, ◌<◌, ◌≤◌, ℕ, zero, suc, List, [], ◌++◌, Bool, true, false, Some, None, Result, Bor, map, length, get_or, slice_get, refl, sym, ap, ◌∙◌, append_assoc, arith}
 use Rattle.std.specs.Prelude.{IfOk, codes, decimal, if◌then◌else◌}
 use Rattle.std.specs.Bool.{Decides}
-use Rattle.std.specs.Io.KnownBytes.{Appends}
-use Rattle.std.specs.List.{flat_map}
 use Rattle.std.specs.Option.{option_map, option_map_or}
 use Rattle.std.specs.Str.{bytes_eq}
-use Rattle.std.proofs.KnownBytes.{Appends-trans}
 use Rattle.std.proofs.lemmas.Option.{slice_get-get_or, slice_get-map, slice_get_past}
 use Rattle.std.proofs.lemmas.Slice.Eq.{bytes_eq-Decides}
 use Rattle.acpi_notes.specs.Label.{line_label}
-use Rattle.acpi_text.proofs.NameLemmas.{next_item}
 use Rattle.acpi_verdicts.specs.Explained.{chain_text, label_of, next_of, reason_text}
 use Rattle.aml_paths.specs.declared.scope.ObjectId.{ObjectId}
 use Rattle.aml_verify.specs.declared.checked.Checked.{Checked}
@@ -22,25 +18,6 @@ three_behind a b c d first second third e f g =
     g ∙ ap (λ t. t ++ third) (f ∙ ap (λ t. t ++ second) e)
     ∙ append_assoc (a ++ first) second third
     ∙ append_assoc a first (second ++ third)
-
--- the line of one element more was appended
-pub line_more : {X : Type 0} (text : X → List ℕ) (items : List X) (i : ℕ) (d : X) (whole : List ℕ) (a b c : Option (List ℕ))
-    → i < length items
-    → ((done : List ℕ) × (whole ≡ done ++ flat_map text (drop i items)) × Appends a b done)
-    → Appends b c (text (get_or items i d))
-    → (done : List ℕ) × (whole ≡ done ++ flat_map text (drop (i + 1) items)) × Appends a c done
-line_more text items i d whole a b c within (done, is, before) line = (
-  done ++ text (get_or items i d),
-  is ∙ ap (λ left. done ++ left) (next_item text items i d within)
-      ∙ sym (append_assoc done (text (get_or items i d)) (flat_map text (drop (i + 1) items))),
-  Appends-trans a b c done (text (get_or items i d)) before line,
-)
-
--- the text of the elements that are left, with that of the next
-pub line_next : {X : Type 0} (text : X → List ℕ) (items : List X) (i : ℕ) (d : X) (whole done : List ℕ)
-    → i < length items → whole ≡ done ++ flat_map text (drop i items)
-    → whole ≡ done ++ (text (get_or items i d) ++ flat_map text (drop (i + 1) items))
-line_next text items i d whole done within is = is ∙ ap (λ left. done ++ left) (next_item text items i d within)
 
 -- a name that is handed in stands at its number
 pub name_there : (names : List (Bor (List ℕ))) (k : ℕ) (name : Bor (List ℕ)) → k < length names → name ≡ get_or names k name
