@@ -6,7 +6,7 @@ use Rattle.acpi_notes.specs.Label.{line_label}
 use Rattle.acpi_notes.specs.Tree.{tree_note}
 use Rattle.acpi_text.specs.Text.{joined}
 use Rattle.acpi_text.specs.Verdicts.{cause_text}
-use Rattle.acpi_verdicts.specs.Findings.{finding_text}
+use Rattle.acpi_verdicts.specs.Findings.{told_text}
 use Rattle.acpi_verdicts.specs.Verdicts.{said_of}
 use Rattle.acpi_verdicts.specs.Words.{cause_words}
 use Rattle.aml_causes.specs.declared.cause.Cause.{Cause}
@@ -17,7 +17,6 @@ use Rattle.aml_namespace.specs.Bodies.{bytes_of}
 use Rattle.aml_namespace.specs.Load.{Shown}
 use Rattle.aml_namespace.specs.Names.{link_at}
 use Rattle.aml_namespace.specs.Shows.{shown}
-use Rattle.aml_objects.specs.Widths.{bits_of}
 use Rattle.aml_namespace.specs.declared.link.Link.{Link}
 use Rattle.aml_namespace.specs.declared.link.Link.TheVariants as link
 use Rattle.aml_path_text.specs.Paths.{path_of}
@@ -65,7 +64,7 @@ abbrev pub refused_part : Shown → List ℕ → Refusal → Finding → List �
 refused_part ns label refusal finding =
     refused_place label refusal
     ++ (standing_text (bytes_of ns.tables refusal.table) refusal.at
-    ++ (codes ": " ++ (cause_words refusal.why ++ finding_text (bits_of ns.width) finding)))
+    ++ (codes ": " ++ (cause_words refusal.why ++ told_text ns finding)))
 
 -- the line of a method that is refused for a cause
 abbrev pub refused_text : Shown → List ℕ → ObjectId → Refusal → Finding → List ℕ

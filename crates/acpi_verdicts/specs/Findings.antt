@@ -15,6 +15,11 @@ use Rattle.aml_known.specs.declared.accepted.Yield.{Yield}
 use Rattle.aml_known.specs.declared.accepted.Yield.TheVariants as yield
 use Rattle.aml_known.specs.declared.known.Known.{Known}
 use Rattle.aml_known.specs.declared.known.Known.TheVariants as known
+use Rattle.aml_namespace.specs.Load.{Shown}
+use Rattle.aml_objects.specs.Widths.{bits_of}
+use Rattle.aml_path_text.specs.Paths.{path_of}
+use Rattle.aml_paths.specs.Printed.{path_text}
+use Rattle.aml_paths.specs.declared.scope.ObjectId.{ObjectId}
 
 -- the kind of integers up to one, where integers have so many bits
 unfoldable pub integer_text : ℕ → ℕ → List ℕ
@@ -102,9 +107,11 @@ unfoldable pub turn_text : ℕ → NumberedSlot → Known → Option Known → L
 turn_text bits which began ends =
     joined (codes ": found " ∷ end_text bits ends ∷ codes " in " ∷ slot_text which ∷ codes " where a turn ends, wanted " ∷ kind_text bits began ∷ codes " as where it began" ∷ [])
 
--- what was found and what was wanted, behind a colon
+-- what was found and what was wanted, behind a colon, where no object's path is told
 unfoldable pub finding_text : ℕ → Finding → List ℕ
 finding_text bits finding.Nothing = []
+finding_text bits (finding.Released mutex last) = []
+finding_text bits (finding.StillHeld last) = []
 finding_text bits (finding.Other what instead) = other_text bits what instead
 finding_text bits (finding.Index greatest (Some length)) =
     joined (codes ": found an index up to " ∷ decimal greatest ∷ codes ", wanted one below " ∷ decimal length ∷ [])
@@ -119,3 +126,23 @@ finding_text bits (finding.Given given) = given_text bits given
 finding_text bits (finding.Turn which began ends) = turn_text bits which began ends
 finding_text bits (finding.Level taken held) =
     joined (codes ": found level " ∷ decimal taken ∷ codes ", wanted " ∷ decimal held ∷ codes " or more" ∷ [])
+
+-- the path of an object
+abbrev pub object_path : Shown → ObjectId → List ℕ
+object_path ns id = path_text (path_of ns.entries id.0)
+
+-- a mutex that is released, and the one that was taken last, if any is held
+abbrev pub released_text : Shown → ObjectId → Option ObjectId → List ℕ
+released_text ns mutex (Some last) =
+    codes ": found a release of " ++ object_path ns mutex ++ codes ", wanted one of " ++ object_path ns last ++ codes ", the last taken of those held"
+released_text ns mutex None = codes ": found a release of " ++ object_path ns mutex ++ codes ", wanted none where no mutex is held"
+
+-- the mutex that was taken last of those that are still held
+abbrev pub still_held_text : Shown → ObjectId → List ℕ
+still_held_text ns last = codes ": found " ++ object_path ns last ++ codes " still held, wanted no mutex held"
+
+-- what was found and what was wanted, behind a colon
+abbrev pub told_text : Shown → Finding → List ℕ
+told_text ns (finding.Released mutex last) = released_text ns mutex last
+told_text ns (finding.StillHeld last) = still_held_text ns last
+told_text ns other = finding_text (bits_of ns.width) other

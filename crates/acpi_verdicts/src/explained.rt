@@ -4,7 +4,7 @@ ghost use Rattle.std.specs.Prelude.{◌≡◌, ◌++◌, IfOk, OnOk, map, string
 ghost use Rattle.acpi_verdicts.specs.Explained.{asks_callee, called_at, callee_told, chain_text, label_of, next_of, reason_text, refused_part, refused_place, refused_text, rest_text, unreadable_label, unreadable_text};
 ghost use Rattle.aml_namespace.specs.Shows.{shown};
 
-use crate::findings::finding_text;
+use crate::findings::push_finding;
 use crate::words::cause_words;
 use acpi_notes::{TreePlace, file_label, tree_note};
 use acpi_text::{RunFault, cause_text};
@@ -178,9 +178,7 @@ fn push_cause(
     push_standing(text, namespace.table_bytes(refusal.table), refusal.at)?;
     text.extend_from_slice(b": ")?;
     text.extend_from_slice(cause_words(refusal.why).as_bytes())?;
-    let finding = finding_text(alloc, namespace.width(), finding)?;
-    text.extend_from_slice(finding.as_bytes())?;
-    Ok(())
+    push_finding(alloc, text, namespace, finding)
 }
 
 // A cause and its place.

@@ -1,25 +1,87 @@
 // What rules found where they refuse and what they wanted, in words: kinds as `--kinds` has them.
 
-ghost use Rattle.std.specs.Prelude.{◌≡◌, IfOk, string_bytes};
+ghost use Rattle.std.specs.Prelude.{◌≡◌, ◌++◌, IfOk, OnOk, string_bytes};
 ghost use Rattle.acpi_verdicts.specs.Findings as spec;
+ghost use Rattle.aml_namespace.specs.Shows.{shown};
 ghost use Rattle.aml_objects.specs.Widths.{bits_of};
 
+use acpi_text::RunFault;
 use aml_judging::{Finding, Found, NumberedSlot, Sort, Wanted};
 use aml_known::{Known, Yield};
-use aml_namespace::Width;
+use aml_namespace::{Namespace, Width};
+use aml_path_text::push_path;
+use aml_paths::ObjectId;
 use std::alloc::{AllocError, Global};
 
-/// What was found and what was wanted, behind a colon; nothing where the cause tells all.
-#[tactic(auto, unfolding(crate::specs::Findings::finding_text))]
-pub(crate) fn finding_text(
+/// Adds what was found and what was wanted, behind a colon; nothing where the cause tells all.
+pub(crate) fn push_finding(
     alloc: Global,
-    width: Width,
+    text: &mut Vec<u8>,
+    namespace: &Namespace<'_>,
     finding: Finding,
-) -> Result<String, AllocError>
+) -> Result<(), RunFault>
+    ensures { OnOk result
+        (text.new.items ≡ text.old.items ++ spec.told_text (shown namespace.now) finding) }
+{
+    match finding {
+        Finding::Released { mutex, last } => push_released(alloc, text, namespace, mutex, last),
+        Finding::StillHeld { last } => push_still_held(alloc, text, namespace, last),
+        _ => {
+            let words = finding_text(alloc, namespace.width(), finding)?;
+            text.extend_from_slice(words.as_bytes())?;
+            Ok(())
+        }
+    }
+}
+
+// Adds a mutex that is released, and the one that was taken last, if any is held.
+fn push_released(
+    alloc: Global,
+    text: &mut Vec<u8>,
+    namespace: &Namespace<'_>,
+    mutex: ObjectId,
+    last: Option<ObjectId>,
+) -> Result<(), RunFault>
+    ensures { OnOk result (text.new.items
+        ≡ text.old.items ++ spec.released_text (shown namespace.now) mutex last) }
+{
+    text.extend_from_slice(b": found a release of ")?;
+    push_path(alloc, text, namespace, mutex)?;
+    let Some(last) = last else {
+        text.extend_from_slice(b", wanted none where no mutex is held")?;
+        return Ok(());
+    };
+    text.extend_from_slice(b", wanted one of ")?;
+    push_path(alloc, text, namespace, last)?;
+    text.extend_from_slice(b", the last taken of those held")?;
+    Ok(())
+}
+
+// Adds the mutex that was taken last of those that are still held.
+fn push_still_held(
+    alloc: Global,
+    text: &mut Vec<u8>,
+    namespace: &Namespace<'_>,
+    last: ObjectId,
+) -> Result<(), RunFault>
+    ensures { OnOk result
+        (text.new.items ≡ text.old.items ++ spec.still_held_text (shown namespace.now) last) }
+{
+    text.extend_from_slice(b": found ")?;
+    push_path(alloc, text, namespace, last)?;
+    text.extend_from_slice(b" still held, wanted no mutex held")?;
+    Ok(())
+}
+
+// What was found and what was wanted, where no object's path is told.
+#[tactic(auto, unfolding(crate::specs::Findings::finding_text))]
+fn finding_text(alloc: Global, width: Width, finding: Finding) -> Result<String, AllocError>
     ensures { IfOk result (λ text. string_bytes text ≡ spec.finding_text (bits_of width) finding) }
 {
     match finding {
-        Finding::Nothing => format!(in alloc; ""),
+        Finding::Nothing | Finding::Released { .. } | Finding::StillHeld { .. } => {
+            format!(in alloc; "")
+        }
         Finding::Other { found, wanted } => other_text(alloc, width, found, wanted),
         Finding::Index {
             greatest,

@@ -1,15 +1,20 @@
 -- What rules find where they refuse is not what was wanted.
-use Rattle.std.proofs.Common.{◌≡◌, ℕ, false, refl, arith}
-use Rattle.std.specs.Prelude.{◌==◌, IsErr, not}
+use Rattle.std.proofs.Common.{◌≡◌, ℕ, List, [], ◌∷◌, Bool, true, false, Option, Some, None, Ok, refl, arith}
+use Rattle.std.specs.Prelude.{◌==◌, IsErr, if◌then◌else◌, not}
+use Rattle.std.specs.List.{last_or}
+use Rattle.std.specs.Option.{option_map}
 use Rattle.aml_kinds.specs.Kinds.{Shape}
+use Rattle.aml_meaning.specs.Mutexes.{without_last}
 use Rattle.aml_meaning.specs.Rules.{Place}
 use Rattle.aml_meaning.specs.declared.action.Comparison.TheVariants as comparison
 use Rattle.aml_meaning.specs.declared.action.Conversion.TheVariants as conversion
+use Rattle.aml_meaning.specs.declared.mutex.TakenMutex.{TakenMutex}
 use Rattle.aml_judged.specs.KindRules.{buffer_integer, compared_kind}
 use Rattle.aml_known.specs.declared.known.Known.{Known}
 use Rattle.aml_known.specs.declared.known.Known.TheVariants as known
 use Rattle.aml_known.specs.Views.{kind_of}
-use Rattle.aml_judging.specs.Finds.{CombinedAreUnmet, ComparedAreUnmet, ConcatenatedAreUnmet, ConvertedAreUnmet, IntegersAreUnmet, IsUnmet, equal_finding, integers_finding}
+use Rattle.aml_paths.specs.declared.scope.ObjectId.{ObjectId}
+use Rattle.aml_judging.specs.Finds.{CombinedAreUnmet, ComparedAreUnmet, ConcatenatedAreUnmet, ConvertedAreUnmet, IntegersAreUnmet, IsUnmet, ReleasedAreUnmet, StillHeldAreTold, equal_finding, integers_finding, released_finding}
 
 pub integers_are_unmet : IntegersAreUnmet
 integers_are_unmet shapes p (known.Int n) h = cc
@@ -112,3 +117,23 @@ converted_are_unmet shapes width conversion.ToInteger op p (known.Str n) h = ref
 converted_are_unmet shapes width conversion.ToInteger op p (known.Pkg n) h = refl
 converted_are_unmet shapes width conversion.ToInteger op p known.AnyPkg h = refl
 converted_are_unmet shapes width conversion.ToInteger op p known.Mixed h = refl
+
+-- one mutex that is not released is another
+another : (b : Bool) (left : List TakenMutex) → (if b then Some left else None) ≡ None → b ≡ false
+another true left e = cc
+another false left e = refl
+
+-- where nothing is left of a list, nothing is left of what stands behind its first
+none_behind : (m : TakenMutex) (o : Option (List TakenMutex)) → option_map (λ rest. m ∷ rest) o ≡ None → o ≡ None
+none_behind m None e = refl
+none_behind m (Some rest) e = cc
+
+pub released_are_unmet : ReleasedAreUnmet
+released_are_unmet shapes mutex [] e = tt
+released_are_unmet shapes mutex (m ∷ []) e = another (m.object.0 == mutex.0) [] e
+released_are_unmet shapes mutex (m ∷ n ∷ ms) e =
+    released_are_unmet shapes mutex (n ∷ ms) (none_behind m (without_last mutex.0 (n ∷ ms)) e)
+
+pub still_held_are_told : StillHeldAreTold
+still_held_are_told first [] = tt
+still_held_are_told first (m ∷ ms) = still_held_are_told m ms

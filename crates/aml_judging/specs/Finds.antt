@@ -1,6 +1,8 @@
 -- What rules find where they refuse, and what was wanted there, in the words of the rules. Tables
 -- say what is told of which operands; the rules themselves are those of aml_judged.
-use Rattle.std.specs.Prelude.{◌≡◌, ℕ, ◌+◌, ◌-◌, ◌*◌, ◌^◌, ◌==◌, ◌<◌, ◌⊎◌, nat_le, nat_lt, min, not, List, Bool, true, false, if◌then◌else◌, Option, Some, None, IsErr, slice_get}
+use Rattle.std.specs.Prelude.{◌≡◌, ℕ, ◌+◌, ◌-◌, ◌*◌, ◌^◌, ◌==◌, ◌<◌, ◌⊎◌, nat_le, nat_lt, min, not, List, ◌∷◌, Bool, true, false, if◌then◌else◌, Option, Some, None, Result, Ok, Err, IsErr, slice_get}
+use Rattle.std.specs.List.{last_or}
+use Rattle.std.specs.Option.{option_map}
 use Rattle.aml_namespace.specs.declared.link.Link.{Link}
 use Rattle.aml_namespace.specs.declared.link.Link.TheVariants as link
 use Rattle.aml_objects.specs.declared.object.Object.{Object}
@@ -13,6 +15,7 @@ use Rattle.aml_meaning.specs.declared.action.Comparison.TheVariants as compariso
 use Rattle.aml_meaning.specs.declared.mutex.TakenMutex.{TakenMutex}
 use Rattle.aml_meaning.specs.declared.buffer_field.BufferField.{BufferField}
 use Rattle.aml_meaning.specs.BufferFields.{first_bit}
+use Rattle.aml_meaning.specs.Mutexes.{without_last}
 use Rattle.aml_meaning.specs.Owns.{field_at}
 use Rattle.aml_meaning.specs.Rules.{Place}
 use Rattle.aml_kinds.specs.Kinds.{Kind, BufOf, Shape, places}
@@ -23,6 +26,8 @@ use Rattle.aml_known.specs.declared.env.Env.{Env}
 use Rattle.aml_known.specs.declared.known.Known.{Known}
 use Rattle.aml_known.specs.declared.known.Known.TheVariants as known
 use Rattle.aml_known.specs.Views.{env_of, held_kind, kind_of, slot_of, slots_of}
+use Rattle.aml_paths.specs.declared.memory.NoMemory.{NoMemory}
+use Rattle.aml_paths.specs.declared.scope.ObjectId.{ObjectId}
 use Rattle.aml_judging.specs.declared.finding.Finding.{Finding}
 use Rattle.aml_judging.specs.declared.finding.Finding.TheVariants as finding
 use Rattle.aml_judging.specs.declared.finding.Found.TheVariants as found
@@ -204,6 +209,23 @@ abbrev pub level_finding : Option ℕ → Option ℕ → Finding
 level_finding (Some taken) (Some held) = finding.Level taken held
 level_finding taken held = finding.Nothing
 
+-- a mutex is released that was not taken last: that which was, if any is held, where it is known
+abbrev pub released_finding : ObjectId → Result (Option TakenMutex) NoMemory → Finding
+released_finding mutex (Ok last) =
+    finding.Released mutex (option_map (λ (m : TakenMutex). m.object) last)
+released_finding mutex (Err e) = finding.Nothing
+
+-- a mutex is held where none may be: that which was taken last, where it is known
+abbrev pub still_held_finding : Result (Option TakenMutex) NoMemory → Finding
+still_held_finding (Ok (Some last)) = finding.StillHeld last.object
+still_held_finding (Ok None) = finding.Nothing
+still_held_finding (Err e) = finding.Nothing
+
+-- more is told than the cause tells
+abbrev pub IsTold : Finding → Type 0
+IsTold finding.Nothing = ⊥
+IsTold result = Unit {0}
+
 module _ (shapes : ℕ → Shape) where
   -- the kind of a slot, if it has one
   abbrev pub slot_at : List (Option Known) → ℕ → Option Kind
@@ -275,9 +297,10 @@ module _ (shapes : ℕ → Shape) where
   -- what is found is not what was wanted
   abbrev pub IsUnmet : Finding → Type 0
   IsUnmet (finding.Other (found.Kind kind) instead) = meets instead kind ≡ false
+  IsUnmet (finding.Released mutex (Some last)) = (last.0 == mutex.0) ≡ false
   IsUnmet result = Unit {0}
 
--- laws: where a rule of kinds refuses, what is found is not what was wanted
+-- laws: where a rule of kinds or of mutexes refuses, what is found is not what was wanted
 abbrev pub IntegersAreUnmet : Type 0
 IntegersAreUnmet = (shapes : ℕ → Shape) (p : Place) (k : Known) →
     IsErr (integer_kind p (kind_of shapes k)) → IsUnmet shapes (integer_finding k)
@@ -293,6 +316,18 @@ abbrev pub ConvertedAreUnmet : Type 0
 ConvertedAreUnmet =
     (shapes : ℕ → Shape) (width : ℕ) (f : Conversion) (op p : Place) (k : Known) →
     IsErr (converted_kind width f op p (kind_of shapes k)) → IsUnmet shapes (converted_finding k)
+
+-- of those that are held, the last is not the one that is released
+abbrev pub ReleasedAreUnmet : Type 0
+ReleasedAreUnmet =
+    (shapes : ℕ → Shape) (mutex : ObjectId) (held : List TakenMutex) →
+    without_last mutex.0 held ≡ None →
+    IsUnmet shapes (released_finding mutex (Ok (last_or None held)))
+
+-- where any is held, the last is told
+abbrev pub StillHeldAreTold : Type 0
+StillHeldAreTold = (first : TakenMutex) (more : List TakenMutex) →
+    IsTold (still_held_finding (Ok (last_or None (first ∷ more))))
 
 -- of these two it is so whatever the rule
 abbrev pub CombinedAreUnmet : Type 0

@@ -1,6 +1,7 @@
 // What a rule found where it refuses, and what it wanted there: for people alone.
 
 use aml_known::{Known, Yield};
+use aml_paths::ObjectId;
 
 /// What a rule found where it refuses, and what it wanted. No rule asks for it.
 #[derive(Clone, Copy, Debug, PartialEq, Eq)]
@@ -46,6 +47,15 @@ pub enum Finding {
     Level {
         taken: u8,
         held: u8,
+    },
+    /// A mutex that is released, and the one that was taken last of those that are held, if any is.
+    Released {
+        mutex: ObjectId,
+        last: Option<ObjectId>,
+    },
+    /// The mutex that was taken last of those that are still held.
+    StillHeld {
+        last: ObjectId,
     },
 }
 

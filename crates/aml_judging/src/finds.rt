@@ -9,15 +9,16 @@ ghost use Rattle.aml_meaning.specs.declared.mutex.TakenMutex.{TakenMutex};
 ghost use Rattle.aml_objects.specs.Widths.{bits_of};
 ghost use Rattle.aml_known.specs.Views.{AreApart, slot_of};
 ghost use Rattle.aml_judging.specs.Finds as spec;
-ghost use Rattle.aml_judging.specs.Finds.{CombinedAreUnmet, ComparedAreUnmet, ConcatenatedAreUnmet, ConvertedAreUnmet, FindsChanged, FindsEnd, FindsLed, IntegersAreUnmet};
+ghost use Rattle.aml_judging.specs.Finds.{CombinedAreUnmet, ComparedAreUnmet, ConcatenatedAreUnmet, ConvertedAreUnmet, FindsChanged, FindsEnd, FindsLed, IntegersAreUnmet, ReleasedAreUnmet, StillHeldAreTold};
 
 use crate::around::Around;
 use crate::finding::{Finding, Found, NumberedSlot, Sort, Wanted};
 use aml_kind_rules::{field_kind, lies_inside};
 use aml_known::{Env, Known, Slot, kind_at};
-use aml_meaning::{Action, BufferField, Comparison, action_of};
+use aml_meaning::{Action, BufferField, Comparison, TakenMutex, action_of};
 use aml_namespace::{Link, Object};
 use aml_operators::Op;
+use aml_paths::{NoMemory, ObjectId};
 
 /// What is of a kind, where something else was wanted.
 pub fn other_kind(kind: Known, wanted: Wanted) -> Finding
@@ -302,6 +303,30 @@ pub fn level(taken: Option<u8>, held: Option<u8>) -> Finding
     }
 }
 
+/// Where a mutex is released that was not taken last of those that are held, if it is known which was.
+pub fn released(mutex: ObjectId, last: Result<Option<TakenMutex>, NoMemory>) -> Finding
+    ensures { result ≡ spec.released_finding mutex last }
+{
+    match last {
+        Ok(Some(last)) => Finding::Released {
+            mutex,
+            last: Some(last.object),
+        },
+        Ok(None) => Finding::Released { mutex, last: None },
+        Err(NoMemory) => Finding::Nothing,
+    }
+}
+
+/// Where a mutex is still held, if it is known which was taken last.
+pub fn still_held(last: Result<Option<TakenMutex>, NoMemory>) -> Finding
+    ensures { result ≡ spec.still_held_finding last }
+{
+    match last {
+        Ok(Some(last)) => Finding::StillHeld { last: last.object },
+        Ok(None) | Err(NoMemory) => Finding::Nothing,
+    }
+}
+
 /// Whether what a slot holds is within what it began with.
 fn is_kept(ends: Slot, began: Known) -> bool
     ensures { (shapes : ℕ → Shape) → AreApart shapes →
@@ -374,11 +399,13 @@ pub fn turned(end: &Env, continued: &Option<Env>, start: &Env) -> Finding
     }
 }
 
-/// Where a rule of kinds refuses, what is found is not what was wanted.
+/// Where a rule of kinds or of mutexes refuses, what is found is not what was wanted.
 pub fn findings_are_unmet()
     ensures integers { IntegersAreUnmet }
     ensures combined { CombinedAreUnmet }
     ensures compared { ComparedAreUnmet }
     ensures converted { ConvertedAreUnmet }
     ensures concatenated { ConcatenatedAreUnmet }
+    ensures released { ReleasedAreUnmet }
+    ensures still_held { StillHeldAreTold }
 {}

@@ -115,7 +115,10 @@ pub fn released<A: Around>(
             progress.env.held = left;
             Ok(())
         }
-        None => Err(Stop::Refused(refusal(here, Cause::NotHeld, at))),
+        None => {
+            let finding = finds::released(mutex.object, progress.locks.last(held));
+            Err(Stop::Refused(refusal_for(here, Cause::NotHeld, at, finding)))
+        }
     }
 }
 
@@ -130,6 +133,7 @@ pub fn none_held<A: Around>(here: &A, at: usize, progress: &Progress) -> Result<
     if progress.locks.same(progress.env.held, Held::Nothing)? {
         Ok(())
     } else {
-        Err(Stop::Refused(refusal(here, Cause::StillHeld, at)))
+        let finding = finds::still_held(progress.locks.last(progress.env.held));
+        Err(Stop::Refused(refusal_for(here, Cause::StillHeld, at, finding)))
     }
 }

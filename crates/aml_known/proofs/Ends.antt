@@ -1,6 +1,7 @@
 -- Lists of mutexes, by what stands at their ends.
-use Rattle.std.proofs.Common.{◌≡◌, ◌==◌, ◌&&◌, ◌++◌, ℕ, List, [], ◌∷◌, Bool, true, false, Some, None, refl, ap, ◌∙◌, inl, inr, arith}
+use Rattle.std.proofs.Common.{◌≡◌, ◌==◌, ◌&&◌, ◌++◌, ℕ, List, [], ◌∷◌, Bool, true, false, Option, Some, None, refl, ap, ◌∙◌, inl, inr, arith}
 use Rattle.std.specs.Prelude.{max, if◌then◌else◌}
+use Rattle.std.specs.List.{last_or}
 use Rattle.std.specs.Option.{option_map}
 use Rattle.std.proofs.lemmas.Bool.Decides.{eqb_tells, nat_tests}
 use Rattle.aml_judged.specs.Known.{same_mutexes}
@@ -33,6 +34,11 @@ last_later false b c d = refl
 pub no_more : (ms : List TakenMutex) (m : TakenMutex) → same_mutexes [] (ms ++ m ∷ []) ≡ false
 no_more [] m = refl
 no_more (n ∷ ms) m = refl
+
+-- what stands at a list's end is its last
+pub last_end : (o : Option TakenMutex) (ms : List TakenMutex) (m : TakenMutex) → last_or o (ms ++ m ∷ []) ≡ Some m
+last_end o [] m = refl
+last_end o (n ∷ ms) m = last_end (Some n) ms m
 
 pub some_more : (ms : List TakenMutex) (m : TakenMutex) → same_mutexes (ms ++ m ∷ []) [] ≡ false
 some_more [] m = refl

@@ -1,6 +1,7 @@
 -- Takings of mutexes, and what is held up to each.
 use Rattle.std.proofs.Common.{◌≡◌, ◌==◌, ◌&&◌, ◌++◌, ◌<◌, ◌≤◌, ℕ, zero, suc, List, [], ◌∷◌, length, Bool, true, false, Option, Some, None, IfSome, get_or, slice_get, refl, sym, ap, subst, ◌∙◌, inl, inr, arith}
 use Rattle.std.specs.Prelude.{max, if◌then◌else◌}
+use Rattle.std.specs.List.{last_or}
 use Rattle.std.proofs.lemmas.Bool.Decides.{eqb_tells}
 use Rattle.std.proofs.lemmas.List.{append_assoc, append-nil}
 use Rattle.std.proofs.lemmas.Option.{slice_get-get_or, slice_get_within}
@@ -12,7 +13,7 @@ use Rattle.aml_known.specs.declared.locks.Held.{Held}
 use Rattle.aml_known.specs.declared.locks.Held.TheVariants as held
 use Rattle.aml_known.specs.declared.locks.Taking.{Taking}
 use Rattle.aml_known.specs.Views.{CanBeRead, Grown, IsBehind, IsTaking, IsThere, Says, held_before, last_of, mutexes_of}
-use Rattle.aml_known.proofs.Ends.{greatest_end, is_same, no_more, same_ends, some_more, without_end}
+use Rattle.aml_known.proofs.Ends.{greatest_end, is_same, last_end, no_more, same_ends, some_more, without_end}
 
 pub says_nothing : CanBeRead []
 says_nothing = record { lists = λ i. []; say = λ i. tt; behind = λ i. tt }
@@ -125,6 +126,11 @@ before_there takings i k t is behind e =
     let below : k < i = subst (λ o. IfSome o (λ before. before < i)) e behind in
     let within : i < length takings = slice_get_within takings i t is in
     (get_or takings k t, slice_get-get_or takings k t (omega arith))
+
+-- the last of what is held up to a taking is its mutex
+pub last_taken : (lists : ℕ → List TakenMutex) (takings : List Taking) (i : ℕ) (t : Taking) → Says lists takings → slice_get takings i ≡ Some t → last_or None (lists i) ≡ Some t.mutex
+last_taken lists takings i t say is =
+    ap (last_or None) (said lists takings i t say is).held ∙ last_end None (held_before lists t.before) t.mutex
 
 -- what is left where the mutex that was taken last is released
 pub end_released : (lists : ℕ → List TakenMutex) (takings : List Taking) (k i : ℕ) (t : Taking) → Says lists takings → slice_get takings i ≡ Some t → without_last k (lists i) ≡ (if t.mutex.object.0 == k then Some (held_before lists t.before) else None)

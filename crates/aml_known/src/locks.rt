@@ -1,6 +1,7 @@
 // Which mutexes a method holds, at each place of its body.
 
-ghost use Rattle.std.specs.Prelude.{◌≡◌, ◌<◌, ◌++◌, ◌∷◌, ◌==◌, ◌&&◌, [], ℕ, IfOk, IfSome, List, OnOk, length, slice_get};
+ghost use Rattle.std.specs.Prelude.{◌≡◌, ◌<◌, ◌++◌, ◌∷◌, ◌==◌, ◌&&◌, [], ℕ, IfOk, IfSome, List, None, OnOk, length, slice_get};
+ghost use Rattle.std.specs.List.{last_or};
 ghost use Rattle.std.specs.Option.{option_map};
 ghost use Rattle.aml_judged.specs.Known as judged;
 ghost use Rattle.aml_judged.specs.Judge.{is_level};
@@ -165,6 +166,18 @@ impl Locks {
         match taking.before {
             Some(before) => Ok(Some(Held::UpTo(before))),
             None => Ok(Some(Held::Nothing)),
+        }
+    }
+
+    /// The mutex that was taken last of those that are held; none where none is, or where ways hold
+    /// different ones.
+    pub fn last(&self, held: Held) -> Result<Option<TakenMutex>, NoMemory>
+        ensures { (lists : ℕ → List TakenMutex) → Says lists self.now.takings.items →
+            IfOk result (λ last. last ≡ last_or None (mutexes_of lists held)) }
+    {
+        match held {
+            Held::UpTo(last) => Ok(Some(self.taking(last)?.mutex)),
+            Held::Nothing | Held::Different => Ok(None),
         }
     }
 
