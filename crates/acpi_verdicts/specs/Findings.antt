@@ -131,11 +131,14 @@ finding_text bits (finding.Level taken held) =
 abbrev pub object_path : Shown → ObjectId → List ℕ
 object_path ns id = path_text (path_of ns.entries id.0)
 
--- a mutex that is released, and the one that was taken last, if any is held
+-- which mutex was wanted where one is released: the one that was taken last, if any is held
+abbrev pub last_text : Shown → Option ObjectId → List ℕ
+last_text ns (Some last) = codes ", wanted one of " ++ object_path ns last ++ codes ", the last taken of those held"
+last_text ns None = codes ", wanted none where no mutex is held"
+
+-- a mutex that is released, and the one that was wanted
 abbrev pub released_text : Shown → ObjectId → Option ObjectId → List ℕ
-released_text ns mutex (Some last) =
-    codes ": found a release of " ++ object_path ns mutex ++ codes ", wanted one of " ++ object_path ns last ++ codes ", the last taken of those held"
-released_text ns mutex None = codes ": found a release of " ++ object_path ns mutex ++ codes ", wanted none where no mutex is held"
+released_text ns mutex last = codes ": found a release of " ++ object_path ns mutex ++ last_text ns last
 
 -- the mutex that was taken last of those that are still held
 abbrev pub still_held_text : Shown → ObjectId → List ℕ

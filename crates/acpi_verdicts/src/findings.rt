@@ -47,6 +47,19 @@ fn push_released(
 {
     text.extend_from_slice(b": found a release of ")?;
     push_path(alloc, text, namespace, mutex)?;
+    push_last(alloc, text, namespace, last)
+}
+
+// Adds which mutex was wanted where one is released: the one that was taken last, if any is held.
+fn push_last(
+    alloc: Global,
+    text: &mut Vec<u8>,
+    namespace: &Namespace<'_>,
+    last: Option<ObjectId>,
+) -> Result<(), RunFault>
+    ensures { OnOk result
+        (text.new.items ≡ text.old.items ++ spec.last_text (shown namespace.now) last) }
+{
     let Some(last) = last else {
         text.extend_from_slice(b", wanted none where no mutex is held")?;
         return Ok(());
