@@ -1,10 +1,16 @@
 -- What rules found where they refuse and what they wanted, in words.
 use Rattle.std.specs.Prelude.{ℕ, ◌-◌, ◌^◌, ◌==◌, List, [], ◌∷◌, ◌++◌, Option, Some, None, codes, decimal, if◌then◌else◌}
 use Rattle.acpi_text.specs.Text.{joined}
+use Rattle.aml_judging.specs.declared.finding.Change.{Change}
+use Rattle.aml_judging.specs.declared.finding.Change.TheVariants as change
+use Rattle.aml_judging.specs.declared.finding.FieldFault.{FieldFault}
+use Rattle.aml_judging.specs.declared.finding.FieldFault.TheVariants as fault
 use Rattle.aml_judging.specs.declared.finding.Finding.{Finding}
 use Rattle.aml_judging.specs.declared.finding.Finding.TheVariants as finding
 use Rattle.aml_judging.specs.declared.finding.Found.{Found}
 use Rattle.aml_judging.specs.declared.finding.Found.TheVariants as found
+use Rattle.aml_judging.specs.declared.finding.LoopLack.{LoopLack}
+use Rattle.aml_judging.specs.declared.finding.LoopLack.TheVariants as lack
 use Rattle.aml_judging.specs.declared.finding.NumberedSlot.{NumberedSlot}
 use Rattle.aml_judging.specs.declared.finding.NumberedSlot.TheVariants as slot
 use Rattle.aml_judging.specs.declared.finding.Sort.{Sort}
@@ -107,6 +113,41 @@ unfoldable pub turn_text : ℕ → NumberedSlot → Known → Option Known → L
 turn_text bits which began ends =
     joined (codes ": found " ∷ end_text bits ends ∷ codes " in " ∷ slot_text which ∷ codes " where a turn ends, wanted " ∷ kind_text bits began ∷ codes " as where it began" ∷ [])
 
+-- what is wrong with a field, where that is no number
+abbrev pub fault_words : FieldFault → List ℕ
+fault_words fault.Connected = codes ": found a Connection or an extended access before it in its list, wanted neither"
+fault_words fault.Access = codes ": found access for buffers or a reserved one, wanted AnyAcc, ByteAcc, WordAcc, DWordAcc or QWordAcc"
+fault_words fault.Update = codes ": found the reserved update rule, wanted Preserve, WriteAsOnes or WriteAsZeros"
+fault_words fault.NoRegion = codes ": found a field of no OperationRegion, wanted a field of one"
+fault_words fault.Place = codes ": found a region whose first place is computed, wanted an integer literal"
+fault_words fault.Length = codes ": found a region whose length is computed, wanted an integer literal"
+fault_words (fault.Bits bits) = []
+fault_words (fault.Space space) = []
+
+-- what is wrong with a field
+unfoldable pub fault_text : FieldFault → List ℕ
+fault_text (fault.Bits bits) = joined (codes ": found " ∷ decimal bits ∷ codes " bits, wanted 1 to 2048" ∷ [])
+fault_text (fault.Space space) = joined (codes ": found a region of space " ∷ decimal space ∷ codes ", wanted 0, 1, 2, 3 or 5" ∷ [])
+fault_text other = fault_words other
+
+-- how a loop's local is to change in each turn
+abbrev pub change_words : Change → List ℕ
+change_words change.OneMore = codes "one more"
+change_words change.OneLess = codes "one less"
+
+-- a loop's local that changes otherwise than is wanted
+unfoldable pub otherwise_text : ℕ → Change → List ℕ
+otherwise_text number wanted =
+    joined (codes ": found a Continue before or other changes of Local" ∷ decimal number ∷ codes ", wanted it made " ∷ change_words wanted ∷ codes " once, at the top of the body" ∷ [])
+
+-- what a loop lacks that has no shape
+unfoldable pub lack_text : LoopLack → List ℕ
+lack_text lack.Test = codes ": found a test of another form, wanted a local, or LLess or LGreater of a local and a literal"
+lack_text (lack.Limit number) = joined (codes ": found Local" ∷ decimal number ∷ codes " compared with no integer literal, wanted it compared with one" ∷ [])
+lack_text (lack.Unchanged number wanted) =
+    joined (codes ": found no store into Local" ∷ decimal number ∷ codes " in the body, wanted it made " ∷ change_words wanted ∷ codes " by one statement at the top of it" ∷ [])
+lack_text (lack.Otherwise number wanted) = otherwise_text number wanted
+
 -- what was found and what was wanted, behind a colon, where no object's path is told
 unfoldable pub finding_text : ℕ → Finding → List ℕ
 finding_text bits finding.Nothing = []
@@ -126,6 +167,10 @@ finding_text bits (finding.Given given) = given_text bits given
 finding_text bits (finding.Turn which began ends) = turn_text bits which began ends
 finding_text bits (finding.Level taken held) =
     joined (codes ": found level " ∷ decimal taken ∷ codes ", wanted " ∷ decimal held ∷ codes " or more" ∷ [])
+finding_text bits (finding.Fault fault) = fault_text fault
+finding_text bits (finding.Units at count unit length) =
+    joined (codes ": found " ∷ decimal count ∷ codes " bits from bit " ∷ decimal at ∷ codes " on in units of " ∷ decimal unit ∷ codes " bits, wanted whole units within the " ∷ decimal length ∷ codes " bytes of a region below 2^64" ∷ [])
+finding_text bits (finding.Lack lack) = lack_text lack
 
 -- the path of an object
 abbrev pub object_path : Shown → ObjectId → List ℕ

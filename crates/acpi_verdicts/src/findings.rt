@@ -6,7 +6,7 @@ ghost use Rattle.aml_namespace.specs.Shows.{shown};
 ghost use Rattle.aml_objects.specs.Widths.{bits_of};
 
 use acpi_text::RunFault;
-use aml_judging::{Finding, Found, NumberedSlot, Sort, Wanted};
+use aml_judging::{Change, FieldFault, Finding, Found, LoopLack, NumberedSlot, Sort, Wanted};
 use aml_known::{Known, Yield};
 use aml_namespace::{Namespace, Width};
 use aml_path_text::push_path;
@@ -127,6 +127,103 @@ fn finding_text(alloc: Global, width: Width, finding: Finding) -> Result<String,
         Finding::Level { taken, held } => {
             format!(in alloc; ": found level {taken}, wanted {held} or more")
         }
+        Finding::Fault(fault) => fault_text(alloc, fault),
+        Finding::Units {
+            at,
+            bits,
+            unit,
+            length,
+        } => format!(in alloc;
+            ": found {bits} bits from bit {at} on in units of {unit} bits, wanted whole units within the {length} bytes of a region below 2^64"
+        ),
+        Finding::Lack(lack) => lack_text(alloc, lack),
+    }
+}
+
+// What is wrong with a field.
+#[tactic(auto, unfolding(crate::specs::Findings::fault_text))]
+fn fault_text(alloc: Global, fault: FieldFault) -> Result<String, AllocError>
+    ensures { IfOk result (λ text. string_bytes text ≡ spec.fault_text fault) }
+{
+    match fault {
+        FieldFault::Bits(bits) => format!(in alloc; ": found {bits} bits, wanted 1 to 2048"),
+        FieldFault::Space(space) => {
+            format!(in alloc; ": found a region of space {space}, wanted 0, 1, 2, 3 or 5")
+        }
+        _ => {
+            let words = fault_words(fault);
+            format!(in alloc; "{words}")
+        }
+    }
+}
+
+// The same, where that is no number.
+fn fault_words(fault: FieldFault) -> &'static str
+    ensures { result.now ≡ spec.fault_words fault }
+{
+    match fault {
+        FieldFault::Connected => {
+            ": found a Connection or an extended access before it in its list, wanted neither"
+        }
+        FieldFault::Access => {
+            ": found access for buffers or a reserved one, wanted AnyAcc, ByteAcc, WordAcc, DWordAcc or QWordAcc"
+        }
+        FieldFault::Update => {
+            ": found the reserved update rule, wanted Preserve, WriteAsOnes or WriteAsZeros"
+        }
+        FieldFault::NoRegion => ": found a field of no OperationRegion, wanted a field of one",
+        FieldFault::Place => {
+            ": found a region whose first place is computed, wanted an integer literal"
+        }
+        FieldFault::Length => {
+            ": found a region whose length is computed, wanted an integer literal"
+        }
+        FieldFault::Bits(_) | FieldFault::Space(_) => "",
+    }
+}
+
+// What a loop lacks that has no shape.
+#[tactic(auto, unfolding(crate::specs::Findings::lack_text))]
+fn lack_text(alloc: Global, lack: LoopLack) -> Result<String, AllocError>
+    ensures { IfOk result (λ text. string_bytes text ≡ spec.lack_text lack) }
+{
+    match lack {
+        LoopLack::Test => format!(in alloc;
+            ": found a test of another form, wanted a local, or LLess or LGreater of a local and a literal"
+        ),
+        LoopLack::Limit { local } => {
+            format!(in alloc;
+                ": found Local{local} compared with no integer literal, wanted it compared with one"
+            )
+        }
+        LoopLack::Unchanged { local, wanted } => {
+            let wanted = change_words(wanted);
+            format!(in alloc;
+                ": found no store into Local{local} in the body, wanted it made {wanted} by one statement at the top of it"
+            )
+        }
+        LoopLack::Otherwise { local, wanted } => otherwise_text(alloc, local, wanted),
+    }
+}
+
+// A loop's local that changes otherwise than is wanted.
+#[tactic(auto, unfolding(crate::specs::Findings::otherwise_text))]
+fn otherwise_text(alloc: Global, local: u8, wanted: Change) -> Result<String, AllocError>
+    ensures { IfOk result (λ text. string_bytes text ≡ spec.otherwise_text local wanted) }
+{
+    let wanted = change_words(wanted);
+    format!(in alloc;
+        ": found a Continue before or other changes of Local{local}, wanted it made {wanted} once, at the top of the body"
+    )
+}
+
+// How a loop's local is to change in each turn.
+fn change_words(change: Change) -> &'static str
+    ensures { result.now ≡ spec.change_words change }
+{
+    match change {
+        Change::OneMore => "one more",
+        Change::OneLess => "one less",
     }
 }
 

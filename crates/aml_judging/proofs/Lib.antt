@@ -10,3 +10,5 @@ pub mod Makings
 pub mod Unmet
 pub mod Ends
 pub mod Wide
+pub mod Lacking
+pub mod Reasons

@@ -1,7 +1,6 @@
 -- What rules find where they refuse is not what was wanted.
-use Rattle.std.proofs.Common.{◌≡◌, ℕ, List, [], ◌∷◌, Bool, true, false, Option, Some, None, Ok, refl, arith}
+use Rattle.std.proofs.Common.{◌≡◌, ℕ, List, [], ◌∷◌, Bool, true, false, Option, Some, None, refl, arith}
 use Rattle.std.specs.Prelude.{◌==◌, IsErr, if◌then◌else◌, not}
-use Rattle.std.specs.List.{last_or}
 use Rattle.std.specs.Option.{option_map}
 use Rattle.aml_kinds.specs.Kinds.{Shape}
 use Rattle.aml_meaning.specs.Mutexes.{without_last}
@@ -13,8 +12,7 @@ use Rattle.aml_judged.specs.KindRules.{buffer_integer, compared_kind}
 use Rattle.aml_known.specs.declared.known.Known.{Known}
 use Rattle.aml_known.specs.declared.known.Known.TheVariants as known
 use Rattle.aml_known.specs.Views.{kind_of}
-use Rattle.aml_paths.specs.declared.scope.ObjectId.{ObjectId}
-use Rattle.aml_judging.specs.Finds.{CombinedAreUnmet, ComparedAreUnmet, ConcatenatedAreUnmet, ConvertedAreUnmet, IntegersAreUnmet, IsUnmet, ReleasedAreUnmet, StillHeldAreTold, equal_finding, integers_finding, released_finding}
+use Rattle.aml_judging.specs.Finds.{CombinedAreUnmet, ComparedAreUnmet, ConcatenatedAreUnmet, ConvertedAreUnmet, IntegersAreUnmet, IsUnmet, ReleasedAreUnmet, StillHeldAreTold, equal_finding, integers_finding}
 
 pub integers_are_unmet : IntegersAreUnmet
 integers_are_unmet shapes p (known.Int n) h = cc

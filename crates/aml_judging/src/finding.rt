@@ -57,6 +57,58 @@ pub enum Finding {
     StillHeld {
         last: ObjectId,
     },
+    /// What is wrong with a field that cannot be read and written.
+    Fault(FieldFault),
+    /// So many bits of a field from one on, in units of so many bits, and the bytes of their region.
+    Units {
+        at: u64,
+        bits: u64,
+        unit: u8,
+        length: u64,
+    },
+    /// What a loop lacks that has no shape.
+    Lack(LoopLack),
+}
+
+/// What is wrong with a field that cannot be read and written.
+#[derive(Clone, Copy, Debug, PartialEq, Eq)]
+pub enum FieldFault {
+    /// It stands behind a connection or an extended access in its list.
+    Connected,
+    /// It has so many bits.
+    Bits(u64),
+    /// Its access type is for buffers, or reserved.
+    Access,
+    /// Its update rule is reserved.
+    Update,
+    /// What it is a field of is no operation region, or one of another table's bytes.
+    NoRegion,
+    /// Its region is of a space that is not known.
+    Space(u64),
+    /// The first place of its region is computed.
+    Place,
+    /// The length of its region is computed.
+    Length,
+}
+
+/// What a loop lacks that has no shape.
+#[derive(Clone, Copy, Debug, PartialEq, Eq)]
+pub enum LoopLack {
+    /// Its test neither is a local, nor compares one with a limit.
+    Test,
+    /// Its test compares a local with what is no literal.
+    Limit { local: u8 },
+    /// Its body does not store into the local of its test.
+    Unchanged { local: u8, wanted: Change },
+    /// Its body stores into the local of its test otherwise than is wanted.
+    Otherwise { local: u8, wanted: Change },
+}
+
+/// How a loop's local is to change in each turn.
+#[derive(Clone, Copy, Debug, PartialEq, Eq)]
+pub enum Change {
+    OneMore,
+    OneLess,
 }
 
 /// A local or an argument, by its number.

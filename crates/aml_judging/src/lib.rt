@@ -5,14 +5,17 @@
 //! Rooms: `around` says what is known around a body, `progress` where a judgement stands; `names`,
 //! `targets`, `seen`, `mutexes`, `calls` and `leaves` have what is judged without a term's value, or
 //! behind it, `definitions` what a definition at the top of a body makes, `turns` what stands round a loop
-//! and under a test. `finding` and `finds` have what rules find where they refuse, for people.
+//! and under a test. `finding` and `finds` have what rules find where they refuse, for people; `faults` what
+//! is wrong with a field, and `lacks` what a loop lacks.
 #![tactic(auto)]
 
 mod around;
 pub mod calls;
 pub mod definitions;
+pub mod faults;
 mod finding;
 pub mod finds;
+pub mod lacks;
 pub mod leaves;
 pub mod mutexes;
 pub mod names;
@@ -22,5 +25,5 @@ pub mod targets;
 pub mod turns;
 
 pub use around::{Around, FieldCosts, Made, Seen};
-pub use finding::{Finding, Found, NumberedSlot, Sort, Wanted};
+pub use finding::{Change, FieldFault, Finding, Found, LoopLack, NumberedSlot, Sort, Wanted};
 pub use progress::Progress;

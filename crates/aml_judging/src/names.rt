@@ -12,6 +12,7 @@ ghost use Rattle.aml_judging.specs.Follows.{Costs};
 ghost use Rattle.aml_judging.specs.Views.{content_of, costs_of, field_seen, read_of};
 
 use crate::around::{Around, FieldCosts};
+use crate::faults::unusable;
 use crate::finding::{Finding, Wanted};
 use crate::finds;
 use aml_causes::{Cause, Refusal};
@@ -73,7 +74,12 @@ fn content<A: Around>(here: &A, at: usize, kind: Option<Known>) -> Result<Read, 
 }
 
 /// A field of a region (ACPI 6.5, 19.6, Field). V9 at the name of one that cannot be read.
-fn field<A: Around>(here: &A, field: Option<FieldCosts>, at: usize) -> Result<Read, Refusal>
+fn field<A: Around>(
+    here: &A,
+    link: Link,
+    field: Option<FieldCosts>,
+    at: usize,
+) -> Result<Read, Refusal>
     ensures { (f : Option AnyField) → option_map costs_of field ≡ option_map field_seen f →
         Costs (read_of (A.numbered here.now)) (λ r. r.events)
         (judged_field (A.around here.now) f at) result }
@@ -83,7 +89,7 @@ fn field<A: Around>(here: &A, field: Option<FieldCosts>, at: usize) -> Result<Re
             kind: field_kind(here.width(), field.bits),
             events: field.reads,
         }),
-        None => Err(refusal(here, Cause::Region, at)),
+        None => Err(refusal_for(here, Cause::Region, at, unusable(here, link))),
     }
 }
 
@@ -100,12 +106,17 @@ pub fn held_kind<A: Around>(here: &A, link: Link) -> Option<Known>
 
 /// A field of a buffer (19.6, CreateField). V9 at the name of one that cannot be read, V3 where its source
 /// is no buffer's name, V7 where it does not lie in its buffer.
-fn buffer_field<A: Around>(here: &A, field: Option<BufferField>, at: usize) -> Result<Read, Refusal>
+fn buffer_field<A: Around>(
+    here: &A,
+    link: Link,
+    field: Option<BufferField>,
+    at: usize,
+) -> Result<Read, Refusal>
     ensures { Costs (read_of (A.numbered here.now)) (λ r. r.events)
         (judged_buffer_field (A.around here.now) field at) result }
 {
     let Some(field) = field else {
-        return Err(refusal(here, Cause::Region, at));
+        return Err(refusal_for(here, Cause::Region, at, unusable(here, link)));
     };
     let source = held_kind(here, field.source);
     here.finds(finds::buffer_field(here, field, source));
@@ -120,7 +131,7 @@ fn own<A: Around>(here: &A, number: usize, at: usize) -> Result<Read, Refusal>
         (field_at (A.around here.now).kinds.fields number) number at) result }
 {
     match here.own_field(number) {
-        Some(made) => buffer_field(here, usable_buffer_field(made), at),
+        Some(made) => buffer_field(here, Link::Own(number), usable_buffer_field(made), at),
         None => content(here, at, here.own(number)),
     }
 }
@@ -134,8 +145,8 @@ pub fn name<A: Around>(here: &A, link: Link, at: usize) -> Result<Read, Refusal>
         Link::Data(id) => content(here, at, here.shared(id)),
         Link::Own(number) => own(here, number, at),
         Link::Missing => Err(refusal(here, Cause::Unresolved, at)),
-        Link::Field(id) => field(here, here.field(id), at),
-        Link::BufferField(id) => buffer_field(here, here.buffer_field(id), at),
+        Link::Field(id) => field(here, link, here.field(id), at),
+        Link::BufferField(id) => buffer_field(here, link, here.buffer_field(id), at),
         Link::Method(_) | Link::OsInterfaces | Link::Object(_) => {
             let finding = finds::named(here, link, Wanted::Value);
             Err(refusal_for(here, Cause::WrongKind, at, finding))

@@ -12,6 +12,7 @@ ghost use Rattle.aml_judging.specs.Follows.{Costs, Gives, Judges};
 ghost use Rattle.aml_judging.specs.Views.{content_of, costs_of, field_seen};
 
 use crate::around::{Around, FieldCosts};
+use crate::faults::unusable;
 use crate::finding::Wanted;
 use crate::finds;
 use crate::names::{held_kind, place, refusal, refusal_for};
@@ -28,6 +29,7 @@ use aml_operators::{Op, Term};
 /// be written, V3 where it does not take such a value.
 fn field<A: Around>(
     here: &A,
+    link: Link,
     field: Option<FieldCosts>,
     at: usize,
     kind: Known,
@@ -37,7 +39,7 @@ fn field<A: Around>(
         (kind_of (A.numbered here.now) kind)) result }
 {
     let Some(field) = field else {
-        return Err(refusal(here, Cause::Region, at));
+        return Err(refusal_for(here, Cause::Region, at, unusable(here, link)));
     };
     here.finds(finds::given(here, field.bits, kind));
     given_kind(here.width(), place(here, at), field.bits, kind)?;
@@ -48,6 +50,7 @@ fn field<A: Around>(
 /// does not take such a value.
 fn buffer_field<A: Around>(
     here: &A,
+    link: Link,
     field: Option<BufferField>,
     at: usize,
     kind: Known,
@@ -56,7 +59,7 @@ fn buffer_field<A: Around>(
         (kind_of (A.numbered here.now) kind)) result }
 {
     let Some(field) = field else {
-        return Err(refusal(here, Cause::Region, at));
+        return Err(refusal_for(here, Cause::Region, at, unusable(here, link)));
     };
     let source = held_kind(here, field.source);
     here.finds(finds::buffer_field_stored(here, field, source, kind));
@@ -86,7 +89,7 @@ fn own<A: Around>(here: &A, number: usize, at: usize, kind: Known) -> Result<u64
         (kind_of (A.numbered here.now) kind)) result }
 {
     match here.own_field(number) {
-        Some(made) => buffer_field(here, usable_buffer_field(made), at, kind),
+        Some(made) => buffer_field(here, Link::Own(number), usable_buffer_field(made), at, kind),
         None => into(here, at, here.own(number), kind),
     }
 }
@@ -101,8 +104,8 @@ fn name<A: Around>(here: &A, link: Link, at: usize, kind: Known) -> Result<u64, 
         Link::Data(id) => into(here, at, here.shared(id), kind),
         Link::Own(number) => own(here, number, at, kind),
         Link::Missing => Err(refusal(here, Cause::Unresolved, at)),
-        Link::Field(id) => field(here, here.field(id), at, kind),
-        Link::BufferField(id) => buffer_field(here, here.buffer_field(id), at, kind),
+        Link::Field(id) => field(here, link, here.field(id), at, kind),
+        Link::BufferField(id) => buffer_field(here, link, here.buffer_field(id), at, kind),
         Link::Method(_) | Link::OsInterfaces | Link::Object(_) => {
             let finding = finds::named(here, link, Wanted::Target);
             Err(refusal_for(here, Cause::WrongKind, at, finding))

@@ -11,6 +11,7 @@ ghost use Rattle.aml_judging.specs.Turns.{Turned, falling_rule, often_rule, once
 use crate::terms::acts::{statement, value};
 use aml_bounds::{Turns, turns_of};
 use aml_causes::Cause;
+use aml_judging::lacks::shapeless;
 use aml_judging::leaves::{is_else, stop, stop_for};
 use aml_judging::names::place;
 use aml_judging::progress::{Progress, product, sum};
@@ -151,7 +152,7 @@ pub(super) fn looped<A: Around>(
         Some(Turns::Down { local, limit }) => {
             falling(alloc, here, local, limit, at, condition, body, progress)?;
         }
-        None => return Err(stop(here, Cause::LoopShape, at)),
+        None => return Err(stop_for(here, Cause::LoopShape, at, shapeless(here, condition, body))),
     }
     Ok(Yield::Never)
 }

@@ -1246,7 +1246,7 @@ blocks::looped-returns-in_ok-falling-in-Some-Down g t c = λ w.
 pub blocks::looped-returns-in-None : goal.blocks::looped-returns-in-None
 blocks::looped-returns-in-None g t c = λ w.
     let first = first_and c.args.parts.now c.condition-item.result c.in-len1-up.len_at_least c.condition-item.is in
-    rw (first, c.stop-in-None.ensures) (endless (g.A.Shapes.numbered c.args.here.now) (g.A.Around.around c.args.here.now) w c.args.at (view c.condition-item.result) (views (behind c.args.parts.now)) c.args.progress.now _ (rw c.width.ensures at c.in-None.ensures) refl)
+    rw (first, c.stop_for.ensures) (endless (g.A.Shapes.numbered c.args.here.now) (g.A.Around.around c.args.here.now) w c.args.at (view c.condition-item.result) (views (behind c.args.parts.now)) c.args.progress.now _ (rw c.width.ensures at c.in-None.ensures) refl)
 
 pub blocks::turn-all-requires : goal.blocks::turn-all-requires
 blocks::turn-all-requires g t c = λ κs within. (omega (arith, c.decreases), within)
