@@ -2,7 +2,6 @@
 use Rattle.std.specs.Prelude.{◌≡◌, ◌==◌, ℕ, Bool, true, false, List, [], Option, Some, None, Result, Ok, Err}
 use Rattle.acpi_objects.specs.declared.given.Given.{Given}
 use Rattle.acpi_objects.specs.declared.given.Given.TheVariants as given
-use Rattle.acpi_verdicts.specs.Verdicts.{said_of}
 use Rattle.aml_contents.specs.Contents.{content_at}
 use Rattle.aml_interp.specs.Answers.{IsDone}
 -- what is wanted of whoever asks an object
@@ -16,6 +15,7 @@ use Rattle.aml_regions.specs.Events.{Event}
 use Rattle.aml_values.specs.Values.{Value}
 use Rattle.aml_values.specs.Views.{view}
 use Rattle.aml_values.specs.declared.value.Value as program_value
+use Rattle.aml_verify.specs.Said.{verdict_at}
 use Rattle.aml_verify.specs.declared.checked.Checked.{Checked}
 use Rattle.aml_verify.specs.declared.verdict.Verdict.{Verdict}
 use Rattle.aml_verify.specs.declared.verdict.Verdict.TheVariants as verdict
@@ -55,5 +55,5 @@ GivesBy c k (Some v) g names log names_left log_left =
 
 -- the same; nothing is said where memory is wanted
 abbrev pub Gives : Checked → ℕ → Result Given NoMemory → Names → List Event → Names → List Event → Type 0
-Gives c k (Ok g) names log names_left log_left = GivesBy c k (said_of c k) g names log names_left log_left
+Gives c k (Ok g) names log names_left log_left = GivesBy c k (verdict_at c.verdicts.items k) g names log names_left log_left
 Gives c k (Err e) names log names_left log_left = Unit {0}

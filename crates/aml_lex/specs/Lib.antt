@@ -9,3 +9,4 @@ pub mod Exact
 pub mod Standing
 pub mod Bounds
 pub mod Causes
+pub mod Order

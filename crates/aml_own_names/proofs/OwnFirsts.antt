@@ -9,7 +9,7 @@ use Rattle.aml_lex.specs.declared.names.NameSeg.{NameSeg}
 use Rattle.aml_operators.specs.declared.term.Term.{Term}
 use Rattle.aml_operators.specs.Tree.{view}
 use Rattle.aml_tree.specs.Body.{same_segment}
-use Rattle.aml_tree.specs.Owns.{segment_order}
+use Rattle.aml_lex.specs.Order.{segment_order}
 use Rattle.aml_own_names.specs.declared.own_names.OwnName.{OwnName}
 use Rattle.aml_own_names.specs.OwnNames.{HasFirsts, first_own, own_made, own_names}
 use Rattle.aml_paths.proofs.Positions.{position_new, position_other, position_stays}

@@ -10,7 +10,7 @@ use Rattle.aml_operators.specs.declared.row.Spot.TheVariants as spot
 use Rattle.aml_operators.specs.Tree.{Tree, stop_of}
 use Rattle.aml_tree.specs.Body.{greatest_depth, made_place, same_segment, segment_at}
 use Rattle.aml_tree.specs.Grammar.{AreTerms, IsTerm}
-use Rattle.aml_tree.specs.Owns.{segment_order}
+use Rattle.aml_lex.specs.Order.{segment_order}
 use Rattle.aml_own_names.specs.declared.own_names.OwnName.{OwnName}
 
 -- the own name that a statement makes, where its name is one segment without prefix: it stands from behind the statement on

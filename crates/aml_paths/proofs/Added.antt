@@ -12,7 +12,7 @@ use Rattle.std.proofs.lemmas.List.{length_push, same_from_push}
 use Rattle.std.proofs.lemmas.Option.{same_Some, slice_get_within}
 use Rattle.std.specs.Cmp.Lexicographic.{bytes_decides, texts_ties}
 use Rattle.aml_lex.specs.declared.names.NameSeg.{NameSeg}
-use Rattle.aml_tree.specs.Owns.{segment_order}
+use Rattle.aml_lex.specs.Order.{segment_order}
 use Rattle.aml_paths.specs.declared.chains.Spot.{Spot}
 use Rattle.aml_paths.specs.declared.paths.Place.{Place}
 use Rattle.aml_paths.specs.declared.paths.Step.{Step}

@@ -12,7 +12,7 @@ use Rattle.std.proofs.lemmas.Bool.Decides.{nat_tests}
 use Rattle.std.specs.Cmp.{IsTotalOrder}
 use Rattle.std.proofs.lemmas.Cmp.{nat_cmp_total, nat_list_cmp_total, on_total, then_total, tied_itself}
 use Rattle.aml_lex.specs.declared.names.NameSeg.{NameSeg}
-use Rattle.aml_tree.specs.Owns.{segment_order}
+use Rattle.aml_lex.specs.Order.{segment_order}
 use Rattle.aml_paths.specs.declared.paths.Place.{Place}
 use Rattle.aml_paths.specs.declared.paths.Step.{Step}
 use Rattle.aml_paths.specs.Chains.{number_below_chain, spots_of}

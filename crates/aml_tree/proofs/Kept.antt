@@ -11,7 +11,8 @@ use Rattle.aml_lex.specs.NameStrings.{NameString}
 use Rattle.aml_lex.specs.Names.{lone_segment}
 use Rattle.aml_lex.specs.declared.names.NameSeg.{NameSeg}
 use Rattle.aml_tree.specs.Body.{same_segment, is_own_segment, with_owns}
-use Rattle.aml_tree.specs.Owns.{segment_order, is_kept, with_kept, Keeps}
+use Rattle.aml_lex.specs.Order.{segment_order}
+use Rattle.aml_tree.specs.Owns.{is_kept, with_kept, Keeps}
 
 -- equal in the order is the same
 order_same : (a b : NameSeg) → is_eq (segment_order a b) ≡ same_segment b a

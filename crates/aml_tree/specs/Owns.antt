@@ -1,18 +1,12 @@
 -- The own names of a body as the program keeps them.
 use Rattle.std.specs.Prelude.{◌≡◌, ℕ, List, Option, Some, None, Bool, false, if◌then◌else◌}
 use Rattle.std.specs.List.{list_any}
-use Rattle.std.specs.Ordering.{nat_cmp}
-use Rattle.std.specs.Cmp.Lexicographic.{slice_cmp}
-use Rattle.std.specs.declared.cmp.Ordering.{Ordering}
 use Rattle.std.specs.BTreeSet.{BTreeSet, contains}
 use Rattle.aml_lex.specs.NameStrings.{NameString}
 use Rattle.aml_lex.specs.Names.{lone_segment}
+use Rattle.aml_lex.specs.Order.{segment_order}
 use Rattle.aml_lex.specs.declared.names.NameSeg.{NameSeg}
 use Rattle.aml_tree.specs.Body.{same_segment}
-
--- the order of segments
-abbrev pub segment_order : NameSeg → NameSeg → Ordering
-segment_order a b = slice_cmp nat_cmp a.bytes b.bytes
 
 -- whether a set has a name's lone segment
 abbrev pub is_kept : BTreeSet NameSeg → Option (List ℕ) → Bool

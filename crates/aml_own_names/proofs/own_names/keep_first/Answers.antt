@@ -1,6 +1,6 @@
 use Rattle.std.proofs.Common.{ℕ, Some, sym, ◌∙◌, subst}
 use Rattle.std.specs.BTreeMap.{Updates, get}
-use Rattle.aml_tree.specs.Owns.{segment_order}
+use Rattle.aml_lex.specs.Order.{segment_order}
 use Rattle.aml_own_names.proofs.OwnFirsts.{firsts_more, firsts_same}
 use Rattle.aml_paths.proofs.Options.{none_in, some_in}
 use Rattle.aml_own_names.proofs.own_names.keep_first.Goals as goal
