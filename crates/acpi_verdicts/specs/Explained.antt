@@ -12,7 +12,7 @@ use Rattle.acpi_verdicts.specs.Words.{cause_words}
 use Rattle.aml_causes.specs.declared.cause.Cause.{Cause}
 use Rattle.aml_causes.specs.declared.cause.Cause.TheVariants as cause
 use Rattle.aml_causes.specs.declared.cause.Refusal.{Refusal}
-use Rattle.aml_judging.specs.declared.finding.Finding.{Finding}
+use Rattle.aml_findings.specs.declared.finding.Finding.{Finding}
 use Rattle.aml_namespace.specs.Bodies.{bytes_of}
 use Rattle.aml_namespace.specs.Load.{Shown}
 use Rattle.aml_namespace.specs.Names.{link_at}

@@ -1,22 +1,22 @@
 -- What rules found where they refuse and what they wanted, in words.
 use Rattle.std.specs.Prelude.{ℕ, ◌-◌, ◌^◌, ◌==◌, List, [], ◌∷◌, ◌++◌, Option, Some, None, codes, decimal, if◌then◌else◌}
 use Rattle.acpi_text.specs.Text.{joined}
-use Rattle.aml_judging.specs.declared.finding.Change.{Change}
-use Rattle.aml_judging.specs.declared.finding.Change.TheVariants as change
-use Rattle.aml_judging.specs.declared.finding.FieldFault.{FieldFault}
-use Rattle.aml_judging.specs.declared.finding.FieldFault.TheVariants as fault
-use Rattle.aml_judging.specs.declared.finding.Finding.{Finding}
-use Rattle.aml_judging.specs.declared.finding.Finding.TheVariants as finding
-use Rattle.aml_judging.specs.declared.finding.Found.{Found}
-use Rattle.aml_judging.specs.declared.finding.Found.TheVariants as found
-use Rattle.aml_judging.specs.declared.finding.LoopLack.{LoopLack}
-use Rattle.aml_judging.specs.declared.finding.LoopLack.TheVariants as lack
-use Rattle.aml_judging.specs.declared.finding.NumberedSlot.{NumberedSlot}
-use Rattle.aml_judging.specs.declared.finding.NumberedSlot.TheVariants as slot
-use Rattle.aml_judging.specs.declared.finding.Sort.{Sort}
-use Rattle.aml_judging.specs.declared.finding.Sort.TheVariants as sort
-use Rattle.aml_judging.specs.declared.finding.Wanted.{Wanted}
-use Rattle.aml_judging.specs.declared.finding.Wanted.TheVariants as wanted
+use Rattle.aml_findings.specs.declared.finding.Change.{Change}
+use Rattle.aml_findings.specs.declared.finding.Change.TheVariants as change
+use Rattle.aml_findings.specs.declared.finding.FieldFault.{FieldFault}
+use Rattle.aml_findings.specs.declared.finding.FieldFault.TheVariants as fault
+use Rattle.aml_findings.specs.declared.finding.Finding.{Finding}
+use Rattle.aml_findings.specs.declared.finding.Finding.TheVariants as finding
+use Rattle.aml_findings.specs.declared.finding.Found.{Found}
+use Rattle.aml_findings.specs.declared.finding.Found.TheVariants as found
+use Rattle.aml_findings.specs.declared.finding.LoopLack.{LoopLack}
+use Rattle.aml_findings.specs.declared.finding.LoopLack.TheVariants as lack
+use Rattle.aml_findings.specs.declared.finding.NumberedSlot.{NumberedSlot}
+use Rattle.aml_findings.specs.declared.finding.NumberedSlot.TheVariants as slot
+use Rattle.aml_findings.specs.declared.finding.Sort.{Sort}
+use Rattle.aml_findings.specs.declared.finding.Sort.TheVariants as sort
+use Rattle.aml_findings.specs.declared.finding.Wanted.{Wanted}
+use Rattle.aml_findings.specs.declared.finding.Wanted.TheVariants as wanted
 use Rattle.aml_known.specs.declared.accepted.Yield.{Yield}
 use Rattle.aml_known.specs.declared.accepted.Yield.TheVariants as yield
 use Rattle.aml_known.specs.declared.known.Known.{Known}

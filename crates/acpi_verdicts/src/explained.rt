@@ -9,7 +9,7 @@ use crate::words::cause_words;
 use acpi_notes::{TreePlace, file_label, tree_note};
 use acpi_text::{RunFault, cause_text};
 use aml_causes::{Cause, Refusal};
-use aml_judging::Finding;
+use aml_findings::Finding;
 use aml_namespace::{Link, Namespace};
 use aml_path_text::push_path;
 use aml_paths::ObjectId;

@@ -6,7 +6,7 @@ ghost use Rattle.aml_namespace.specs.Shows.{shown};
 ghost use Rattle.aml_objects.specs.Widths.{bits_of};
 
 use acpi_text::RunFault;
-use aml_judging::{Change, FieldFault, Finding, Found, LoopLack, NumberedSlot, Sort, Wanted};
+use aml_findings::{Change, FieldFault, Finding, Found, LoopLack, NumberedSlot, Sort, Wanted};
 use aml_known::{Known, Yield};
 use aml_namespace::{Namespace, Width};
 use aml_path_text::push_path;

@@ -9,8 +9,8 @@ use Rattle.aml_regions.specs.declared.field.AnyField.{AnyField}
 use Rattle.aml_known.specs.declared.known.Known.{Known}
 use Rattle.aml_known.specs.Views.{kind_of, kinds_of}
 use Rattle.aml_judged.specs.Integers.{are_integers, is_integer, is_narrow}
-use Rattle.aml_judging.specs.declared.around.FieldCosts.{FieldCosts}
-use Rattle.aml_judging.specs.Views.{costs_of, field_seen, FieldSeen}
+use Rattle.aml_findings.specs.declared.around.FieldCosts.{FieldCosts}
+use Rattle.aml_findings.specs.Views.{costs_of, field_seen, FieldSeen}
 
 pub some_narrow : (width : ℕ) (c : FieldCosts) (f : Option AnyField) → Some (costs_of c) ≡ option_map field_seen f → nat_le c.bits width ≡ is_narrow width f
 some_narrow width c None e = absurd cc

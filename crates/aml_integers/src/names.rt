@@ -6,10 +6,10 @@ ghost use Rattle.aml_kinds.specs.Kinds.{Shape};
 ghost use Rattle.aml_regions.specs.declared.field.AnyField.{AnyField};
 ghost use Rattle.aml_known.specs.Views.{kinds_of};
 ghost use Rattle.aml_judged.specs.Integers as judged;
-ghost use Rattle.aml_judging.specs.Views.{content_of, costs_of, field_seen};
+ghost use Rattle.aml_findings.specs.Views.{content_of, costs_of, field_seen};
 ghost use Rattle.aml_integers.specs.Known.{body_in, marked, methods_in};
 
-use aml_judging::{Around, FieldCosts};
+use aml_findings::{Around, FieldCosts};
 use aml_known::Known;
 use aml_meaning::{BufferField, Definition};
 use aml_namespace::Link;

@@ -9,7 +9,7 @@ ghost use Rattle.aml_judged.specs.Integers.{are_integers, integers, integers_by,
 ghost use Rattle.aml_integers.specs.Known.{body_in, IsAround, marked, methods_in};
 
 use crate::names::{are_integers, asked, called, makes_nothing, name};
-use aml_judging::Around;
+use aml_findings::Around;
 use aml_known::Known;
 use aml_meaning::{Action, Conversion, action_of, definition_of};
 use aml_operators::Term;

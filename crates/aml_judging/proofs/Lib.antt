@@ -7,8 +7,3 @@ pub mod Leaving
 pub mod Narrow
 pub mod Stored
 pub mod Makings
-pub mod Unmet
-pub mod Ends
-pub mod Wide
-pub mod Lacking
-pub mod Reasons

@@ -15,9 +15,10 @@ use Rattle.aml_judged.specs.Judge.{held_kind, judged_buffer_field_stored, judged
 use Rattle.aml_judged.specs.KindRules.{buffer_field_stored_kind, given_kind}
 use Rattle.aml_known.specs.Views.{CanBeRead, env_of, exits_of, Grown}
 use Rattle.aml_known.proofs.Takings.{same_grown}
-use Rattle.aml_judging.specs.declared.around.FieldCosts.{FieldCosts}
+use Rattle.aml_findings.specs.declared.around.FieldCosts.{FieldCosts}
 use Rattle.aml_judging.specs.declared.progress.Progress.{Progress}
-use Rattle.aml_judging.specs.Views.{FieldSeen, costs_of, field_seen, held_cost}
+use Rattle.aml_findings.specs.Views.{FieldSeen, costs_of, field_seen}
+use Rattle.aml_judging.specs.Views.{held_cost}
 use Rattle.aml_judging.specs.Follows.{Judges, Paid}
 use Rattle.aml_judging.proofs.Going.{exits_same, paid_judges}
 

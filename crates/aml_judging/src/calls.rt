@@ -6,14 +6,13 @@ ghost use Rattle.aml_judged.specs.Judge.{are_within, judged_call, judged_interfa
 ghost use Rattle.aml_known.specs.Views.{AreApart, accepted_of, kinds_of, yield_of};
 ghost use Rattle.std.specs.Option.{option_map};
 ghost use Rattle.aml_judging.specs.Follows.{Costs, Gives, Judges};
-ghost use Rattle.aml_judging.specs.Views.{read_of, seen_of};
+ghost use Rattle.aml_findings.specs.Views.{seen_of};
+ghost use Rattle.aml_judging.specs.Views.{read_of};
 
-use crate::around::{Around, Seen};
-use crate::finding::{Finding, Wanted};
-use crate::finds;
 use crate::names::{Read, place, refusal, refusal_for};
 use crate::progress::Progress;
 use aml_causes::{Cause, Refusal};
+use aml_findings::{Around, Finding, Seen, Wanted, finds};
 use aml_kind_rules::interface_kind;
 use aml_known::{Accepted, Held, Known, Stop, Yield};
 use aml_operators::Term;

@@ -12,14 +12,14 @@ ghost use Rattle.aml_meaning.specs.declared.definition.Definition.TheVariants as
 ghost use Rattle.aml_judged.specs.Bodies.{first_kind_by, judged_data, judged_field_made, judged_made, judged_own_source, judged_source, may_make};
 ghost use Rattle.aml_known.specs.Views.{kind_of};
 ghost use Rattle.aml_judging.specs.Follows.{Gives, GivesOrMemory, Judges};
-ghost use Rattle.aml_judging.specs.Views.{made_of};
+ghost use Rattle.aml_findings.specs.Views.{made_of};
 
-use crate::around::{Around, Made};
 use crate::names::refusal;
 use crate::progress::Progress;
 use aml_causes::{Cause, Refusal};
 use aml_contents::computed_size;
 use aml_fields::made_buffer_field;
+use aml_findings::{Around, Made};
 use aml_known::{Known, Stop};
 use aml_meaning::{Action, Definition, action_of};
 use aml_namespace::{CreatedFieldSize, Link};

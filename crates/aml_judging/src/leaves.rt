@@ -13,14 +13,13 @@ ghost use Rattle.aml_known.specs.declared.stop.Stop.TheVariants as stops;
 ghost use Rattle.aml_known.specs.Views.{kind_of, slots_of, yield_of};
 ghost use Rattle.aml_judging.specs.Follows.{Acts, Gives, GivesOrMemory, Judges, Paid};
 
-use crate::around::Around;
-use crate::finding::Finding;
 use crate::mutexes::{mutex, released, taken};
 use crate::names::{Read, name, refusal, refusal_for};
 use crate::progress::Progress;
 use crate::seen::{condition, size};
 use aml_causes::{Cause, Refusal};
 use aml_contents::computed_size;
+use aml_findings::{Around, Finding};
 use aml_known::{Known, Slot, Stop, Yield, kind_at};
 use aml_meaning::{Action, action_of};
 use aml_operators::{Op, Term, literal_in};

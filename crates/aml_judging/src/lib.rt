@@ -2,20 +2,14 @@
 //! (the kind rules, causes and bounds are the project's own), with one environment, one record of exits
 //! and one sum, which change as the walk goes on.
 //!
-//! Rooms: `around` says what is known around a body, `progress` where a judgement stands; `names`,
-//! `targets`, `seen`, `mutexes`, `calls` and `leaves` have what is judged without a term's value, or
-//! behind it, `definitions` what a definition at the top of a body makes, `turns` what stands round a loop
-//! and under a test. `finding` and `finds` have what rules find where they refuse, for people; `faults` what
-//! is wrong with a field, and `lacks` what a loop lacks.
+//! Rooms: `progress` says where a judgement stands; `names`, `targets`, `seen`, `mutexes`, `calls` and
+//! `leaves` have what is judged without a term's value, or behind it, `definitions` what a definition at
+//! the top of a body makes, `turns` what stands round a loop and under a test. What is known around a body,
+//! and what is found where a rule refuses, is aml_findings'.
 #![tactic(auto)]
 
-mod around;
 pub mod calls;
 pub mod definitions;
-pub mod faults;
-mod finding;
-pub mod finds;
-pub mod lacks;
 pub mod leaves;
 pub mod mutexes;
 pub mod names;
@@ -24,6 +18,4 @@ pub mod seen;
 pub mod targets;
 pub mod turns;
 
-pub use around::{Around, FieldCosts, Made, Seen};
-pub use finding::{Change, FieldFault, Finding, Found, LoopLack, NumberedSlot, Sort, Wanted};
 pub use progress::Progress;

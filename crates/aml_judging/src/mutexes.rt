@@ -6,12 +6,10 @@ ghost use Rattle.aml_meaning.specs.Actions.{action};
 ghost use Rattle.aml_judged.specs.Judge.{judged_mutex, judged_mutex_named, judged_mutex_numbered, judged_none_held, judged_released, judged_taken};
 ghost use Rattle.aml_judging.specs.Follows.{Gives, Judges};
 
-use crate::around::Around;
-use crate::finding::Wanted;
-use crate::finds;
 use crate::names::{refusal, refusal_for};
 use crate::progress::Progress;
 use aml_causes::{Cause, Refusal};
+use aml_findings::{Around, Wanted, finds};
 use aml_known::{Held, Stop};
 use aml_meaning::{Action, TakenMutex, action_of};
 use aml_namespace::{Link, Object};

@@ -9,14 +9,13 @@ ghost use Rattle.aml_meaning.specs.Rules.{Place};
 ghost use Rattle.aml_judged.specs.Judge.{held_kind, judged_buffer_field, judged_content, judged_field, judged_name, judged_own, place_at, refusal};
 ghost use Rattle.aml_rules.specs.Tells.{place_of};
 ghost use Rattle.aml_judging.specs.Follows.{Costs};
-ghost use Rattle.aml_judging.specs.Views.{content_of, costs_of, field_seen, read_of};
+ghost use Rattle.aml_findings.specs.Views.{content_of, costs_of, field_seen};
+ghost use Rattle.aml_judging.specs.Views.{read_of};
 
-use crate::around::{Around, FieldCosts};
-use crate::faults::unusable;
-use crate::finding::{Finding, Wanted};
-use crate::finds;
 use aml_causes::{Cause, Refusal};
 use aml_fields::usable_buffer_field;
+use aml_findings::faults::unusable;
+use aml_findings::{Around, FieldCosts, Finding, Wanted, finds};
 use aml_kind_rules::{field_kind, source_kind};
 use aml_known::Known;
 use aml_meaning::BufferField;

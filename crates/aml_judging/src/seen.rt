@@ -8,13 +8,12 @@ ghost use Rattle.aml_meaning.specs.Owns.{field_at};
 ghost use Rattle.aml_judged.specs.Judge.{judged_condition, judged_content_seen, judged_name_seen, judged_notified, judged_notified_name, judged_own_seen, judged_seen, judged_size, judged_slot_seen, judged_untargeted};
 ghost use Rattle.aml_known.specs.Views.{kind_of, slots_of};
 ghost use Rattle.aml_judging.specs.Follows.{FollowsIn, Gives, GivesIn};
-ghost use Rattle.aml_judging.specs.Views.{content_of, read_of};
+ghost use Rattle.aml_findings.specs.Views.{content_of};
+ghost use Rattle.aml_judging.specs.Views.{read_of};
 
-use crate::around::Around;
-use crate::finding::{Sort, Wanted};
-use crate::finds;
 use crate::names::{Read, place, refusal, refusal_for};
 use aml_causes::{Cause, Refusal};
+use aml_findings::{Around, Sort, Wanted, finds};
 use aml_kind_rules::size_kind;
 use aml_known::{Env, Known, Slot, Stop, kind_at};
 use aml_meaning::{Action, action_of};

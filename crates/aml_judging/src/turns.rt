@@ -12,9 +12,9 @@ ghost use Rattle.aml_judged.specs.Judge.{begun, comes_back, exit_holds, exit_wit
 ghost use Rattle.aml_known.specs.Views.{AreApart, Says, env_of, exits_of};
 ghost use Rattle.aml_judging.specs.Turns.{IsPast};
 
-use crate::around::Around;
 use crate::progress::Progress;
 use aml_bounds::number_of;
+use aml_findings::Around;
 use aml_known::{Env, Exits, Locks, lower, widen};
 use aml_meaning::{Action, Comparison, action_of};
 use aml_namespace::Width;

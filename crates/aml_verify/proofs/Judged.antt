@@ -24,7 +24,7 @@ use Rattle.aml_known.specs.declared.accepted.Accepted.{Accepted}
 use Rattle.aml_known.specs.declared.stop.Stop.{Stop}
 use Rattle.aml_known.specs.declared.stop.Stop.TheVariants as stop
 use Rattle.aml_judging.specs.Follows.{IsVerdict}
-use Rattle.aml_judging.specs.declared.finding.Finding.{Finding}
+use Rattle.aml_findings.specs.declared.finding.Finding.{Finding}
 use Rattle.aml_meaning.specs.declared.buffer_field.BufferField.{BufferField}
 use Rattle.aml_meaning.specs.Methods.{callee_of}
 use Rattle.aml_meaning.specs.Within.{Callee, Methods}

@@ -8,7 +8,7 @@ use crate::named::Named;
 use crate::verdict::{Verdict, accepted_at};
 use aml_components::{Components, Heights};
 use aml_fields::{buffer_field_numbered, field_in, read_count, write_count};
-use aml_judging::{Around, FieldCosts, Finding, Made, Seen};
+use aml_findings::{Around, FieldCosts, Finding, Made, Seen};
 use aml_known::{ElementKnown, Known, ShapeNumber, Shapes};
 use aml_lex::name_there;
 use aml_meaning::BufferField;

@@ -7,7 +7,7 @@ ghost use Rattle.aml_known.specs.Views.{accepted_of};
 ghost use Rattle.aml_verify.specs.Said.{accepted_by, verdict_at};
 
 use aml_causes::Refusal;
-use aml_judging::Finding;
+use aml_findings::Finding;
 use aml_known::Accepted;
 use aml_tree::Refusal as Unread;
 

@@ -9,16 +9,16 @@ ghost use Rattle.aml_judged.specs.Causes as cause;
 ghost use Rattle.aml_judged.specs.Verdicts.{result_of, verdict_of};
 ghost use Rattle.aml_known.specs.Views.{AreApart, kind_of, kinds_of, yield_of};
 ghost use Rattle.aml_judging.specs.Follows.{IsVerdict, Judges};
-ghost use Rattle.aml_judging.specs.Views.{made_of};
+ghost use Rattle.aml_findings.specs.Views.{made_of};
 ghost use Rattle.aml_walk.specs.Begins.{Begins};
 
 use crate::terms::acts::statement;
 use aml_causes::Cause;
+use aml_findings::{Around, Made};
 use aml_judging::definitions::made;
 use aml_judging::mutexes::none_held;
 use aml_judging::names::refusal;
 use aml_judging::progress::{MOST_STEPS, Progress};
-use aml_judging::{Around, Made};
 use aml_known::{Accepted, Env, Exits, Known, Locks, Stop, Yield};
 use aml_meaning::{Definition, definition_of};
 use aml_operators::Term;

@@ -13,7 +13,7 @@ use crate::terms::operators::{
 };
 use crate::terms::stores::{dereferenced, stored};
 use aml_causes::Cause;
-use aml_judging::Around;
+use aml_findings::Around;
 use aml_judging::leaves::{
     acquires, asked, breaks, continues, data, is_operand, literal, name_read, releases, sized,
     slot, stop, wanted,

@@ -11,12 +11,12 @@ ghost use Rattle.aml_judging.specs.Turns.{Turned, falling_rule, often_rule, once
 use crate::terms::acts::{statement, value};
 use aml_bounds::{Turns, turns_of};
 use aml_causes::Cause;
-use aml_judging::lacks::shapeless;
+use aml_findings::lacks::shapeless;
+use aml_findings::{Around, finds};
 use aml_judging::leaves::{is_else, stop, stop_for};
 use aml_judging::names::place;
 use aml_judging::progress::{Progress, product, sum};
 use aml_judging::turns::{Turn, begun, comes_back, exit_holds, holds_back, narrowed, past};
-use aml_judging::{Around, finds};
 use aml_kind_rules::integer_kind;
 use aml_known::{Env, Exits, Known, Stop, Yield, kind_at};
 use aml_operators::Term;

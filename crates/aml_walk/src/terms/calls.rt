@@ -9,13 +9,13 @@ ghost use Rattle.aml_judging.specs.Follows.{Acts, Judges};
 
 use crate::terms::acts::value;
 use aml_causes::Cause;
+use aml_findings::{Around, Wanted, finds};
 use aml_judging::calls::{called, interface, not_reaching};
 use aml_judging::leaves::{push, read, returns, stop, stop_for};
 use aml_judging::mutexes::none_held;
 use aml_judging::names::{name, place};
 use aml_judging::progress::Progress;
 use aml_judging::seen::notified;
-use aml_judging::{Around, Wanted, finds};
 use aml_kind_rules::{integer_kind, notice_kind};
 use aml_known::{Known, Stop, Yield};
 use aml_meaning::Pause;

@@ -9,11 +9,11 @@ use crate::terms::acts::value;
 use crate::terms::stores::store;
 use aml_bounds::number_of;
 use aml_causes::Cause;
+use aml_findings::{Around, finds};
 use aml_judging::leaves::stop;
 use aml_judging::names::place;
 use aml_judging::progress::Progress;
 use aml_judging::targets::placed;
-use aml_judging::{Around, finds};
 use aml_kind_rules::{
     combined_kind, compared_kind, concatenated_kind, converted_kind, divided_kind, negated_kind,
     transformed_kind,

@@ -1,6 +1,6 @@
 use Rattle.std.proofs.Common.{◌∙◌, ap, sym}
 use Rattle.std.specs.Option.{option_map}
-use Rattle.aml_judging.specs.Views.{costs_of}
+use Rattle.aml_findings.specs.Views.{costs_of}
 use Rattle.aml_integers.proofs.Narrow.{none_narrow, some_narrow}
 use Rattle.aml_integers.proofs.names.is_narrow.Goals as goal
 

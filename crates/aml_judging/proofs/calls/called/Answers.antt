@@ -1,7 +1,7 @@
 use Rattle.std.proofs.Common.{refl}
 use Rattle.std.proofs.lemmas.Result.{err_from_is_err_and}
 use Rattle.aml_operators.specs.Tree.{views}
-use Rattle.aml_judging.specs.Views.{seen_of}
+use Rattle.aml_findings.specs.Views.{seen_of}
 use Rattle.aml_judging.proofs.Calling.{called_well, no_level, no_result, not_within, too_deep}
 use Rattle.aml_judging.proofs.calls.called.Goals as goal
 

@@ -1,5 +1,5 @@
 use Rattle.std.proofs.lemmas.Result.{err_from_is_err_and}
-use Rattle.aml_judging.specs.Views.{made_of}
+use Rattle.aml_findings.specs.Views.{made_of}
 use Rattle.aml_judging.proofs.Going.{gives_judges, gives_stops}
 use Rattle.aml_judging.proofs.definitions.made.Goals as goal
 

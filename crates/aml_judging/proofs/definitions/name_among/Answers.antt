@@ -1,4 +1,4 @@
-use Rattle.aml_judging.specs.Views.{made_of}
+use Rattle.aml_findings.specs.Views.{made_of}
 use Rattle.aml_judging.proofs.Going.{gives_stops}
 use Rattle.aml_judging.proofs.Narrow.{two_are}
 use Rattle.aml_judging.proofs.Makings.{name_few, name_many}

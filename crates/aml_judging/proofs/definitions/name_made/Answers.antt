@@ -7,7 +7,7 @@ use Rattle.aml_meaning.specs.Meaning.{at_of}
 use Rattle.aml_meaning.specs.declared.definition.Definition.TheVariants as makes
 use Rattle.aml_judged.specs.Bodies.{judged_made, may_make}
 use Rattle.aml_known.specs.Views.{kind_of}
-use Rattle.aml_judging.specs.Views.{made_of}
+use Rattle.aml_findings.specs.Views.{made_of}
 use Rattle.aml_judging.proofs.Going.{paid_judges}
 use Rattle.aml_judging.proofs.Makings.{name_goes, name_stops, paid_stops}
 use Rattle.aml_judging.proofs.definitions.name_made.Goals as goal

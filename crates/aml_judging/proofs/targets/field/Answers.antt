@@ -4,7 +4,7 @@ use Rattle.std.specs.Option.{option_map}
 use Rattle.aml_judged.specs.Judge.{place_at}
 use Rattle.aml_judged.specs.KindRules.{given_kind}
 use Rattle.aml_known.specs.Views.{kind_of}
-use Rattle.aml_judging.specs.Views.{costs_of, field_seen}
+use Rattle.aml_findings.specs.Views.{costs_of, field_seen}
 use Rattle.aml_judging.proofs.Stored.{field_refused, field_stored}
 use Rattle.aml_judging.proofs.targets.field.Goals as goal
 

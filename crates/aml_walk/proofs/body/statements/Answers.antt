@@ -3,7 +3,7 @@ use Rattle.std.proofs.lemmas.List.{drop_all}
 use Rattle.std.proofs.lemmas.Result.{err_from_is_err_and}
 use Rattle.aml_operators.specs.Tree.{view, views}
 use Rattle.aml_judged.specs.Bodies.{grown, judged_body, judged_statement}
-use Rattle.aml_judging.specs.Views.{made_of}
+use Rattle.aml_findings.specs.Views.{made_of}
 use Rattle.aml_judging.specs.Follows.{Judges}
 use Rattle.aml_judging.proofs.Going.{gives_judges, leads_begin, leads_more, leads_on, stops_judge}
 use Rattle.aml_judging.proofs.Makings.{left_with}

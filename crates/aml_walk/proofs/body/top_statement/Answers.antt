@@ -4,11 +4,11 @@ use Rattle.aml_operators.specs.Tree.{Node, view, views}
 use Rattle.aml_operators.specs.declared.term.Term.TheViews.{out-Term}
 use Rattle.aml_operators.proofs.Views.{view_out}
 use Rattle.aml_judged.specs.Bodies.{judged_made}
-use Rattle.aml_judging.specs.Views.{made_of}
+use Rattle.aml_findings.specs.Views.{made_of}
 use Rattle.aml_judging.proofs.Going.{gives_judges, stops_judge, then_judges}
 use Rattle.aml_judged.specs.Judged.{goes, step}
 use Rattle.aml_judged.specs.Bodies.{Nothing}
-use Rattle.aml_judging.specs.declared.around.Made.TheVariants as program
+use Rattle.aml_findings.specs.declared.around.Made.TheVariants as program
 use Rattle.aml_judging.proofs.Stored.{costs_judge}
 use Rattle.aml_judging.proofs.Makings.{stated_nothing, stated_what}
 use Rattle.aml_walk.proofs.body.top_statement.Goals as goal

@@ -24,7 +24,7 @@ use Rattle.aml_walk.proofs.StoresWeights.{lighter_behind, parts_and_two}
 use Rattle.aml_walk.proofs.terms.+terms.Goals as goal
 use Rattle.aml_walk.proofs.terms.+terms.Goals.{stores::dereferenced-in_default-via-else-parts-lt1+else-parts-lt2, stores::dereferenced-in_default-via-then-parts-lt1, blocks::falling-in-None-1, blocks::falling-in-Some+in-Buf-1, stores::led-in_default-via-else-parts-lt3+else-parts-lt4, stores::led-in_default-via-then-parts-lt3, calls::notifies-in_default-via-else-parts-lt2+else-parts-lt3, calls::notifies-in_default-via-then-parts-lt2, calls::pauses-in_default-via-else-parts-lt1+else-parts-lt2, calls::pauses-in_default-via-then-parts-lt1, calls::returned-in_default-via-else-parts-lt1+else-parts-lt2, calls::returned-in_default-via-then-parts-lt1, stores::store_byte-in_default-via-else-parts-lt3+else-parts-lt4, stores::store_byte-in_default-via-then-parts-lt3}
 use Rattle.aml_judging.specs.Turns.{falling_rule, often_rule, once_rule}
-use Rattle.aml_judging.specs.Views.{seen_of}
+use Rattle.aml_findings.specs.Views.{seen_of}
 use Rattle.aml_known.specs.Views.{env_of, kind_of, kinds_of, yield_of}
 use Rattle.aml_known.specs.declared.accepted.Yield.TheVariants as yield
 use Rattle.aml_known.specs.declared.known.Known.{Known}

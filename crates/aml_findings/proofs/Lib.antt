@@ -1,0 +1,5 @@
+pub mod Unmet
+pub mod Ends
+pub mod Wide
+pub mod Lacking
+pub mod Reasons

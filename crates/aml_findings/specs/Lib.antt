@@ -1,0 +1,4 @@
+pub mod Views
+pub mod Finds
+pub mod Faults
+pub mod Lacks
