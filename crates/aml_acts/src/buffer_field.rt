@@ -53,8 +53,8 @@ fn wanted_buffer_field(
     }
 }
 
-/// The bytes of the buffer in which a field lies. At its name A2 where its source holds no buffer, and
-/// A4 where one of its bits lies past the end.
+/// The bytes of the buffer in which a field lies. At its name A2 where its source holds no buffer,
+/// and A4 where one of its bits lies past the end.
 fn bytes_around<'a>(
     scene: &Scene<'_>,
     at: usize,
@@ -93,8 +93,8 @@ fn content(
     Ok(value)
 }
 
-/// What the name of a field of a buffer means where it is read. A7 at it where there is none that can be
-/// read and written.
+/// What the name of a field of a buffer means where it is read. A7 at it where there is none that
+/// can be read and written.
 pub fn buffer_field_read(
     alloc: Global,
     scene: &Scene<'_>,
@@ -113,9 +113,9 @@ pub fn buffer_field_read(
     Ok(Some(value))
 }
 
-/// Stores into a field of the buffer that the name with a number holds. At the field's name A2 where it
-/// holds no buffer, A4 where a bit of the field lies past the end, and A2 for what the field does not
-/// take.
+/// Stores into a field of the buffer that the name with a number holds. At the field's name A2
+/// where it holds no buffer, A4 where a bit of the field lies past the end, and A2 for what the
+/// field does not take.
 fn write_in(
     scene: &Scene<'_>,
     at: usize,
@@ -145,8 +145,8 @@ fn write_in(
     Ok(())
 }
 
-/// Stores into a field, with a step. A2 and A4 at its name, as when it is read, and A2 for what it does
-/// not take.
+/// Stores into a field, with a step. A2 and A4 at its name, as when it is read, and A2 for what it
+/// does not take.
 fn put_buffer_field(
     scene: &Scene<'_>,
     at: usize,
@@ -176,8 +176,8 @@ fn put_buffer_field(
     }
 }
 
-/// Stores into what the name of a field of a buffer means. A7 at its name where there is none that can be
-/// read and written.
+/// Stores into what the name of a field of a buffer means. A7 at its name where there is none that
+/// can be read and written.
 pub fn buffer_field_stored(
     scene: &Scene<'_>,
     at: usize,

@@ -18,8 +18,8 @@ use aml_scene::halt::{Halt, Scene, fails};
 use aml_scene::own::link_of;
 use std::alloc::Global;
 
-/// What a field is made of, by what its source's name means: a data name, also an own one that is no
-/// field. A6 at the opcode where it means nothing or anything else.
+/// What a field is made of, by what its source's name means: a data name, also an own one that is
+/// no field. A6 at the opcode where it means nothing or anything else.
 fn field_source(scene: &Scene<'_>, at: usize, link: Link, machine: &Machine) -> Result<Link, Halt>
     ensures { (call : _) (log : List Event) → Runs (told itself result)
         (field_source (setting_in scene.now call) at link)
@@ -35,8 +35,8 @@ fn field_source(scene: &Scene<'_>, at: usize, link: Link, machine: &Machine) -> 
     }
 }
 
-/// Makes a field of what its source, its index and its size say. A6 at the opcode where the source is no
-/// name, or the index or the size no integer literal.
+/// Makes a field of what its source, its index and its size say. A6 at the opcode where the source
+/// is no name, or the index or the size no integer literal.
 pub fn make_field(
     alloc: Global,
     scene: &Scene<'_>,

@@ -1,5 +1,5 @@
-//! What the terms of a body do by names, and what they tell a world, once their operands are values, which
-//! evaluators share.
+//! What the terms of a body do by names, and what they tell a world, once their operands are
+//! values, which evaluators share.
 //!
 //! Rooms: `contents`, `slots`, `own_name` and `target` are what is read by a name and stored;
 //! `operand` what asks for no value; `define`, `field` and `buffer_field` fields; `mutex` and

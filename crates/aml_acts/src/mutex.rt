@@ -18,8 +18,8 @@ use aml_scene::own::link_of;
 use aml_scene::steps::take_step;
 use aml_values::Value;
 
-/// The mutex that an object with a number is, named at a place. A2 there where it is none; A6 at the
-/// operator for the global lock.
+/// The mutex that an object with a number is, named at a place. A2 there where it is none; A6 at
+/// the operator for the global lock.
 fn mutex_in(
     scene: &Scene<'_>,
     at: usize,
@@ -137,9 +137,9 @@ pub fn none_held(scene: &Scene<'_>, at: usize, machine: &Machine) -> Result<(), 
     }
 }
 
-/// The mutex that an operand of Acquire is, taken: Zero. A5 at the operand where it names nothing, A2
-/// there where it is no mutex, A6 there, with a step, where it is no name, local or argument; at the
-/// operator A6 for the global lock, and A10 where a mutex of a higher level is held.
+/// The mutex that an operand of Acquire is, taken: Zero. A5 at the operand where it names nothing,
+/// A2 there where it is no mutex, A6 there, with a step, where it is no name, local or argument; at
+/// the operator A6 for the global lock, and A10 where a mutex of a higher level is held.
 pub fn acquired(
     scene: &Scene<'_>,
     at: usize,
@@ -157,8 +157,8 @@ pub fn acquired(
     Ok(Some(Value::Int(0)))
 }
 
-/// The mutex that an operand of Release is, released. The operand errs as that of Acquire does; A11 at
-/// the operator where it is not the mutex that was taken last.
+/// The mutex that an operand of Release is, released. The operand errs as that of Acquire does; A11
+/// at the operator where it is not the mutex that was taken last.
 pub fn released(
     scene: &Scene<'_>,
     at: usize,

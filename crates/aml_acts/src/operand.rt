@@ -79,9 +79,9 @@ fn named_seen<'a>(scene: &Scene<'_>, at: usize, machine: &'a Machine) -> Result<
     }
 }
 
-/// How large the value of a name, a local or an argument is, for SizeOf. At its place A5 where the name
-/// names nothing, A1 where it holds nothing, A2 where that has no size, and A6, with a step, where no
-/// name, local or argument stands.
+/// How large the value of a name, a local or an argument is, for SizeOf. At its place A5 where the
+/// name names nothing, A1 where it holds nothing, A2 where that has no size, and A6, with a step,
+/// where no name, local or argument stands.
 pub fn measured(
     scene: &Scene<'_>,
     action: Action,
@@ -123,8 +123,8 @@ fn is_there(link: Link) -> bool
     }
 }
 
-/// Whether the name at a place, asked of with a target, names something. A6 at the operator where there is
-/// a target.
+/// Whether the name at a place, asked of with a target, names something. A6 at the operator where
+/// there is a target.
 fn asked_name(
     scene: &Scene<'_>,
     target: Action,
@@ -143,8 +143,8 @@ fn asked_name(
     }
 }
 
-/// Whether what stands at a place names something, for a CondRefOf at another with a target. A6 at the
-/// operator where it is no name, or where there is a target.
+/// Whether what stands at a place names something, for a CondRefOf at another with a target. A6 at
+/// the operator where it is no name, or where there is a target.
 pub fn asked(
     scene: &Scene<'_>,
     what: Action,

@@ -30,13 +30,13 @@ use std::mem;
 /// How many methods may be active within the first.
 const MOST_WITHIN: u8 = 63;
 
-/// Evaluates a method straight from the bytes of its table, with its arguments and at most so many steps,
-/// over what names hold and a world. No tree is made.
+/// Evaluates a method straight from the bytes of its table, with its arguments and at most so many
+/// steps, over what names hold and a world. No tree is made.
 ///
-/// The outcome is the definition's of the tree that the grammar ties to those bytes: its value or none,
-/// its error at its table and place, or out of steps; and so are what names hold afterwards and the
-/// events that the world gained. Want of memory may come anywhere: names and events are then those of
-/// the definition with fewer steps. Arguments behind the seventh are not looked at.
+/// The outcome is the definition's of the tree that the grammar ties to those bytes: its value or
+/// none, its error at its table and place, or out of steps; and so are what names hold afterwards
+/// and the events that the world gained. Want of memory may come anywhere: names and events are
+/// then those of the definition with fewer steps. Arguments behind the seventh are not looked at.
 pub fn evaluate_direct<W: World>(
     alloc: Global,
     namespace: &Namespace<'_>,
@@ -51,7 +51,8 @@ pub fn evaluate_direct<W: World>(
     requires kept { AreSound (shown namespace.now) kept.now }
     requires first { IsSome (kept_at kept.now method.0) }
     ensures { let ns = shown namespace.now in
-        (m : Method) → method_at ns method.0 ≡ Some m → (ts : List Tree) → IsBodyOf ns method.0 m ts →
+        (m : Method) → method_at ns method.0 ≡ Some m → (ts : List Tree) →
+        IsBodyOf ns method.0 m ts →
         Evaluates ns method.0 m (trees ts) (map values.view arguments.items) fuel
         (names_of names.old) (W.log world.old)
         result (names_of names.new) (W.log world.new) }

@@ -17,8 +17,8 @@ use aml_operators::Op;
 use aml_places::{name_end, package};
 use aml_tree::op_at;
 
-/// The place behind the integer literal that stands at a place as a size; none where what stands there
-/// is computed.
+/// The place behind the integer literal that stands at a place as a size; none where what stands
+/// there is computed.
 fn past_literal(bytes: &[u8], at: usize) -> Option<usize>
     requires { SizeLies bytes.now at }
     ensures told { IfSome result (λ stop. (s : SizeLies bytes.now at) →
@@ -61,9 +61,9 @@ fn past_data(op: Op, bytes: &[u8], at: usize) -> usize
     }
 }
 
-/// Where in a literal of data, whose opcode stands at a place and whose parts behind it, the first buffer
-/// or package of computed size begins, in the order of the bytes; none where each size is an integer
-/// literal. It takes no memory.
+/// Where in a literal of data, whose opcode stands at a place and whose parts behind it, the first
+/// buffer or package of computed size begins, in the order of the bytes; none where each size is an
+/// integer literal. It takes no memory.
 #[cycle(computed)]
 pub fn computed_at(op: Op, own: usize, bytes: &[u8], at: usize) -> Option<usize>
     requires datum { action op ≡ does.Data op }

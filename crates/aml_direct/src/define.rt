@@ -24,8 +24,8 @@ use aml_scene::steps::take_step;
 use aml_tree::op_at;
 use std::alloc::Global;
 
-/// The place behind the source of a field, where that is the name of data, which takes no arguments. No
-/// field is made of anything else.
+/// The place behind the source of a field, where that is the name of data, which takes no
+/// arguments. No field is made of anything else.
 fn behind_source(here: Here<'_>, bytes: &[u8], at: usize) -> Option<usize>
     requires { Stands (LiesTerm (count_of here.scene.now)) bytes.now at }
     ensures { (around : _) (t : _) → LiesTerm (count_of here.entry.scene.now) bytes.now at t →
@@ -53,8 +53,9 @@ fn literal_there(here: Here<'_>, bytes: &[u8], at: usize) -> Option<(u64, usize)
     }
 }
 
-/// A field that is as large as its operator says, with its step, and the place behind it. A6 at the opcode
-/// where its source is no name of data, its index no integer literal, or its name no own name.
+/// A field that is as large as its operator says, with its step, and the place behind it. A6 at the
+/// opcode where its source is no name of data, its index no integer literal, or its name no own
+/// name.
 pub fn sized_field(
     alloc: Global,
     here: Here<'_>,
@@ -92,9 +93,9 @@ pub fn sized_field(
     Ok(name_end(bytes, name))
 }
 
-/// A field whose number of bits stands in a term, with its step, and the place behind it. A6 at the opcode
-/// where its source is no name of data, its index or its number of bits no integer literal, or its name no
-/// own name.
+/// A field whose number of bits stands in a term, with its step, and the place behind it. A6 at the
+/// opcode where its source is no name of data, its index or its number of bits no integer literal,
+/// or its name no own name.
 pub fn counted_field(
     alloc: Global,
     here: Here<'_>,

@@ -1,11 +1,11 @@
-//! Evaluation straight from the bytes: a method's body where it lies in its table, with a number of steps,
-//! errors included. No tree is made.
+//! Evaluation straight from the bytes: a method's body where it lies in its table, with a number of
+//! steps, errors included. No tree is made.
 //!
-//! Rooms: `body` is an evaluation's beginning and end, `eval` the cycle over terms, each function one form
-//! of the meaning; `here` where a body stands and what may be called; `kept_in` what is kept of a method's
-//! body; what reads terms beside the cycle are `computed`, `data`, `define`, `index`, `mutex`, `operand`,
-//! `past`, `placed`, `quiet` and `standing`. What terms do once their operands are values is
-//! aml_scene and aml_acts.
+//! Rooms: `body` is an evaluation's beginning and end, `eval` the cycle over terms, each function
+//! one form of the meaning; `here` where a body stands and what may be called; `kept_in` what is
+//! kept of a method's body; what reads terms beside the cycle are `computed`, `data`, `define`,
+//! `index`, `mutex`, `operand`, `past`, `placed`, `quiet` and `standing`. What terms do once their
+//! operands are values is aml_scene and aml_acts.
 #![tactic(auto)]
 
 mod body;

@@ -78,8 +78,8 @@ pub fn condition(
     Ok((said, next))
 }
 
-/// What a name, a local or an argument holds that stands where it is changed. A6 at its place where it is
-/// none of these.
+/// What a name, a local or an argument holds that stands where it is changed. A6 at its place where
+/// it is none of these.
 fn held_there<W: World>(
     alloc: Global,
     here: Here<'_>,
@@ -103,8 +103,8 @@ fn held_there<W: World>(
     }
 }
 
-/// The value of a name, a local or an argument that stands where it is changed, with its step. A6 at its
-/// place where it is none of these.
+/// The value of a name, a local or an argument that stands where it is changed, with its step. A6
+/// at its place where it is none of these.
 pub fn changed<W: World>(
     alloc: Global,
     here: Here<'_>,

@@ -1,5 +1,5 @@
-// Where a term ends that is not evaluated yet (ACPI 6.5, 20.2.5). Where a name stands in it that means
-// nothing, that is not known here, and told as want of memory.
+// Where a term ends that is not evaluated yet (ACPI 6.5, 20.2.5). Where a name stands in it that
+// means nothing, that is not known here, and told as want of memory.
 
 ghost use Rattle.std.specs.Prelude.{◌≡◌, ◌≤◌, ◌<◌, IfOk, None, length};
 ghost use Rattle.aml_lex.specs.NameStrings.{NameString};

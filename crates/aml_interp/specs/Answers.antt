@@ -46,16 +46,19 @@ value_answered (Ok (outcome.Done value)) = Ok value
 value_answered (Ok other) = Err (record {})
 value_answered (Err e) = Err e
 
--- an evaluation of an accepted method with these arguments, from what names hold and the events so far
+-- an evaluation of an accepted method with these arguments, from what names hold and the events so
+-- far
 module _ (c : Checked) (k : ℕ) (values : List Value) (names : Names) (log : List Event) where
-  -- its answer, what names hold and the events afterwards are those of the meaning of the statements that
-  -- the grammar ties to the method's bytes, with as many steps as its verdict says
-  pub record Answers (answer : Result Outcome NoMemory) (names_left : Names) (log_left : List Event) : Type 0 where
+  -- its answer, what names hold and the events afterwards are those of the meaning of the
+  -- statements that the grammar ties to the method's bytes, with as many steps as its verdict says
+  pub record Answers (answer : Result Outcome NoMemory) (names_left : Names)
+      (log_left : List Event) : Type 0 where
     pub are :
         (a : Accepted) → verdict_at c.verdicts.items k ≡ Some (verdict.Accepted a) →
         (m : Method) → method_at (shown c.namespace.now) k ≡ Some m →
         (ts : List Tree) → IsBodyOf (shown c.namespace.now) k m ts →
-        Evaluates (shown c.namespace.now) k m (trees ts) values a.bound names log answer names_left log_left
+        Evaluates (shown c.namespace.now) k m (trees ts) values a.bound names log answer names_left
+        log_left
 
   -- it is done, with this value or none
   abbrev pub IsDone : Option program_value.Value → Names → List Event → Type 0

@@ -1,5 +1,5 @@
--- The headline: what the verifier accepts is evaluated without an error, within the steps that its verdict says, and just as the
--- definition says.
+-- The headline: what the verifier accepts is evaluated without an error, within the steps that its
+-- verdict says, and just as the definition says.
 use Rattle.std.specs.Prelude.{◌≡◌, ℕ, List, Option, Some, Ok}
 use Rattle.aml_bodies.specs.Methods.{Around}
 use Rattle.aml_contents.specs.FirstContents.{first_kinds}
@@ -30,7 +30,8 @@ use Rattle.aml_verify.specs.Verdicts.{IsChecked}
 use Rattle.aml_verify.specs.declared.checked.Checked.{Checked}
 use Rattle.aml_verify.specs.declared.verdict.Verdict.TheVariants as verdict
 
--- a namespace that was loaded from tables whose bytes are bytes, and a method of it that the verifier accepted
+-- a namespace that was loaded from tables whose bytes are bytes, and a method of it that the
+-- verifier accepted
 pub record IsAccepted (told : Told) (c : Checked) (k : ℕ) (a : Accepted) : Type 0 where
   pub checked : IsChecked told c
   pub said : verdict_at c.verdicts.items k ≡ Some (verdict.Accepted a)
@@ -47,11 +48,12 @@ module _ (ns : Shown) (a : judged.Accepted) where
   abbrev pub AreAnswers : List Event → Type 0
   AreAnswers script = FitScript (bits_of ns.width) (first_kinds ns) script
 
-  -- an evaluation is done, its value as the verdict says, and names hold what is of their kinds; or the answers are at an end. No error is
-  -- met, and steps do not run out
+  -- an evaluation is done, its value as the verdict says, and names hold what is of their kinds; or
+  -- the answers are at an end. No error is met, and steps do not run out
   abbrev pub EndsWell : Out (Option Value) → Type 0
   EndsWell (Goes value s) =
-      FitsYield (bits_of ns.width) value a.result × FitNames (bits_of ns.width) (first_kinds ns) s.names
+      FitsYield (bits_of ns.width) value a.result ×
+      FitNames (bits_of ns.width) (first_kinds ns) s.names
   EndsWell (Halts stop s) = ⊥
   EndsWell (NoAnswer s) = Unit {0}
   EndsWell (Spent s) = ⊥
@@ -59,7 +61,8 @@ module _ (ns : Shown) (a : judged.Accepted) where
   -- the same of an evaluator's outcome
   abbrev pub IsDoneWell : Outcome → Names → Type 0
   IsDoneWell (outcome.Done value) names =
-      FitsYield (bits_of ns.width) (value_of value) a.result × FitNames (bits_of ns.width) (first_kinds ns) names
+      FitsYield (bits_of ns.width) (value_of value) a.result ×
+      FitNames (bits_of ns.width) (first_kinds ns) names
   IsDoneWell (outcome.AmlError e) names = ⊥
   IsDoneWell outcome.OutOfSteps names = ⊥
 
@@ -68,20 +71,25 @@ abbrev pub verdict_of : Checked → Accepted → judged.Accepted
 verdict_of c a = accepted_of (numbered c.shapes) a
 
 pub record Headline : Type 0 where
-  -- the meaning of the statements that the grammar ties to the method's bytes, with as many steps as its verdict says, ends well, whatever
-  -- is answered
+  -- the meaning of the statements that the grammar ties to the method's bytes, with as many steps
+  -- as its verdict says, ends well, whatever is answered
   pub meaning :
       (told : Told) (c : Checked) (k : ℕ) (a : Accepted) → IsAccepted told c k a →
       (m : Method) → method_at (shown c.namespace.now) k ≡ Some m →
-      (ts : List Tree) → IsBodyOf (shown c.namespace.now) k m ts → (around : Around (shown c.namespace.now)) →
-      (values : List Value) (names : Names) → AreOfKinds (shown c.namespace.now) (verdict_of c a) values names →
+      (ts : List Tree) → IsBodyOf (shown c.namespace.now) k m ts →
+      (around : Around (shown c.namespace.now)) →
+      (values : List Value) (names : Names) →
+      AreOfKinds (shown c.namespace.now) (verdict_of c a) values names →
       (log script : List Event) → AreAnswers (shown c.namespace.now) (verdict_of c a) script →
       EndsWell (shown c.namespace.now) (verdict_of c a)
-      (evaluated (setting_in (shown c.namespace.now) around.bodies k m (trees ts)) (trees ts) values script (before names a.bound log))
-  -- whatever outcome is answered as that meaning's: it is done, its value as the verdict says, and names hold what is of their kinds
+      (evaluated (setting_in (shown c.namespace.now) around.bodies k m (trees ts)) (trees ts) values
+      script (before names a.bound log))
+  -- whatever outcome is answered as that meaning's: it is done, its value as the verdict says, and
+  -- names hold what is of their kinds
   pub answer :
       (told : Told) (c : Checked) (k : ℕ) (a : Accepted) → IsAccepted told c k a →
-      (values : List Value) (names : Names) → AreOfKinds (shown c.namespace.now) (verdict_of c a) values names →
+      (values : List Value) (names : Names) →
+      AreOfKinds (shown c.namespace.now) (verdict_of c a) values names →
       (log : List Event) (o : Outcome) (names_left : Names) (log_left : List Event) →
       AreAnswers (shown c.namespace.now) (verdict_of c a) log_left →
       Answers c k values names log (Ok o) names_left log_left →

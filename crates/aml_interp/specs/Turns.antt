@@ -16,11 +16,13 @@ use Rattle.aml_verify.specs.declared.checked.Checked.{Checked}
 -- methods that are accepted and take no arguments
 abbrev pub AreCallable : Checked → List ObjectId → Type 0
 AreCallable c methods =
-    (i : ℕ) (id : ObjectId) → slice_get methods i ≡ Some id → takes (verdict_at c.verdicts.items id.0) [] ≡ true
+    (i : ℕ) (id : ObjectId) → slice_get methods i ≡ Some id →
+    takes (verdict_at c.verdicts.items id.0) [] ≡ true
 
-module _ (c : Checked) (methods : List ObjectId) (n : ℕ) (names : program_names.Names) (log log_left : List Event) where
-  -- what names hold behind the run of a method, which is the definition's, from those names and fed with the answers among the events
-  -- that its world gained; and it is done
+module _ (c : Checked) (methods : List ObjectId) (n : ℕ) (names : program_names.Names)
+    (log log_left : List Event) where
+  -- what names hold behind the run of a method, which is the definition's, from those names and fed
+  -- with the answers among the events that its world gained; and it is done
   pub record IsTurn (left : program_names.Names) : Type 0 where
     pub id : ObjectId
     pub there : slice_get methods n ≡ Some id
@@ -31,5 +33,7 @@ module _ (c : Checked) (methods : List ObjectId) (n : ℕ) (names : program_name
   -- it runs, unless no method has this number or the names are not the namespace's
   abbrev pub Turns : Option program_names.Names → Type 0
   Turns (Some left) = IsTurn left
-  Turns None = ((id : ObjectId) → slice_get methods n ≡ Some id → Belong (shown c.namespace.now) (content_kinds names) → ⊥)
+  Turns None =
+      ((id : ObjectId) → slice_get methods n ≡ Some id →
+      Belong (shown c.namespace.now) (content_kinds names) → ⊥)
       × (log_left ≡ log)

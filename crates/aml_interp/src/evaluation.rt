@@ -20,17 +20,18 @@ use aml_values::Value;
 use aml_verify::{Checked, Verdict};
 use std::alloc::Global;
 
-/// Evaluates a method that the verifier accepted, straight from the bytes of its table, with arguments that
-/// it takes, over names of the namespace and a world: with as many steps as its verdict says.
+/// Evaluates a method that the verifier accepted, straight from the bytes of its table, with
+/// arguments that it takes, over names of the namespace and a world: with as many steps as its
+/// verdict says.
 ///
-/// Its value or none is the definition's, and so are what names hold afterwards and the events that the
-/// world gained. No AML error has an answer here, nor has want of steps: neither is met, where values are
-/// what values of their kinds may be, as `accepted_methods_are_done` says.
+/// Its value or none is the definition's, and so are what names hold afterwards and the events that
+/// the world gained. No AML error has an answer here, nor has want of steps: neither is met, where
+/// values are what values of their kinds may be, as `accepted_methods_are_done` says.
 ///
 /// # Errors
 ///
-/// `NoMemory`, where memory is wanted: names and events are then those of the definition with some of
-/// those steps, and the names may be used again.
+/// `NoMemory`, where memory is wanted: names and events are then those of the definition with some
+/// of those steps, and the names may be used again.
 pub fn evaluate<W: World>(
     alloc: Global,
     checked: &Checked<'_>,

@@ -1,6 +1,6 @@
-//! Evaluation of methods that the verifier accepted, straight from the bytes of their tables: no tree is
-//! made, and no AML error is told, since none is met (the rules and the meaning are the project's own; ACPI
-//! 6.5, 5.5.2 and 19.6).
+//! Evaluation of methods that the verifier accepted, straight from the bytes of their tables: no
+//! tree is made, and no AML error is told, since none is met (the rules and the meaning are the
+//! project's own; ACPI 6.5, 5.5.2 and 19.6).
 //!
 //! Rooms: `evaluation` has the evaluation, `headline` the law of what it means that a method was
 //! accepted, `others` a world at whose Sleeps such methods run.

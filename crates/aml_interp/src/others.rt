@@ -82,9 +82,9 @@ impl<'a> Others<'a> {
         self.refused
     }
 
-    /// What names hold behind the run of the method with a place in the list, over a copy of these names: what
-    /// the definition says, as `evaluate` does. None where no method has that place, or the names are not the
-    /// namespace's.
+    /// What names hold behind the run of the method with a place in the list, over a copy of these
+    /// names: what the definition says, as `evaluate` does. None where no method has that place, or
+    /// the names are not the namespace's.
     ///
     /// # Errors
     ///

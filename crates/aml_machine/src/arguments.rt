@@ -7,8 +7,8 @@ ghost use Rattle.aml_machine.specs.Arguments.{AreSlotsOf};
 
 use aml_values::Value;
 
-/// The values of a method's arguments, each in its slot, from the first on; behind the last, slots are
-/// unset. It takes no memory.
+/// The values of a method's arguments, each in its slot, from the first on; behind the last, slots
+/// are unset. It takes no memory.
 #[derive(Drop)]
 pub struct Arguments {
     pub(crate) slots: [Option<Value>; 7],
@@ -42,7 +42,8 @@ impl Arguments {
         }
     }
 
-    /// Puts one more behind so many. One behind the seventh is let go, since no method has a slot for it.
+    /// Puts one more behind so many. One behind the seventh is let go, since no method has a slot
+    /// for it.
     pub fn put(&mut self, number: usize, value: Value)
         ensures { (given : List values.Value) → length given ≡ number → AreSlotsOf self.old given →
             AreSlotsOf self.new (given ++ view value ∷ []) }

@@ -13,9 +13,9 @@ use aml_meaning::BufferField;
 use aml_values::Value;
 use std::alloc::Global;
 
-/// Locals and arguments, unset or with a value, and the names that the method has made so far, by their
-/// numbers in order of definition: what each holds, or the field of a buffer that it is; and the
-/// mutexes that it holds.
+/// Locals and arguments, unset or with a value, and the names that the method has made so far, by
+/// their numbers in order of definition: what each holds, or the field of a buffer that it is; and
+/// the mutexes that it holds.
 #[derive(Drop)]
 pub struct Frame {
     pub locals: [Option<Value>; 8],
@@ -26,7 +26,8 @@ pub struct Frame {
 }
 
 impl Frame {
-    /// A method's frame as it begins, where its callers hold mutexes up to a level, with its arguments.
+    /// A method's frame as it begins, where its callers hold mutexes up to a level, with its
+    /// arguments.
     pub fn new(alloc: Global, outside: u8, arguments: Arguments) -> Self
         ensures { (given : List values.Value) → AreSlotsOf arguments given →
             frame_of result ≡ entered outside given }

@@ -74,8 +74,8 @@ fn are_bytes(bytes: &[u8])
     ensures { (i : ℕ) → slice_index bytes.now i < 2 ^ 8 }
 {}
 
-/// Stores bits into a field of the buffer of so many bytes that the name with a number holds, a byte at
-/// a time and in place. It takes no memory.
+/// Stores bits into a field of the buffer of so many bytes that the name with a number holds, a
+/// byte at a time and in place. It takes no memory.
 pub fn put_bits<B: Bits>(
     field: BufferField,
     size: usize,

@@ -15,7 +15,7 @@ ghost use Rattle.aml_machine.specs.Views.{frame_of, made, now, value_of};
 
 use crate::arguments::Arguments;
 use crate::frame::Frame;
-use crate::slots::hold;
+use crate::slots::{hold, hold_integer};
 use aml_contents::Names;
 use aml_meaning::BufferField;
 use aml_namespace::Width;
@@ -33,27 +33,33 @@ pub struct Machine {
 }
 
 impl Machine {
-    /// Begins a method that is called with these arguments: its frame stands in place of the caller's,
-    /// which is given back, for `take_back`. It takes no memory. By a call of its own, so that the frame
-    /// lies on the stack of the call no more often than it must.
+    /// Begins a method that is called with these arguments: a machine with its frame, which has the
+    /// names and the steps until `take_back`. It takes no memory. By a call of its own, so that no
+    /// frame lies on the stack of the call twice.
     #[inline(never)]
-    pub fn enter(&mut self, alloc: Global, arguments: Arguments) -> Frame
-        ensures enters { (log : List Event) (given : List values.Value) → AreSlotsOf arguments given →
-            now self.new log ≡ inside given (now self.old log) }
-        ensures caller { result ≡ self.old.frame }
-        ensures steps { self.new.steps ≡ self.old.steps }
+    pub fn enter(&mut self, alloc: Global, arguments: Arguments) -> Machine
+        ensures enters { (log : List Event) (given : List values.Value) →
+            AreSlotsOf arguments given →
+            now result log ≡ inside given (now self.old log) }
+        ensures frame { self.new.frame ≡ self.old.frame }
+        ensures steps { result.steps ≡ self.old.steps }
     {
-        let begun = Frame::new(alloc, self.frame.mutexes.level(), arguments);
-        mem::replace(&mut self.frame, begun)
+        Machine {
+            frame: Frame::new(alloc, self.frame.mutexes.level(), arguments),
+            names: mem::replace(&mut self.names, Names::new(alloc)),
+            steps: self.steps,
+        }
     }
 
-    /// Puts the caller's frame back, where a method has ended.
-    pub fn take_back(&mut self, caller: Frame)
+    /// Goes on in this frame where a method that it called has ended, with the names and the steps
+    /// that this one left.
+    pub fn take_back(&mut self, alloc: Global, ended: &mut Machine)
         ensures back { (log : List Event) →
-            now self.new log ≡ with_frame (now self.old log) (frame_of caller) }
-        ensures steps { self.new.steps ≡ self.old.steps }
+            now self.new log ≡ with_frame (now ended.old log) (frame_of self.old.frame) }
+        ensures steps { self.new.steps ≡ ended.old.steps }
     {
-        self.frame = caller;
+        self.names = mem::replace(&mut ended.names, Names::new(alloc));
+        self.steps = ended.steps;
     }
 
     /// Puts a value into a local.
@@ -63,6 +69,15 @@ impl Machine {
         ensures steps { self.new.steps ≡ self.old.steps }
     {
         hold(&mut self.frame.locals, k, value);
+    }
+
+    /// Puts an integer into a local: over the integer there, if one is.
+    pub fn set_local_integer(&mut self, k: u8, number: u64)
+        ensures holds { (log : List Event) →
+            now self.new log ≡ with_local (now self.old log) k (values.Int number) }
+        ensures steps { self.new.steps ≡ self.old.steps }
+    {
+        hold_integer(&mut self.frame.locals, k, number);
     }
 
     /// Puts a value into an argument.

@@ -9,8 +9,9 @@ use aml_meaning::TakenMutex;
 use aml_paths::{NoMemory, ObjectId};
 use std::alloc::Global;
 
-/// The mutexes that a method has taken and not released, in order of taking, and the greatest level of
-/// those that its callers hold. No level is below the one before it, so the last is the greatest.
+/// The mutexes that a method has taken and not released, in order of taking, and the greatest level
+/// of those that its callers hold. No level is below the one before it, so the last is the
+/// greatest.
 #[derive(Drop)]
 pub struct Mutexes {
     taken: Vec<TakenMutex>,
@@ -62,7 +63,8 @@ impl Mutexes {
 
     /// Releases the mutex that was taken last, where it is the one with this number.
     pub fn release(&mut self, object: ObjectId) -> bool
-        ensures released { without_last object.0 self.old.taken.items ≡ held_if result self.new.taken.items }
+        ensures released { without_last object.0 self.old.taken.items ≡
+            held_if result self.new.taken.items }
         ensures kept { result ≡ false → self.new.taken.items ≡ self.old.taken.items }
         ensures outside { self.new.outside ≡ self.old.outside }
     {

@@ -17,8 +17,8 @@ use aml_scene::halt::{Halt, fails};
 use aml_values::Value;
 use std::alloc::Global;
 
-/// The value of a literal of a string, a buffer or a package. A6 at the first buffer or package in it
-/// whose size is computed.
+/// The value of a literal of a string, a buffer or a package. A6 at the first buffer or package in
+/// it whose size is computed.
 pub fn data_literal(
     alloc: Global,
     here: Setting<'_>,

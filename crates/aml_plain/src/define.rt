@@ -35,8 +35,8 @@ fn source_of(term: &Term) -> Option<usize>
     }
 }
 
-/// A field that is as large as its operator says, with its step. A6 at the opcode where its name may not
-/// be an own name.
+/// A field that is as large as its operator says, with its step. A6 at the opcode where its name
+/// may not be an own name.
 pub fn sized_field(
     alloc: Global,
     here: Setting<'_>,
@@ -69,8 +69,8 @@ pub fn sized_field(
     }
 }
 
-/// A field whose number of bits stands in a term, with its step. A6 at the opcode where its name may not
-/// be an own name.
+/// A field whose number of bits stands in a term, with its step. A6 at the opcode where its name
+/// may not be an own name.
 pub fn counted_field(
     alloc: Global,
     here: Setting<'_>,

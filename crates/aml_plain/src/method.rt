@@ -26,8 +26,8 @@ use std::alloc::Global;
 /// How many methods may be active within the first.
 const MOST_WITHIN: u8 = 63;
 
-/// Evaluates a method whose body is read already, as `Namespace::tree` answers it, with its arguments
-/// and at most so many steps, over what names hold and a world.
+/// Evaluates a method whose body is read already, as `Namespace::tree` answers it, with its
+/// arguments and at most so many steps, over what names hold and a world.
 ///
 /// After an AML error, at the end of the steps and for want of memory, names and world are as the
 /// steps so far left them.
@@ -69,13 +69,13 @@ pub fn evaluate_tree<W: World>(
     evaluate_body(alloc, here, &first.body, arguments, names, world, fuel)
 }
 
-/// Evaluates a method from the bytes of its table, with its arguments and at most so many steps, over
-/// what names hold and a world.
+/// Evaluates a method from the bytes of its table, with its arguments and at most so many steps,
+/// over what names hold and a world.
 ///
-/// The outcome is the definition's of the tree that the grammar ties to those bytes: its value or none,
-/// its error at its table and place, or out of steps; and so are what names hold afterwards and the
-/// events that the world gained. The caller knows that the body parses. Want of memory may come
-/// anywhere: names and events are then those of the definition with fewer steps.
+/// The outcome is the definition's of the tree that the grammar ties to those bytes: its value or
+/// none, its error at its table and place, or out of steps; and so are what names hold afterwards
+/// and the events that the world gained. The caller knows that the body parses. Want of memory may
+/// come anywhere: names and events are then those of the definition with fewer steps.
 pub fn evaluate_plain<W: World>(
     alloc: Global,
     namespace: &Namespace<'_>,
@@ -88,7 +88,8 @@ pub fn evaluate_plain<W: World>(
     requires known { IsSome (method_at (shown namespace.now) method.0) }
     requires parses { Parses (shown namespace.now) method.0 }
     ensures { let ns = shown namespace.now in
-        (m : Method) → method_at ns method.0 ≡ Some m → (ts : List Tree) → IsBodyOf ns method.0 m ts →
+        (m : Method) → method_at ns method.0 ≡ Some m → (ts : List Tree) →
+        IsBodyOf ns method.0 m ts →
         Evaluates ns method.0 m (trees ts) (map values.view arguments.items) fuel
         (names_of names.old) (W.log world.old)
         result (names_of names.new) (W.log world.new) }

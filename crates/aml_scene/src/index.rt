@@ -76,8 +76,8 @@ fn write_in(
     Ok(())
 }
 
-/// Writes a byte into what the name at a place means, by the rule of Index, with a step. A2 at the name
-/// where it holds nothing that bytes are written into, and the errors of the rule.
+/// Writes a byte into what the name at a place means, by the rule of Index, with a step. A2 at the
+/// name where it holds nothing that bytes are written into, and the errors of the rule.
 pub fn write_byte(
     scene: &Scene<'_>,
     at: usize,

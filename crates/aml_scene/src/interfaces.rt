@@ -33,8 +33,8 @@ fn answered(scene: &Scene<'_>, at: usize, value: &Value) -> Result<u64, Halt>
     }
 }
 
-/// What `_OSI` at a place answers of the values of its arguments, the first of which stands at another.
-/// A6 at the former where they are not one, A2 at the latter where that is no string.
+/// What `_OSI` at a place answers of the values of its arguments, the first of which stands at
+/// another. A6 at the former where they are not one, A2 at the latter where that is no string.
 pub fn interface_asked(
     scene: &Scene<'_>,
     at: usize,

@@ -9,8 +9,8 @@ use crate::halt::Scene;
 use aml_lex::name_there;
 use aml_namespace::Link;
 
-/// What the name at a place means. A place that is not kept is looked up: so nothing rests on all being
-/// kept, and what is kept needs to be right alone.
+/// What the name at a place means. A place that is not kept is looked up: so nothing rests on all
+/// being kept, and what is kept needs to be right alone.
 pub fn link_of(scene: &Scene<'_>, at: usize) -> Link
     ensures { result ≡ link_in scene.now at }
 {

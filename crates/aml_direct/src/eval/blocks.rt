@@ -140,7 +140,8 @@ pub(super) fn eval_all<W: World>(
     world: &mut W,
 ) -> Result<(), Halt>
     requires { Stands (LieAll (count_of here.scene.now)) bytes.now from }
-    ensures means { (around : _) (ts : _) → LieAll (count_of here.entry.scene.now) bytes.now from ts →
+    ensures means { (around : _) (ts : _) →
+        LieAll (count_of here.entry.scene.now) bytes.now from ts →
         Runs (went result) (mean_all (setting_of here.entry around) (trees ts))
         (now machine.old (W.log world.old)) (now machine.new (W.log world.new)) }
     ensures falls { machine.new.steps ≤ machine.old.steps }

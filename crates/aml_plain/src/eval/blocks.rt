@@ -82,7 +82,8 @@ pub(super) fn turns<W: World>(
     requires tests { IsShaped code.Body (view condition.now) }
     requires runs { AreShaped code.Body (views body.now) }
     ensures means { (around : _) → let s = setting_of here.entry around in Runs (went result) (loop
-        (tested s (place_in here.entry.scene.now (out-Term condition.now).at) (value s (view condition.now)))
+        (tested s (place_in here.entry.scene.now (out-Term condition.now).at)
+        (value s (view condition.now)))
         (mean_all s (views body.now)))
         (now machine.old (W.log world.old)) (now machine.new (W.log world.new)) }
     ensures falls { machine.new.steps ≤ machine.old.steps }

@@ -92,9 +92,9 @@ pub(super) fn eval_arguments<W: World>(
     Ok(given)
 }
 
-/// A method called from a place. A6 there where its body doesn't parse, A9 where it would be the 65th.
-/// By a call of its own, so that the caller's frame, which lies on the stack meanwhile, lies there once
-/// for each method that is active and not once for each term.
+/// A method called from a place. A6 there where its body doesn't parse, A9 where it would be the
+/// 65th. By a call of its own, so that the caller's frame, which lies on the stack meanwhile, lies
+/// there once for each method that is active and not once for each term.
 #[cycle(value)]
 #[inline(never)]
 pub(super) fn call<W: World>(
@@ -107,7 +107,8 @@ pub(super) fn call<W: World>(
     world: &mut W,
 ) -> Result<Option<Value>, Halt>
     requires { IsSome (method_at (shown here.scene.now.namespace.now) id.0) }
-    ensures means { (around : _) → let s = setting_of here.entry around in Runs (told value_of result)
+    ensures means { (around : _) →
+        let s = setting_of here.entry around in Runs (told value_of result)
         (s.call (place_in here.entry.scene.now at) id.0 (map values.view given.items))
         (now machine.old (W.log world.old)) (now machine.new (W.log world.new)) }
     ensures falls { machine.new.steps ≤ machine.old.steps }
@@ -132,13 +133,14 @@ pub(super) fn call<W: World>(
         bodies: here.bodies,
         depth: here.depth - 1,
     };
-    let caller = machine.enter(alloc, Arguments::of(given));
-    let ended = eval_body(alloc, inside, &body.body, machine, world);
-    machine.take_back(caller);
+    let mut called = machine.enter(alloc, Arguments::of(given));
+    let ended = eval_body(alloc, inside, &body.body, &mut called, world);
+    machine.take_back(alloc, &mut called);
     leave(scene.table, ended)
 }
 
-/// An own name is made of its data. A6 at the opcode where its name may not be one, or is made already.
+/// An own name is made of its data. A6 at the opcode where its name may not be one, or is made
+/// already.
 #[cycle(value)]
 pub(super) fn eval_name<W: World>(
     alloc: Global,

@@ -47,7 +47,8 @@ pub(super) fn eval_dereference<W: World>(
     Ok(Some(value))
 }
 
-/// What an Index leads to as an operand: a byte or an element of a value, at an index of its own place.
+/// What an Index leads to as an operand: a byte or an element of a value, at an index of its own
+/// place.
 #[cycle(value)]
 #[inline(never)]
 pub(super) fn dereferenced<W: World>(
