@@ -5,7 +5,7 @@
 use crate::outcomes::{Wanted, ends, first_names, gives, outcome_in};
 use acpi_samples::{HOST, table_of};
 use aml_contents::Names;
-use aml_meaning::AmlCause;
+use aml_meaning::{AmlCause, Outcome};
 use aml_namespace::{LoadFault, Namespace};
 use aml_paths::ObjectId;
 use aml_regions::RegisterFile;
@@ -51,33 +51,28 @@ fn are_in_last(names: &Names, states: &[State], last: usize) -> bool {
     }
 }
 
-/// A row is evaluated: its outcome is the wanted one and names are in its last state then; or
-/// memory is wanted, and they are in one of the states.
+/// Whether an outcome is the wanted one and names are in the last state then; or memory is wanted, and
+/// they are in one of the states.
+fn is_right(found: &Result<Outcome, LoadFault>, names: &Names, row: Row) -> bool {
+    let (_, _, _, wanted, states, last) = row;
+    match found {
+        Ok(outcome) => ends(outcome, wanted) && are_in_last(names, states, last),
+        Err(_) => are_in_one(names, states, last),
+    }
+}
+
+/// A row is evaluated, or memory is wanted.
 fn is_evaluated(rt: &impl Abort, alloc: Global, row: Row) -> Result<(), LoadFault> {
-    let (module, number, fuel, wanted, states, last) = row;
+    let (module, number, fuel, _, _, _) = row;
     let table = table_of(alloc, *b"DSDT", 2, module)?;
     let namespace = Namespace::load(alloc, &[&table], HOST)?;
     assert!(rt; namespace.method(ObjectId(number)).is_some());
+    let id = ObjectId(number);
     let mut names = first_names(alloc, &namespace)?;
     let mut world = RegisterFile::new(alloc);
-    match outcome_in(
-        alloc,
-        &namespace,
-        ObjectId(number),
-        &mut names,
-        &mut world,
-        fuel,
-    ) {
-        Ok(found) => {
-            assert!(rt; ends(&found, wanted), "{module:?} {fuel} {wanted:?}");
-            assert!(rt; are_in_last(&names, states, last), "{module:?} {fuel}");
-            Ok(())
-        }
-        Err(fault) => {
-            assert!(rt; are_in_one(&names, states, last), "{module:?} {fuel}");
-            Err(fault)
-        }
-    }
+    let found = outcome_in(alloc, &namespace, id, &mut names, &mut world, fuel);
+    assert!(rt; is_right(&found, &names, row), "{module:?} {fuel}");
+    found.map(|_| ())
 }
 
 /// Each row is evaluated; once more where memory is wanted the first time.

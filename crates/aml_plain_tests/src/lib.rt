@@ -10,8 +10,6 @@ mod outcomes;
 #[cfg(test)]
 mod plain;
 #[cfg(test)]
-mod region_fields;
-#[cfg(test)]
 mod sleeps;
 #[cfg(test)]
 mod worlds;
