@@ -8,6 +8,8 @@ mod field_sums;
 #[cfg(test)]
 mod fields;
 #[cfg(test)]
+mod logs;
+#[cfg(test)]
 mod refusals;
 #[cfg(test)]
 mod regions;

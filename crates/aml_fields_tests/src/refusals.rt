@@ -1,13 +1,13 @@
-// Index and bank fields, by rows written by hand from the definition; and fields in a world that refuses
-// every call behind the k-th, for each k: the events so far are the first of those that are made
-// otherwise.
+// Fields behind others in a world that refuses every call behind the k-th, for each k: the events so far are the first of
+// those that are made otherwise. What the events are is told by `field_events.rows` of crates/acpicheck/rows.
 
+use crate::logs::{part_of, registers};
 use UnitWidth::{Byte, Word};
 use aml_fields::{read_count, read_integer_field, sound, write_count, write_field};
 use aml_paths::NoMemory;
 use aml_regions::{
     AnyField, BankedField, Event, FieldLayout, IndexedField, OtherBits, Refusing, RegionField,
-    RegisterFile, RegistersFault, UnitWidth, World,
+    UnitWidth, World,
 };
 use std::alloc::Global;
 use std::test::Fail;
@@ -32,9 +32,8 @@ enum Row {
     Bank(Ports, Ports),
 }
 
-/// A field; the value that it is given, or none where it is read; a limit; the events, an `r` or a `w`
-/// with address and value; and what is answered, with the number of events without a limit.
-const ROWS: [(Row, Option<u64>, u64, &str, &str); 15] = [
+/// A field, and the value that it is given, or none where it is read.
+const ROWS: &[(Row, Option<u64>)] = &[
     // 4 bits behind 20, through an index field and a data field of 8 bits
     (
         Row::Index(
@@ -43,9 +42,6 @@ const ROWS: [(Row, Option<u64>, u64, &str, &str); 15] = [
             Ports::Low((Byte, 8, 8)),
         ),
         Some(3),
-        9,
-        "w70=2 r71=5a w70=2 w71=3a ",
-        "all of 4",
     ),
     (
         Row::Index(
@@ -54,31 +50,6 @@ const ROWS: [(Row, Option<u64>, u64, &str, &str); 15] = [
             Ports::Low((Byte, 8, 8)),
         ),
         None,
-        9,
-        "w70=2 r71=5a ",
-        "5 of 2",
-    ),
-    (
-        Row::Index(
-            (Byte, 20, 4),
-            Ports::Low((Byte, 0, 8)),
-            Ports::Low((Byte, 8, 8)),
-        ),
-        Some(3),
-        3,
-        "w70=2 r71=5a w70=2 ",
-        "part of 4",
-    ),
-    (
-        Row::Index(
-            (Byte, 20, 4),
-            Ports::Low((Byte, 0, 8)),
-            Ports::Low((Byte, 8, 8)),
-        ),
-        None,
-        1,
-        "w70=2 ",
-        "part of 2",
     ),
     // a whole unit is not read
     (
@@ -88,9 +59,6 @@ const ROWS: [(Row, Option<u64>, u64, &str, &str); 15] = [
             Ports::Low((Byte, 8, 8)),
         ),
         Some(0x177),
-        9,
-        "w70=3 w71=77 ",
-        "all of 2",
     ),
     // two units of two bytes: the index is a number of bytes
     (
@@ -100,9 +68,6 @@ const ROWS: [(Row, Option<u64>, u64, &str, &str); 15] = [
             Ports::High((Word, 0, 16)),
         ),
         None,
-        9,
-        "w70=0 r80=2211 w70=2 r80=2211 ",
-        "12 of 4",
     ),
     // a data field of two bytes that are read one by one
     (
@@ -112,9 +77,6 @@ const ROWS: [(Row, Option<u64>, u64, &str, &str); 15] = [
             Ports::High((Byte, 4, 16)),
         ),
         None,
-        9,
-        "w70=0 r80=11 r81=22 r82=33 w70=2 r80=11 r81=22 r82=33 ",
-        "13 of 8",
     ),
     // an index field of 4 bits, behind 4 that are kept
     (
@@ -124,9 +86,6 @@ const ROWS: [(Row, Option<u64>, u64, &str, &str); 15] = [
             Ports::High((Byte, 0, 8)),
         ),
         None,
-        9,
-        "r71=5a w71=2a r80=11 ",
-        "1 of 3",
     ),
     // an index field of one bit: the byte's number is cut
     (
@@ -136,53 +95,28 @@ const ROWS: [(Row, Option<u64>, u64, &str, &str); 15] = [
             Ports::High((Byte, 0, 8)),
         ),
         Some(0x99),
-        9,
-        "r71=5a w71=5b w80=99 ",
-        "all of 3",
     ),
     // behind a bank field
     (
         Row::Bank(Ports::High((Byte, 0, 8)), Ports::Low((Byte, 0, 8))),
         None,
-        9,
-        "w70=2 r80=11 ",
-        "11 of 2",
     ),
     (
         Row::Bank(Ports::High((Byte, 0, 8)), Ports::Low((Byte, 0, 8))),
         Some(0x22),
-        9,
-        "w70=2 w80=22 ",
-        "all of 2",
     ),
     (
         Row::Bank(Ports::High((Byte, 2, 4)), Ports::Low((Byte, 0, 8))),
         Some(0xff),
-        9,
-        "w70=2 r80=11 w70=2 w80=3d ",
-        "all of 4",
     ),
     (
         Row::Bank(Ports::High((Byte, 12, 8)), Ports::Low((Byte, 0, 8))),
         None,
-        9,
-        "w70=2 r81=22 w70=2 r82=33 ",
-        "32 of 4",
-    ),
-    (
-        Row::Bank(Ports::High((Byte, 0, 8)), Ports::Low((Byte, 0, 8))),
-        Some(0x22),
-        1,
-        "w70=2 ",
-        "part of 2",
     ),
     // a bank field of 4 bits
     (
         Row::Bank(Ports::High((Byte, 0, 8)), Ports::Low((Byte, 12, 4))),
         None,
-        9,
-        "r71=5a w71=2a r80=11 ",
-        "11 of 3",
     ),
 ];
 
@@ -224,51 +158,25 @@ fn field(row: Row) -> AnyField {
     }
 }
 
-fn registers(alloc: Global) -> Result<RegisterFile, NoMemory> {
-    match RegisterFile::read_text(alloc, REGISTERS.as_bytes()) {
-        Ok(file) => Ok(file),
-        Err(RegistersFault::NoMemory) => Err(NoMemory),
-        Err(RegistersFault::BadRegs { .. }) => Ok(RegisterFile::new(alloc)),
-    }
-}
-
-/// An event's letter, address and value.
-fn parts_of(event: &Event) -> (char, u64, u64) {
-    match event {
-        Event::Read(access, value) => ('r', access.address, *value),
-        Event::Written(access, value) => ('w', access.address, *value),
-        _ => ('?', 0, 0),
-    }
-}
-
-/// Events as a row has them.
-fn events_text(alloc: Global, events: &[Event]) -> Result<String, Fail> {
-    let mut text = String::new(alloc);
-    for event in events.iter() {
-        let (letter, address, value) = parts_of(event);
-        text.push_str(format!(in alloc; "{letter}{address:x}={value:x} ")?.as_str())?;
-    }
-    Ok(text)
-}
-
-/// Reads a field, or gives it a value: its integer, or 0 where it was written; None where more events are
-/// wanted than the limit.
-fn asked<W: World>(
+/// Reads a field, or gives it a value, and tells whether that was done.
+fn is_done<W: World>(
     world: &mut W,
     field: &AnyField,
     value: Option<u64>,
-    limit: u64,
-) -> Result<Option<u64>, NoMemory> {
+) -> Result<bool, NoMemory> {
     if !sound(field) || field.layout().bits > 64 {
-        return Ok(Some(u64::MAX));
+        return Ok(false);
     }
     match value {
-        Some(value) => Ok(write_field(world, field, &value, limit)?.then_some(0)),
-        None => read_integer_field(world, field, limit),
+        Some(value) => write_field(world, field, &value, 1000),
+        None => match read_integer_field(world, field, 1000) {
+            Ok(found) => Ok(found.is_some()),
+            Err(NoMemory) => Err(NoMemory),
+        },
     }
 }
 
-/// How many events that has without a limit.
+/// How many events that has.
 fn count(field: &AnyField, value: Option<u64>) -> u64 {
     if !sound(field) {
         return 0;
@@ -279,33 +187,14 @@ fn count(field: &AnyField, value: Option<u64>) -> u64 {
     }
 }
 
-/// What is answered, with the number of events without a limit.
-fn answer_text(
-    alloc: Global,
-    field: &AnyField,
-    value: Option<u64>,
-    found: Option<u64>,
-) -> Result<String, Fail> {
-    let all = count(field, value);
-    match found {
-        None => Ok(format!(in alloc; "part of {all}")?),
-        Some(_) if value.is_some() => Ok(format!(in alloc; "all of {all}")?),
-        Some(found) => Ok(format!(in alloc; "{found:x} of {all}")?),
+/// Whether events are the first of all.
+fn are_first(events: &[Event], all: &[Event]) -> bool {
+    for (event, other) in events.iter().zip(all) {
+        if part_of(event) != part_of(other) {
+            return false;
+        }
     }
-}
-
-#[test]
-fn index_and_bank_fields_are_reached(rt: HostRuntime) -> Result<(), Fail> {
-    for (row, value, limit, events, answer) in ROWS {
-        let field = field(row);
-        let mut file = registers(rt.alloc())?;
-        let found = asked(&mut file, &field, value, limit)?;
-        let text = events_text(rt.alloc(), file.events())?;
-        assert_eq!(rt; text.as_str(), events);
-        let told = answer_text(rt.alloc(), &field, value, found)?;
-        assert_eq!(rt; told.as_str(), answer);
-    }
-    Ok(())
+    events.len() <= all.len()
 }
 
 /// Whether a call in a world that answers so many of its events is refused behind them, and these are
@@ -314,44 +203,49 @@ fn is_refused_behind(
     alloc: Global,
     field: &AnyField,
     value: Option<u64>,
-    answered: u64,
+    answered: usize,
     all: &[Event],
-) -> Result<bool, Fail> {
-    let mut world = Refusing::new(registers(alloc)?, answered);
-    let found = asked(&mut world, field, value, 1000);
-    let made = world.inner().events();
-    let told = events_text(alloc, made)?;
-    let first = match all.get(..made.len()) {
-        Some(first) => events_text(alloc, first)? == told,
-        None => false,
+) -> Result<bool, NoMemory> {
+    let mut world = Refusing::new(registers(alloc, REGISTERS)?, answered as u64);
+    let done = is_done(&mut world, field, value);
+    let (wanted, refusals) = if answered < all.len() {
+        (Err(NoMemory), 1)
+    } else {
+        (Ok(true), 0)
     };
-    if answered < all.len() as u64 {
-        return Ok(
-            first
-                && found == Err(NoMemory)
-                && world.refusals() == 1
-                && made.len() as u64 == answered,
-        );
+    let made = world.inner().events();
+    let is_told = done == wanted && world.refusals() == refusals;
+    Ok(is_told && made.len() == answered && are_first(made, all))
+}
+
+/// Whether a call is refused behind each of its events, of which there are as many as is told.
+fn is_refused_behind_each(
+    alloc: Global,
+    field: &AnyField,
+    value: Option<u64>,
+) -> Result<bool, NoMemory> {
+    let mut file = registers(alloc, REGISTERS)?;
+    let is_done = is_done(&mut file, field, value)?;
+    let all = file.events();
+    for answered in 0..all.len() + 1 {
+        if !is_refused_behind(alloc, field, value, answered, all)? {
+            return Ok(false);
+        }
     }
-    Ok(first && found.is_ok() && world.refusals() == 0 && made.len() == all.len())
+    Ok(is_done && count(field, value) == all.len() as u64)
 }
 
 #[test]
 fn refused_calls_leave_a_beginning(rt: HostRuntime) -> Result<(), Fail> {
-    for (row, value, _, _, _) in ROWS {
-        let field = field(row);
-        let mut file = registers(rt.alloc())?;
-        asked(&mut file, &field, value, 1000)?;
-        let all = file.events();
-        for answered in 0..all.len() as u64 + 1 {
-            assert!(rt; is_refused_behind(rt.alloc(), &field, value, answered, all)?);
-        }
+    for (row, value) in ROWS {
+        let is_refused = is_refused_behind_each(rt.alloc(), &field(*row), *value)?;
+        assert!(rt; is_refused, "{row:?} {value:?}");
     }
     Ok(())
 }
 
 /// Fields behind others that are not sound.
-const UNSOUND: [Row; 5] = [
+const UNSOUND: &[Row] = &[
     // the data field is not as wide as a unit
     Row::Index(
         (Word, 12, 8),
@@ -377,7 +271,7 @@ const UNSOUND: [Row; 5] = [
 #[test]
 fn fields_behind_unsound_ones_are_told(rt: HostRuntime) -> Result<(), Fail> {
     for row in UNSOUND {
-        assert!(rt; !sound(&field(row)));
+        assert!(rt; !sound(&field(*row)));
     }
     Ok(())
 }

@@ -7,7 +7,6 @@ ghost use Rattle.aml_regions.specs.Worlds.{IsUnit};
 use aml_contents::Names;
 use aml_paths::{NoMemory, ObjectId};
 use aml_regions::{Access, AllOnes, Event, Refusing, RegisterFile, RegistersFault, World};
-use std::alloc::Global;
 use std::test::Fail;
 
 /// An event, but of a Sleep only whether it left other contents.
@@ -30,12 +29,14 @@ fn call_of(event: &Event) -> Call {
     }
 }
 
-fn calls_of(alloc: Global, events: &[Event]) -> Result<Vec<Call>, Fail> {
-    let mut calls = Vec::new(alloc);
-    for event in events.iter() {
-        calls.push(call_of(event))?;
+/// Whether events are just these.
+fn are_calls(events: &[Event], calls: &[Call]) -> bool {
+    for (event, call) in events.iter().zip(calls) {
+        if call_of(event) != *call {
+            return false;
+        }
     }
-    Ok(calls)
+    events.len() == calls.len()
 }
 
 /// A value written to a unit and read back, in any world.
@@ -78,56 +79,69 @@ const WITHIN: Access = Access {
 #[test]
 fn bytes_that_were_never_set_are_zero(rt: HostRuntime) -> Result<(), Fail> {
     let mut file = RegisterFile::new(rt.alloc());
-    let found = (file.byte(0, 0), file.read(LAST_WIDE)?, file.refusals());
-    assert_eq!(rt; found, (0, 0, 0));
-    assert_eq!(rt;
-        calls_of(rt.alloc(), file.events())?.as_slice(),
-        [Call::Read(LAST_WIDE, 0)].as_slice()
-    );
+    let found = file.read(LAST_WIDE)?;
+    assert_eq!(rt; (file.byte(0, 0), found, file.refusals()), (0, 0, 0));
+    assert!(rt; are_calls(file.events(), &[Call::Read(LAST_WIDE, 0)]));
     Ok(())
+}
+
+/// What units that overlap give, before and behind a write of some of their bytes.
+fn overlapping(file: &mut RegisterFile) -> Result<[u64; 6], NoMemory> {
+    let back = written_and_read(file, LAST_WIDE, 0x8877_6655_4433_2211)?;
+    let byte = file.read(LAST_BYTE)?;
+    let within = file.read(WITHIN)?;
+    let changed = written_and_read(file, WITHIN, 0xabcd)?;
+    let wide = file.read(LAST_WIDE)?;
+    let other = file.read(OTHER_SPACE)?;
+    Ok([back, byte, within, changed, wide, other])
 }
 
 #[test]
 fn widths_overlap_lowest_byte_first(rt: HostRuntime) -> Result<(), Fail> {
     let mut file = RegisterFile::new(rt.alloc());
-    let back = written_and_read(&mut file, LAST_WIDE, 0x8877_6655_4433_2211)?;
-    let parts = [file.read(LAST_BYTE)?, file.read(WITHIN)?];
-    let changed = written_and_read(&mut file, WITHIN, 0xabcd)?;
-    let found = [file.read(LAST_WIDE)?, file.read(OTHER_SPACE)?];
-    assert_eq!(rt; (back, parts), (0x8877_6655_4433_2211, [0x88, 0x5544]));
-    assert_eq!(rt; (changed, found), (0xabcd, [0x8877_66ab_cd33_2211, 0]));
-    assert_eq!(rt; file.events().len(), 8);
+    let found = overlapping(&mut file)?;
+    let wanted = [
+        0x8877_6655_4433_2211,
+        0x88,
+        0x5544,
+        0xabcd,
+        0x8877_66ab_cd33_2211,
+        0,
+    ];
+    assert_eq!(rt; (found, file.events().len()), (wanted, 8));
     Ok(())
+}
+
+/// Makes a call of each kind but a read.
+fn call_each(file: &mut RegisterFile, names: &mut Names) -> Result<(), NoMemory> {
+    file.notify(ObjectId(3), 0x80)?;
+    file.sleep(20, names)?;
+    file.stall(50)?;
+    file.write(LAST_BYTE, 7)
 }
 
 #[test]
 fn each_call_makes_its_event(rt: HostRuntime) -> Result<(), Fail> {
     let mut file = RegisterFile::new(rt.alloc());
-    file.notify(ObjectId(3), 0x80)?;
     let mut names = Names::new(rt.alloc());
-    file.sleep(20, &mut names)?;
-    file.stall(50)?;
-    file.write(LAST_BYTE, 7)?;
+    call_each(&mut file, &mut names)?;
     let log = [
         Call::Notified(ObjectId(3), 0x80),
         Call::Slept(20, false),
         Call::Stalled(50),
         Call::Written(LAST_BYTE, 7),
     ];
-    assert_eq!(rt;
-        calls_of(rt.alloc(), file.events())?.as_slice(),
-        log.as_slice()
-    );
+    assert!(rt; are_calls(file.events(), &log));
     Ok(())
 }
 
 #[test]
 fn refusals_are_counted(rt: HostRuntime) -> Result<(), Fail> {
     let mut world = Refusing::new(AllOnes::new(rt.alloc()), 0);
-    assert_eq!(rt; written_and_read(&mut world, LAST_BYTE, 1), Err(NoMemory));
     let mut names = Names::new(rt.alloc());
-    assert_eq!(rt; world.sleep(1, &mut names), Err(NoMemory));
-    assert_eq!(rt; world.refusals(), 2);
+    let is_written = written_and_read(&mut world, LAST_BYTE, 1).is_ok();
+    let is_slept = world.sleep(1, &mut names).is_ok();
+    assert_eq!(rt; (is_written, is_slept, world.refusals()), (false, false, 2));
     Ok(())
 }
 
@@ -137,22 +151,21 @@ fn a_noted_sleep_keeps_what_it_left(rt: HostRuntime) -> Result<(), Fail> {
     file.note_sleep(3, Some(Names::new(rt.alloc())))?;
     file.note_sleep(4, None)?;
     let log = [Call::Slept(3, true), Call::Slept(4, false)];
-    assert_eq!(rt;
-        calls_of(rt.alloc(), file.events())?.as_slice(),
-        log.as_slice()
-    );
+    assert!(rt; are_calls(file.events(), &log));
     Ok(())
+}
+
+/// What units give that are written first, or not.
+fn ones(world: &mut AllOnes) -> Result<[u64; 3], NoMemory> {
+    let byte = written_and_read(world, LAST_BYTE, 0)?;
+    let within = written_and_read(world, WITHIN, 7)?;
+    Ok([byte, within, world.read(LAST_WIDE)?])
 }
 
 #[test]
 fn each_bit_is_one(rt: HostRuntime) -> Result<(), Fail> {
     let mut world = AllOnes::new(rt.alloc());
-    let read = [
-        written_and_read(&mut world, LAST_BYTE, 0)?,
-        written_and_read(&mut world, WITHIN, 7)?,
-        world.read(LAST_WIDE)?,
-    ];
-    assert_eq!(rt; read, [0xff, 0xffff, u64::MAX]);
+    let read = ones(&mut world)?;
     let log = [
         Call::Written(LAST_BYTE, 0),
         Call::Read(LAST_BYTE, 0xff),
@@ -160,11 +173,8 @@ fn each_bit_is_one(rt: HostRuntime) -> Result<(), Fail> {
         Call::Read(WITHIN, 0xffff),
         Call::Read(LAST_WIDE, u64::MAX),
     ];
-    assert_eq!(rt;
-        calls_of(rt.alloc(), world.events())?.as_slice(),
-        log.as_slice()
-    );
-    assert_eq!(rt; world.refusals(), 0);
+    assert_eq!(rt; (read, world.refusals()), ([0xff, 0xffff, u64::MAX], 0));
+    assert!(rt; are_calls(world.events(), &log));
     Ok(())
 }
 
