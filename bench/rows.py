@@ -1,5 +1,5 @@
 #!/usr/bin/env python3
-"""Runs the built program over rows: of evaluations, of loads, and of commands.
+"""Runs the built program over rows: of evaluations, of loads, of resources, and of commands.
 
     python3 bench/rows.py [--program PATH] [FILE..]
 
@@ -14,6 +14,8 @@ A file crates/acpicheck/rows/NAME.rows is lines of text. What stands in a line h
 | `revision 1` | the DSDT of evaluations and loads has this revision; 2 at a file's front |
 | `BYTES \\| OUTPUT` | a row of a load: a DSDT's definitions, what `names` writes behind the predefined names |
 | `BYTES, BYTES \\| OUTPUT` | the same of a DSDT and an SSDT |
+| `resources BYTES \\| OUTPUT` | a row of resources: a buffer's bytes, what `resources` writes of a name of it |
+| `resources BYTES:0..5 \\| OUTPUT` | the same of as many of these bytes, with each number |
 | `$ WORDS \\| OUTPUT` | a row of a command: the program's words, what is written |
 | `< INPUT \\| OUTPUT` | a row without words: standard input, what is written |
 | `table NAME SIGNATURE REVISION BYTES` | the file NAME is such a table with BYTES behind its header |
@@ -42,6 +44,9 @@ A `table` that is cut or changed has its length and its checksum made to fit the
 
 INPUT is text in which `;` is a line end, with the spaces behind it, `(TEXT)*N` is N such texts, and a file's word
 between braces is its hex text.
+
+In a row of resources the buffer stands alone in a DSDT, under the name BUF0. In the OUTPUT of its range `{N}` is the
+number too.
 
 OUTPUT is the lines of standard output with `; ` between each two; `+ ` at a line's front stands for two spaces, and
 ` *N` behind a line for N of it; `-` alone is no line. The status must be that of the last line: 2 of E520, 1 of
@@ -233,6 +238,26 @@ def load(above, place, text, output):
     return [Row(place, above.growths, files, ["names", *files], b"", lines)]
 
 
+def buffer_table(inner):
+    """A DSDT of Name (BUF0, Buffer () {..})."""
+    size = bytes([10, len(inner)]) if len(inner) < 256 else b"\x0b" + len(inner).to_bytes(2, "little")
+    return table_of(b"DSDT", 2, b"\x08BUF0\x11" + package_length(len(size + inner)) + size + inner)
+
+
+def resources(above, place, text, output):
+    """The rows of resources, one for each number of the range behind the bytes."""
+    spelled, cut = re.fullmatch(r"(.*?)(?::([0-9.]+))?", text).groups()
+    inner, rows = bytes_of(spelled), []
+    for number in span(cut, 10) if cut else [len(inner)]:
+        if number > len(inner):
+            raise ValueError("fewer bytes than the range says")
+        lines = [line.replace("{N}", str(number)) for line in output_of(above, output)]
+        files = {"dsdt.bin": buffer_table(inner[:number])}
+        words = ["resources", "--object", r"\BUF0", "dsdt.bin"]
+        rows.append(Row(f"{place}{f' at {number}' if cut else ''}", above.growths, files, words, b"", lines))
+    return rows
+
+
 def word_of(text):
     """The word that a text between spaces spells."""
     spelled = b"" if text == '""' else text.encode("ascii")
@@ -285,6 +310,8 @@ def rows_of(above, place, line):
         return command(above, place, parts[0][2:], output)
     if line.startswith("< ") and len(parts) == 1:
         return standard_input(above, place, parts[0][2:], output)
+    if line.startswith("resources ") and len(parts) == 1:
+        return resources(above, place, parts[0].removeprefix("resources"), output)
     if len(parts) == 1:
         return load(above, place, parts[0], output)
     return evaluation(above, place, [*parts, output])
