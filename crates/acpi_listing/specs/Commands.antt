@@ -102,7 +102,8 @@ abbrev pub are_taken : Width → List Value → Bool
 are_taken width [] = true
 are_taken width (v ∷ vs) = is_taken (greatest_of width) v && are_taken width vs
 
--- a method takes arguments: as many as it has, and the integers among them are of the namespace's width
+-- a method takes arguments: as many as it has, and the integers among them are of the namespace's
+-- width
 abbrev pub Takes : Shown → Method → List Value → Type 0
 Takes ns m arguments = (length arguments ≡ m.args) × IsTrue (are_taken ns.width arguments)
 
@@ -114,7 +115,8 @@ outcome_status OutOfSteps = 3
 
 -- the arguments, or the first fault of their text
 abbrev pub ReadsArguments : Option (List ℕ) → Result (List Value) Fault → Type 0
-ReadsArguments args = Tries (ListsArguments args) (λ f. (f ≡ nowhere cause.BadArgs) × ListsBadArguments args)
+ReadsArguments args =
+    Tries (ListsArguments args) (λ f. (f ≡ nowhere cause.BadArgs) × ListsBadArguments args)
 
 -- the method of that path
 abbrev pub Finds : Shown → List ℕ → Result (ℕ × Method) Fault → Type 0
@@ -136,20 +138,27 @@ Fit ns m arguments (Err f) = (Takes ns m arguments → ⊥) × (f ≡ nowhere ca
 abbrev pub names_first : Shown → State.Names
 names_first ns = record { contents = first_contents ns; kinds = first_kinds ns }
 
--- an outcome and the events until then, which the meaning has from what names hold first, whatever happened before, and whatever names
--- hold afterwards; and the reads among the events are answered as registers of these bytes answer them
-pub record IsOutcome (ns : Shown) (bytes : ℕ → ℕ → ℕ) (id : ℕ) (m : Method) (body : Trees) (arguments : List Value) (steps : ℕ) (outcome : Outcome) (events : List Event) : Type 0 where
+-- an outcome and the events until then, which the meaning has from what names hold first, whatever
+-- happened before, and whatever names hold afterwards; and the reads among the events are answered
+-- as registers of these bytes answer them
+pub record IsOutcome (ns : Shown) (bytes : ℕ → ℕ → ℕ) (id : ℕ) (m : Method) (body : Trees)
+    (arguments : List Value) (steps : ℕ) (outcome : Outcome) (events : List Event) : Type 0 where
   pub names : State.Names
   pub before : List Event
-  pub evaluates : Evaluates ns id m body arguments steps (names_first ns) before (Ok outcome) names (before ++ events)
+  pub evaluates : Evaluates ns id m body arguments steps (names_first ns) before (Ok outcome) names
+      (before ++ events)
   pub answered : AnswerReads bytes events
 
-abbrev pub IsMeant : Shown → (ℕ → ℕ → ℕ) → ℕ → Method → Trees → List Value → ℕ → Result (Outcome × List Event) Fault → Type 0
-IsMeant ns bytes id m body arguments steps (Ok (outcome, events)) = IsOutcome ns bytes id m body arguments steps outcome events
+abbrev pub IsMeant : Shown → (ℕ → ℕ → ℕ) → ℕ → Method → Trees → List Value → ℕ →
+    Result (Outcome × List Event) Fault → Type 0
+IsMeant ns bytes id m body arguments steps (Ok (outcome, events)) =
+    IsOutcome ns bytes id m body arguments steps outcome events
 IsMeant ns bytes id m body arguments steps (Err f) = f ≡ nowhere cause.NoMemory
 
--- an accepted method's outcome and the events until then: it is done, and both are those of the statements that the grammar ties to its bytes
-pub record IsDoneOver (bytes : ℕ → ℕ → ℕ) (ns : Shown) (id : ℕ) (m : Method) (arguments : List Value) (steps : ℕ) (outcome : Outcome) (events : List Event) : Type 0 where
+-- an accepted method's outcome and the events until then: it is done, and both are those of the
+-- statements that the grammar ties to its bytes
+pub record IsDoneOver (bytes : ℕ → ℕ → ℕ) (ns : Shown) (id : ℕ) (m : Method)
+    (arguments : List Value) (steps : ℕ) (outcome : Outcome) (events : List Event) : Type 0 where
   pub value : Option held.Value
   pub done : outcome ≡ Done value
   pub body : List Tree
@@ -157,13 +166,16 @@ pub record IsDoneOver (bytes : ℕ → ℕ → ℕ) (ns : Shown) (id : ℕ) (m :
   pub meant : IsOutcome ns bytes id m (trees body) arguments steps outcome events
 
 -- the same; or memory is wanted
-abbrev pub IsDone : (ℕ → ℕ → ℕ) → Shown → ℕ × Method → List Value → ℕ → Result (Outcome × List Event) Fault → Type 0
-IsDone bytes ns (id, m) arguments steps (Ok (outcome, events)) = IsDoneOver bytes ns id m arguments steps outcome events
+abbrev pub IsDone : (ℕ → ℕ → ℕ) → Shown → ℕ × Method → List Value → ℕ →
+    Result (Outcome × List Event) Fault → Type 0
+IsDone bytes ns (id, m) arguments steps (Ok (outcome, events)) =
+    IsDoneOver bytes ns id m arguments steps outcome events
 IsDone bytes ns found arguments steps (Err f) = f ≡ nowhere cause.NoMemory
 
 -- the lines of the events of an evaluation, and behind them that of its outcome
 abbrev pub evaluation_text : Entries → Outcome × List Event → List ℕ
-evaluation_text entries (outcome, events) = events_text entries events ++ outcome_line entries outcome
+evaluation_text entries (outcome, events) =
+    events_text entries events ++ outcome_line entries outcome
 
 -- an outcome, with the events until then
 abbrev pub with_events : Result Outcome Fault → List Event → Result (Outcome × List Event) Fault
@@ -211,10 +223,12 @@ VerifiesFiles answers names kinds =
 abbrev pub printed_path : Shown → ℕ → List ℕ
 printed_path ns id = path_text (path_of ns.entries id)
 
--- `eval` of a body, over registers of these bytes: a refused one has its line; else the arguments must fit, and the events and the
--- outcome have their lines
-abbrev pub EvaluatesBody : (ℕ → ℕ → ℕ) → Shown → ℕ × Method → List Value → ℕ → Result (List Tree) Refusal → Step (Unit {0}) ℕ
-EvaluatesBody bytes ns (id, m) arguments steps (Err refusal) = Tells (refusal_line (printed_path ns id) m.table refusal) 3
+-- `eval` of a body, over registers of these bytes: a refused one has its line; else the arguments
+-- must fit, and the events and the outcome have their lines
+abbrev pub EvaluatesBody : (ℕ → ℕ → ℕ) → Shown → ℕ × Method → List Value → ℕ →
+    Result (List Tree) Refusal → Step (Unit {0}) ℕ
+EvaluatesBody bytes ns (id, m) arguments steps (Err refusal) =
+    Tells (refusal_line (printed_path ns id) m.table refusal) 3
 EvaluatesBody bytes ns (id, m) arguments steps (Ok ts) =
     Then (Obtains (Fit ns m arguments)) (λ _.
     Then (Obtains (IsMeant ns bytes id m (trees ts) arguments steps)) (λ ended.
@@ -232,61 +246,79 @@ is_accepted said = false
 
 -- an accepted method takes arguments: as many as it has, each of its kind
 abbrev pub Accepts : Checked → Accepted → List Value → Result (Unit {0}) Fault → Type 0
-Accepts checked accepted arguments (Ok _) = all_fit arguments (kinds_of (numbered checked.shapes) accepted.args.items) ≡ true
+Accepts checked accepted arguments (Ok _) =
+    all_fit arguments (kinds_of (numbered checked.shapes) accepted.args.items) ≡ true
 Accepts checked accepted arguments (Err f) =
-    (all_fit arguments (kinds_of (numbered checked.shapes) accepted.args.items) ≡ false) × (f ≡ nowhere cause.ArgsDontFit)
+    (all_fit arguments (kinds_of (numbered checked.shapes) accepted.args.items) ≡ false) ×
+    (f ≡ nowhere cause.ArgsDontFit)
 
--- `eval` of an accepted method, with as many steps as its verdict says: the arguments must be of its kinds, and the events and the value
--- or none have their lines
-abbrev pub EvaluatesAccepted : (ℕ → ℕ → ℕ) → Shown → List Value → ℕ × Method → Checked → Accepted → Step (Unit {0}) ℕ
+-- `eval` of an accepted method, with as many steps as its verdict says: the arguments must be of
+-- its kinds, and the events and the value or none have their lines
+abbrev pub EvaluatesAccepted : (ℕ → ℕ → ℕ) → Shown → List Value → ℕ × Method → Checked → Accepted →
+    Step (Unit {0}) ℕ
 EvaluatesAccepted bytes ns arguments found checked accepted =
     Then (Obtains (Accepts checked accepted arguments)) (λ _.
     Then (Obtains (IsDone bytes ns found arguments accepted.bound)) (λ ended.
     Tells (evaluation_text ns.entries ended) (outcome_status ended.0)))
 
--- `eval` of a method by what is said of it: an accepted one is evaluated; what is said of any other has its line
-abbrev pub EvaluatesJudged : (ℕ → ℕ → ℕ) → Shown → List Value → ℕ × Method → Checked → Option Verdict → Step (Unit {0}) ℕ
-EvaluatesJudged bytes ns arguments found checked (Some (verdict.Accepted accepted)) = EvaluatesAccepted bytes ns arguments found checked accepted
-EvaluatesJudged bytes ns arguments found checked said = Tells (said_text checked (record { 0 = found.0 })) 3
+-- `eval` of a method by what is said of it: an accepted one is evaluated; what is said of any other
+-- has its line
+abbrev pub EvaluatesJudged : (ℕ → ℕ → ℕ) → Shown → List Value → ℕ × Method → Checked →
+    Option Verdict → Step (Unit {0}) ℕ
+EvaluatesJudged bytes ns arguments found checked (Some (verdict.Accepted accepted)) =
+    EvaluatesAccepted bytes ns arguments found checked accepted
+EvaluatesJudged bytes ns arguments found checked said =
+    Tells (said_text checked (record { 0 = found.0 })) 3
 
--- `eval` of a method with so many steps, or, without a number, by its verdict, where these kinds are told
-abbrev pub EvaluatesFound : (ℕ → ℕ → ℕ) → Told → Shown → List Value → Option ℕ → ℕ × Method → Step (Unit {0}) ℕ
-EvaluatesFound bytes told ns arguments (Some steps) found = EvaluatesMethod bytes ns arguments steps found
+-- `eval` of a method with so many steps, or, without a number, by its verdict, where these kinds
+-- are told
+abbrev pub EvaluatesFound : (ℕ → ℕ → ℕ) → Told → Shown → List Value → Option ℕ → ℕ × Method →
+    Step (Unit {0}) ℕ
+EvaluatesFound bytes told ns arguments (Some steps) found =
+    EvaluatesMethod bytes ns arguments steps found
 EvaluatesFound bytes told ns arguments None found =
-    Then (Obtains (Judges told ns)) (λ checked. EvaluatesJudged bytes ns arguments found checked (said_of checked found.0))
+    Then (Obtains (Judges told ns))
+    (λ checked. EvaluatesJudged bytes ns arguments found checked (said_of checked found.0))
 
--- `eval` of tables, over registers of these bytes, where these kinds are told and `_OSI` knows these texts: the load, the method of that
--- path, its evaluation
-abbrev pub EvaluatesTables : (ℕ → ℕ → ℕ) → Told → List ℕ → List Value → Option ℕ → List (List ℕ) → List (List ℕ) → Step (Unit {0}) ℕ
+-- `eval` of tables, over registers of these bytes, where these kinds are told and `_OSI` knows
+-- these texts: the load, the method of that path, its evaluation
+abbrev pub EvaluatesTables : (ℕ → ℕ → ℕ) → Told → List ℕ → List Value → Option ℕ → List (List ℕ) →
+    List (List ℕ) → Step (Unit {0}) ℕ
 EvaluatesTables bytes told word arguments steps interfaces tables =
     Then (Obtains (Loads interfaces tables)) (λ ns.
     Then (Obtains (Finds ns word)) (EvaluatesFound bytes told ns arguments steps))
 
--- `eval`: the arguments, the registers, the kinds, the files, their tables over these registers, where `_OSI` knows the text of `--osi`
-abbrev pub EvaluatesFiles : {F : Type 0} → Answers F → InputNames → List ℕ → Option (List ℕ) → Option (List ℕ) → Option (List ℕ) → Option ℕ → Option (List ℕ) → Step F ℕ
+-- `eval`: the arguments, the registers, the kinds, the files, their tables over these registers,
+-- where `_OSI` knows the text of `--osi`
+abbrev pub EvaluatesFiles : {F : Type 0} → Answers F → InputNames → List ℕ → Option (List ℕ) →
+    Option (List ℕ) → Option (List ℕ) → Option ℕ → Option (List ℕ) → Step F ℕ
 EvaluatesFiles answers names word args regs kinds steps osi =
     Then (Obtains (ReadsArguments args)) (λ arguments.
     Then (ReadsRegisters answers regs) (λ registers.
     Then (ReadsSignatures answers kinds) (λ signatures.
     Then (ReadsInputs answers names) (λ inputs.
-    Still (EvaluatesTables (contents registers.file) (kinds_told signatures) word arguments steps (interfaces_of osi) (tables_of inputs))))))
+    Still (EvaluatesTables (contents registers.file) (kinds_told signatures) word arguments steps
+    (interfaces_of osi) (tables_of inputs))))))
 
 -- the object whose printed path, or an alias's, a word is, where it gives a value
 abbrev pub IsObjectAt : Shown → List ℕ → ℕ → Type 0
-IsObjectAt ns word id = (printed_object ns.entries word ≡ Some id) × (gives_value (object_at ns.entries id) ≡ true)
+IsObjectAt ns word id =
+    (printed_object ns.entries word ≡ Some id) × (gives_value (object_at ns.entries id) ≡ true)
 
 -- the object of that path
 abbrev pub FindsObject : Shown → List ℕ → Result ℕ Fault → Type 0
 FindsObject ns word (Ok id) = IsObjectAt ns word id
-FindsObject ns word (Err f) = ((id : ℕ) → IsObjectAt ns word id → ⊥) × (f ≡ nowhere cause.NoSuchObject)
+FindsObject ns word (Err f) =
+    ((id : ℕ) → IsObjectAt ns word id → ⊥) × (f ≡ nowhere cause.NoSuchObject)
 
--- what an object gives from what names hold first, whatever happened before; and the reads among the events since then are answered as
--- registers of these bytes answer them
+-- what an object gives from what names hold first, whatever happened before; and the reads among
+-- the events since then are answered as registers of these bytes answer them
 pub record GivesOver (bytes : ℕ → ℕ → ℕ) (checked : Checked) (id : ℕ) (g : Given) : Type 0 where
   pub names : State.Names
   pub before : List Event
   pub log : List Event
-  pub gives : GivesBy checked id (said_of checked id) g (names_first (shown checked.namespace.now)) before names log
+  pub gives : GivesBy checked id (said_of checked id) g (names_first (shown checked.namespace.now))
+      before names log
   pub answered : (events : List Event) → log ≡ before ++ events → AnswerReads bytes events
 
 -- the same; or memory is wanted
@@ -296,7 +328,9 @@ IsGivenOver bytes checked id (Err f) = f ≡ nowhere cause.NoMemory
 
 -- bytes spell no items, and this is why
 abbrev pub SpellsNoItems : List ℕ → Fault → Type 0
-SpellsNoItems octets f = (refusal : ResourceRefusal) × (items_of octets ≡ Err refusal) × (f ≡ resource_fault (resources.Refused refusal))
+SpellsNoItems octets f =
+    (refusal : ResourceRefusal) × (items_of octets ≡ Err refusal) ×
+    (f ≡ resource_fault (resources.Refused refusal))
 
 -- the items that bytes spell, or why there are none
 abbrev pub ReadsItems : List ℕ → Result (List Item) Fault → Type 0
@@ -318,8 +352,8 @@ ListsGiven checked id (given.Value v) = ListsItems (octets_of (view v))
 ListsGiven checked id given.Nothing = ListsItems None
 ListsGiven checked id given.Refused = Tells (said_text checked (record { 0 = id })) 3
 
--- `resources` of a namespace, over registers of these bytes, where these kinds are told: the object of that path, the verdicts on all
--- methods, what the object gives
+-- `resources` of a namespace, over registers of these bytes, where these kinds are told: the object
+-- of that path, the verdicts on all methods, what the object gives
 abbrev pub ListsLoaded : (ℕ → ℕ → ℕ) → Told → List ℕ → Shown → Step (Unit {0}) ℕ
 ListsLoaded bytes told word ns =
     Then (Obtains (FindsObject ns word)) (λ id.
@@ -329,10 +363,12 @@ ListsLoaded bytes told word ns =
 
 -- `resources` of tables: the load, and what was loaded
 abbrev pub ListsTables : (ℕ → ℕ → ℕ) → Told → List ℕ → List (List ℕ) → Step (Unit {0}) ℕ
-ListsTables bytes told word tables = Then (Obtains (Loads [] tables)) (λ ns. ListsLoaded bytes told word ns)
+ListsTables bytes told word tables =
+    Then (Obtains (Loads [] tables)) (λ ns. ListsLoaded bytes told word ns)
 
 -- `resources`: the registers, the kinds that are told, the files, their tables over these registers
-abbrev pub ListsResources : {F : Type 0} → Answers F → InputNames → List ℕ → Option (List ℕ) → Option (List ℕ) → Step F ℕ
+abbrev pub ListsResources : {F : Type 0} → Answers F → InputNames → List ℕ → Option (List ℕ) →
+    Option (List ℕ) → Step F ℕ
 ListsResources answers names word regs kinds =
     Then (ReadsRegisters answers regs) (λ registers.
     Then (ReadsSignatures answers kinds) (λ signatures.
@@ -342,49 +378,60 @@ ListsResources answers names word regs kinds =
 -- why a link that a _PRT names has no items
 abbrev pub link_fault : LinkFault → Fault
 link_fault links.NoMemory = nowhere cause.NoMemory
-link_fault (links.Refused refused) = at_byte (cause.Resources refused.refusal.cause) refused.refusal.at
+link_fault (links.Refused refused) =
+    at_byte (cause.Resources refused.refusal.cause) refused.refusal.at
 
--- what an object gives from what names hold first, and behind that, of each link that it names, what that one's _CRS gives; whatever
--- happened before, the reads among all events since then are answered as registers of these bytes answer them
-pub record PrtOver (bytes : ℕ → ℕ → ℕ) (checked : Checked) (id : ℕ) (r : Result Prt LinkRefusal) : Type 0 where
+-- what an object gives from what names hold first, and behind that, of each link that it names,
+-- what that one's _CRS gives; whatever happened before, the reads among all events since then are
+-- answered as registers of these bytes answer them
+pub record PrtOver (bytes : ℕ → ℕ → ℕ) (checked : Checked) (id : ℕ)
+    (r : Result Prt LinkRefusal) : Type 0 where
   pub names : State.Names
   pub before : List Event
   pub log : List Event
   pub gives : GivesPrt checked id r (names_first (shown checked.namespace.now)) before names log
   pub answered : (events : List Event) → log ≡ before ++ events → AnswerReads bytes events
 
--- what an object gives and the items of the links that it names, or the first link whose bytes are no items
+-- what an object gives and the items of the links that it names, or the first link whose bytes are
+-- no items
 abbrev pub IsPrtOver : (ℕ → ℕ → ℕ) → Checked → ℕ → Result Prt Fault → Type 0
 IsPrtOver bytes checked id =
     Tries (λ prt. PrtOver bytes checked id (Ok prt))
-    (λ f. (refused : LinkRefusal) × PrtOver bytes checked id (Err refused) × (f ≡ link_fault (links.Refused refused)))
+    (λ f. (refused : LinkRefusal) × PrtOver bytes checked id (Err refused) ×
+    (f ≡ link_fault (links.Refused refused)))
 
--- the routes of a _PRT, with the items of its links and with a MADT or none; or its first element that has none
+-- the routes of a _PRT, with the items of its links and with a MADT or none; or its first element
+-- that has none
 abbrev pub routes_with : Option Madt → Links → Value → Result (List Route) RouteRefusal
 routes_with madt links prt = routes_of (interrupt_of_device (global_number madt) links) prt
 
 -- a _PRT has no routes, and this is why
 abbrev pub FollowsNot : Option Madt → Links → Value → Fault → Type 0
 FollowsNot madt links prt f =
-    (refusal : RouteRefusal) × (routes_with madt links prt ≡ Err refusal) × (f ≡ route_fault (routes.Refused refusal))
+    (refusal : RouteRefusal) × (routes_with madt links prt ≡ Err refusal) ×
+    (f ≡ route_fault (routes.Refused refusal))
 
 -- the routes of a _PRT, or why it has none
 abbrev pub Follows : Option Madt → Links → Value → Result (List Route) Fault → Type 0
-Follows madt links prt = Tries (λ found. routes_with madt links prt ≡ Ok found) (FollowsNot madt links prt)
+Follows madt links prt =
+    Tries (λ found. routes_with madt links prt ≡ Ok found) (FollowsNot madt links prt)
 
 -- the routes of a package have their lines; any other value is no _PRT
 abbrev pub ListsValue : Option Madt → Links → Value → Step (Unit {0}) ℕ
-ListsValue madt links (Pkg elements) = Then (Obtains (Follows madt links (Pkg elements))) (λ routes. Tells (routes_text routes) 0)
+ListsValue madt links (Pkg elements) =
+    Then (Obtains (Follows madt links (Pkg elements))) (λ routes. Tells (routes_text routes) 0)
 ListsValue madt links v = Obtains (λ r. r ≡ Err (nowhere cause.NotPackage))
 
--- `routing` by what the object gives, and the items of the links that it names; a method that is not accepted has its line
+-- `routing` by what the object gives, and the items of the links that it names; a method that is
+-- not accepted has its line
 abbrev pub ListsPrt : Option Madt → Checked → ℕ → Given → Links → Step (Unit {0}) ℕ
 ListsPrt madt checked id (given.Value v) links = ListsValue madt links (view v)
 ListsPrt madt checked id given.Nothing links = Obtains (λ r. r ≡ Err (nowhere cause.NotPackage))
 ListsPrt madt checked id given.Refused links = Tells (said_text checked (record { 0 = id })) 3
 
--- `routing` of a namespace, over registers of these bytes, where these kinds are told, with a MADT or none: the object of that path, the
--- verdicts on all methods, what the object gives and then its links, where their interrupts go
+-- `routing` of a namespace, over registers of these bytes, where these kinds are told, with a MADT
+-- or none: the object of that path, the verdicts on all methods, what the object gives and then its
+-- links, where their interrupts go
 abbrev pub RoutesLoaded : (ℕ → ℕ → ℕ) → Told → Option Madt → List ℕ → Shown → Step (Unit {0}) ℕ
 RoutesLoaded bytes told madt word ns =
     Then (Obtains (FindsObject ns word)) (λ id.
@@ -393,18 +440,23 @@ RoutesLoaded bytes told madt word ns =
     ListsPrt madt checked id prt.given (crs_of_links prt.links.items))))
 
 -- `routing` of tables: the load, and what was loaded
-abbrev pub RoutesTables : (ℕ → ℕ → ℕ) → Told → Option Madt → List ℕ → List (List ℕ) → Step (Unit {0}) ℕ
-RoutesTables bytes told madt word tables = Then (Obtains (Loads [] tables)) (λ ns. RoutesLoaded bytes told madt word ns)
+abbrev pub RoutesTables : (ℕ → ℕ → ℕ) → Told → Option Madt → List ℕ → List (List ℕ) →
+    Step (Unit {0}) ℕ
+RoutesTables bytes told madt word tables =
+    Then (Obtains (Loads [] tables)) (λ ns. RoutesLoaded bytes told madt word ns)
 
--- `routing`: the registers, the kinds that are told, the MADT, the files, their tables over these registers
-abbrev pub ListsRoutes : {F : Type 0} → Answers F → InputNames → List ℕ → Option (List ℕ) → Option (List ℕ) → Option (List ℕ) → Step F ℕ
+-- `routing`: the registers, the kinds that are told, the MADT, the files, their tables over these
+-- registers
+abbrev pub ListsRoutes : {F : Type 0} → Answers F → InputNames → List ℕ → Option (List ℕ) →
+    Option (List ℕ) → Option (List ℕ) → Step F ℕ
 ListsRoutes answers names word regs kinds controllers =
     Then (ReadsRegisters answers regs) (λ registers.
     Then (ReadsSignatures answers kinds) (λ signatures.
     Then (ReadsControllers answers controllers) (λ bytes.
     Then (Obtains (ReadsMadt bytes)) (λ madt.
     Then (ReadsInputs answers names) (λ inputs.
-    Still (RoutesTables (contents registers.file) (kinds_told signatures) madt word (tables_of inputs)))))))
+    Still (RoutesTables (contents registers.file) (kinds_told signatures) madt word
+    (tables_of inputs)))))))
 
 -- what the words ask for, or why there is nothing
 abbrev pub Asks : List (List ℕ) → Result Request Fault → Type 0
@@ -414,10 +466,20 @@ Asks words = Tries (AsksFor words) (λ f. (f ≡ nowhere cause.CommandLine) × A
 abbrev pub Obeys : {F : Type 0} → Answers F → Request → Step F ℕ
 Obeys answers (Tables names) = ListsFiles answers 0 (map (λ name. name.now) (vec_items names))
 Obeys answers (Names names) = ListsNames answers names
-Obeys answers (Verify request) = VerifiesFiles answers request.inputs (option_map (λ name. name.now) request.kinds)
-Obeys answers (Eval request) = EvaluatesFiles answers request.inputs request.method.now (option_map (λ text. text.now) request.args) (option_map (λ name. name.now) request.regs) (option_map (λ name. name.now) request.kinds) request.steps (option_map (λ text. text.now) request.osi)
-Obeys answers (Resources request) = ListsResources answers request.inputs request.object.now (option_map (λ name. name.now) request.regs) (option_map (λ name. name.now) request.kinds)
-Obeys answers (Routing request) = ListsRoutes answers request.asked.inputs request.asked.object.now (option_map (λ name. name.now) request.asked.regs) (option_map (λ name. name.now) request.asked.kinds) (option_map (λ name. name.now) request.madt)
+Obeys answers (Verify request) =
+    VerifiesFiles answers request.inputs (option_map (λ name. name.now) request.kinds)
+Obeys answers (Eval request) =
+    EvaluatesFiles answers request.inputs request.method.now
+    (option_map (λ text. text.now) request.args) (option_map (λ name. name.now) request.regs)
+    (option_map (λ name. name.now) request.kinds) request.steps
+    (option_map (λ text. text.now) request.osi)
+Obeys answers (Resources request) =
+    ListsResources answers request.inputs request.object.now
+    (option_map (λ name. name.now) request.regs) (option_map (λ name. name.now) request.kinds)
+Obeys answers (Routing request) =
+    ListsRoutes answers request.asked.inputs request.asked.object.now
+    (option_map (λ name. name.now) request.asked.regs)
+    (option_map (λ name. name.now) request.asked.kinds) (option_map (λ name. name.now) request.madt)
 
 -- a command: its words, and what they ask for
 abbrev pub ObeysWords : {F : Type 0} → Answers F → List (List ℕ) → Step F ℕ
@@ -425,27 +487,39 @@ ObeysWords answers words = Then (Obtains (Asks words)) (Obeys answers)
 
 -- a fault's line is listed, and its status answered
 abbrev pub Reports : Fault → Option (List ℕ) → Option (List ℕ) → Result ℕ RunFault → Type 0
-Reports f held holds r = IfOk r (λ ended. ended ≡ fault_status f) × Lists r held holds (fault_line f)
+Reports f held holds r =
+    IfOk r (λ ended. ended ≡ fault_status f) × Lists r held holds (fault_line f)
 
--- what a command wrote, how it ended, and what stands in the writer: its text, behind that a fault's line where it ended with a fault
-abbrev pub IsTold : List ℕ → Result ℕ Stop → Option (List ℕ) → Option (List ℕ) → Result ℕ RunFault → Type 0
+-- what a command wrote, how it ended, and what stands in the writer: its text, behind that a
+-- fault's line where it ended with a fault
+abbrev pub IsTold : List ℕ → Result ℕ Stop → Option (List ℕ) → Option (List ℕ) → Result ℕ RunFault →
+    Type 0
 IsTold text (Ok status) held holds r = (r ≡ Ok status) × Appends held holds text
-IsTold text (Err (Faulty f)) held holds r = IfOk r (λ status. status ≡ fault_status f) × Lists r held holds (text ++ fault_line f)
+IsTold text (Err (Faulty f)) held holds r =
+    IfOk r (λ status. status ≡ fault_status f) × Lists r held holds (text ++ fault_line f)
 IsTold text (Err (Run f)) held holds r = (r ≡ Err f) × Appends held holds text
 
 -- a command by its words, and what is told of it
-abbrev pub RunsWords : {F : Type 0} → Answers F → List (List ℕ) → F → F → Option (List ℕ) → Option (List ℕ) → Result ℕ RunFault → Type 0
+abbrev pub RunsWords : {F : Type 0} → Answers F → List (List ℕ) → F → F → Option (List ℕ) →
+    Option (List ℕ) → Result ℕ RunFault → Type 0
 RunsWords answers words old new held holds r =
-    (text : List ℕ) × (ended : Result ℕ Stop) × ObeysWords answers words old text ended new × IsTold text ended held holds r
+    (text : List ℕ) × (ended : Result ℕ Stop) × ObeysWords answers words old text ended new ×
+    IsTold text ended held holds r
 
--- a command by what was read of standard input: by the words of the first line, with the files on the others
-abbrev pub RunsBytes : List ℕ → Bool → Option (List ℕ) → Option (List ℕ) → Result ℕ RunFault → Type 0
+-- a command by what was read of standard input: by the words of the first line, with the files on
+-- the others
+abbrev pub RunsBytes : List ℕ → Bool → Option (List ℕ) → Option (List ℕ) → Result ℕ RunFault →
+    Type 0
 RunsBytes bytes whole held holds r =
-    ((words : List (List ℕ)) × (old new : HexLines) × StartsWith bytes whole words old × RunsWords hex_answers words old new held holds r)
-    ⊎ ((f : Fault) × ((f ≡ nowhere cause.NoMemory) ⊎ FailsToStart bytes whole f) × Reports f held holds r)
+    ((words : List (List ℕ)) × (old new : HexLines) × StartsWith bytes whole words old ×
+    RunsWords hex_answers words old new held holds r)
+    ⊎ ((f : Fault) × ((f ≡ nowhere cause.NoMemory) ⊎ FailsToStart bytes whole f) ×
+    Reports f held holds r)
 
 -- a command by standard input
-abbrev pub RunsInput : Option (List ℕ) → Option (List ℕ) → Option (List ℕ) → Option (List ℕ) → Result ℕ RunFault → Type 0
+abbrev pub RunsInput : Option (List ℕ) → Option (List ℕ) → Option (List ℕ) → Option (List ℕ) →
+    Result ℕ RunFault → Type 0
 RunsInput old new held holds r =
     Reports (nowhere cause.NoMemory) held holds r
-    ⊎ ((read : Input) × IsRead old new read × RunsBytes (vec_items read.bytes) read.is_whole held holds r)
+    ⊎ ((read : Input) × IsRead old new read ×
+    RunsBytes (vec_items read.bytes) read.is_whole held holds r)

@@ -19,7 +19,8 @@ Reads answers name = Quietly (λ old r new. Opens answers old name r new)
 abbrev pub ReadsTable : ℕ → List ℕ → Result Table Fault → Type 0
 ReadsTable number bytes (Ok table) = Says (file_kind bytes) bytes table
 ReadsTable number bytes (Err f) =
-    (t : TableFault) × (first_fault (file_checks (file_kind bytes) bytes) ≡ Some t) × (f ≡ in_table (cause.Table t.cause) number t.at)
+    (t : TableFault) × (first_fault (file_checks (file_kind bytes) bytes) ≡ Some t) ×
+    (f ≡ in_table (cause.Table t.cause) number t.at)
 
 -- a file is read, and its table is listed
 abbrev pub ListsFile : {F : Type 0} → Answers F → ℕ → List ℕ → Step F (Unit {0})
@@ -31,4 +32,5 @@ ListsFile answers number name =
 -- files are listed one after the other
 abbrev pub ListsFiles : {F : Type 0} → Answers F → ℕ → List (List ℕ) → Step F ℕ
 ListsFiles answers number [] = Ends 0
-ListsFiles answers number (name ∷ names) = Then (ListsFile answers number name) (λ _. ListsFiles answers (number + 1) names)
+ListsFiles answers number (name ∷ names) =
+    Then (ListsFile answers number name) (λ _. ListsFiles answers (number + 1) names)

@@ -12,7 +12,9 @@ os_name = codes "acpicheck"
 
 -- why tables have no namespace
 abbrev pub FailsToLoad : List (List ℕ) → Fault → Type 0
-FailsToLoad tables f = (refusal : LoadRefusal) × FaultyLoad tables os_name refusal × (f ≡ in_table (cause.Load refusal.cause) refusal.table refusal.at)
+FailsToLoad tables f =
+    (refusal : LoadRefusal) × FaultyLoad tables os_name refusal ×
+    (f ≡ in_table (cause.Load refusal.cause) refusal.table refusal.at)
 
 -- the texts that `_OSI` knows: that of `--osi` alone, and none without it
 abbrev pub interfaces_of : Option (List ℕ) → List (List ℕ)

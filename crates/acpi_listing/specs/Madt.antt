@@ -19,10 +19,12 @@ file_of (Ok bytes) = Ok (lent bytes)
 file_of (Err e) = Err e
 
 -- the bytes of the file of a name; without one there are none
-abbrev pub OpensControllers : {F : Type 0} → Answers F → F → Option (List ℕ) → Result (Option (List ℕ)) Fault → F → Type 0
+abbrev pub OpensControllers : {F : Type 0} → Answers F → F → Option (List ℕ) →
+    Result (Option (List ℕ)) Fault → F → Type 0
 OpensControllers answers old None (Ok bytes) new = (bytes ≡ None) × (new ≡ old)
 OpensControllers answers old None (Err f) new = ⊥
-OpensControllers answers old (Some name) (Ok (Some bytes)) new = Opens answers old name (Ok bytes) new
+OpensControllers answers old (Some name) (Ok (Some bytes)) new =
+    Opens answers old name (Ok bytes) new
 OpensControllers answers old (Some name) (Ok None) new = ⊥
 OpensControllers answers old (Some name) (Err f) new = Opens answers old name (Err f) new
 
@@ -36,4 +38,5 @@ ReadsMadt None r = r ≡ Ok None
 ReadsMadt (Some bytes) (Ok (Some madt)) = HasMadt bytes madt
 ReadsMadt (Some bytes) (Ok None) = ⊥
 ReadsMadt (Some bytes) (Err f) =
-    (t : TableFault) × (first_fault (madt_checks bytes) ≡ Some t) × (f ≡ at_byte (cause.Table t.cause) t.at)
+    (t : TableFault) × (first_fault (madt_checks bytes) ≡ Some t) ×
+    (f ≡ at_byte (cause.Table t.cause) t.at)

@@ -16,13 +16,16 @@ SetsRegisters text (Ok registers) = TextSets text (contents registers.file)
 SetsRegisters text (Err f) = (e : RegistersFault) × FailsToSet text e × (f ≡ registers_fault e)
 
 -- the registers of the file of a name; without one all are 0
-abbrev pub OpensRegisters : {F : Type 0} → Answers F → F → Option (List ℕ) → Result Registers Fault → F → Type 0
-OpensRegisters answers old None (Ok registers) new = SameBytes (λ _ _. 0) (contents registers.file) × (new ≡ old)
+abbrev pub OpensRegisters : {F : Type 0} → Answers F → F → Option (List ℕ) →
+    Result Registers Fault → F → Type 0
+OpensRegisters answers old None (Ok registers) new =
+    SameBytes (λ _ _. 0) (contents registers.file) × (new ≡ old)
 OpensRegisters answers old None (Err f) new = ⊥
 OpensRegisters answers old (Some name) (Ok registers) new =
     (text : List ℕ) × Opens answers old name (Ok text) new × SetsRegisters text (Ok registers)
 OpensRegisters answers old (Some name) (Err f) new =
-    Opens answers old name (Err f) new ⊎ ((text : List ℕ) × Opens answers old name (Ok text) new × SetsRegisters text (Err f))
+    Opens answers old name (Err f) new ⊎
+    ((text : List ℕ) × Opens answers old name (Ok text) new × SetsRegisters text (Err f))
 
 -- the same as a step of a command
 abbrev pub ReadsRegisters : {F : Type 0} → Answers F → Option (List ℕ) → Step F Registers

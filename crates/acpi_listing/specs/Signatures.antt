@@ -15,13 +15,16 @@ TellsKinds text (Ok signatures) = TextSigns text (kinds_told signatures)
 TellsKinds text (Err f) = (e : SignatureFault) × FailsToSign text e × (f ≡ signatures_fault e)
 
 -- the kinds that the text of the file of a name tells; without one nothing is told of any method
-abbrev pub OpensSignatures : {F : Type 0} → Answers F → F → Option (List ℕ) → Result Signatures Fault → F → Type 0
-OpensSignatures answers old None (Ok signatures) new = ((path : List ℕ) → kinds_told signatures path ≡ None) × (new ≡ old)
+abbrev pub OpensSignatures : {F : Type 0} → Answers F → F → Option (List ℕ) →
+    Result Signatures Fault → F → Type 0
+OpensSignatures answers old None (Ok signatures) new =
+    ((path : List ℕ) → kinds_told signatures path ≡ None) × (new ≡ old)
 OpensSignatures answers old None (Err f) new = ⊥
 OpensSignatures answers old (Some name) (Ok signatures) new =
     (text : List ℕ) × Opens answers old name (Ok text) new × TellsKinds text (Ok signatures)
 OpensSignatures answers old (Some name) (Err f) new =
-    Opens answers old name (Err f) new ⊎ ((text : List ℕ) × Opens answers old name (Ok text) new × TellsKinds text (Err f))
+    Opens answers old name (Err f) new ⊎
+    ((text : List ℕ) × Opens answers old name (Ok text) new × TellsKinds text (Err f))
 
 -- the same as a step of a command
 abbrev pub ReadsSignatures : {F : Type 0} → Answers F → Option (List ℕ) → Step F Signatures

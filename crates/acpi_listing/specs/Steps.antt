@@ -5,17 +5,20 @@ use Rattle.acpi_sources.specs.declared.fault.Fault.{Fault}
 use Rattle.acpi_listing.specs.declared.stop.Stop.{Stop}
 use Rattle.acpi_listing.specs.declared.stop.Stop.TheVariants.{Fault as Faulty, Run}
 
--- a step: a source of files, what is written, a value or what stops the command, and the source behind it
+-- a step: a source of files, what is written, a value or what stops the command, and the source
+-- behind it
 abbrev pub Step : Type 0 → Type 0 → Type 1
 Step F V = F → List ℕ → Result V Stop → F → Type 0
 
 -- a step and then, by its value, another; the first that stops is the end of both
 abbrev pub Then : {F V W : Type 0} → Step F V → (V → Step F W) → Step F W
 Then first next old text (Ok w) new =
-    (v : _) × (mid : _) × (front back : List ℕ) × first old front (Ok v) mid × next v mid back (Ok w) new × (text ≡ front ++ back)
+    (v : _) × (mid : _) × (front back : List ℕ) × first old front (Ok v) mid ×
+    next v mid back (Ok w) new × (text ≡ front ++ back)
 Then first next old text (Err stop) new =
     first old text (Err stop) new
-    ⊎ ((v : _) × (mid : _) × (front back : List ℕ) × first old front (Ok v) mid × next v mid back (Err stop) new × (text ≡ front ++ back))
+    ⊎ ((v : _) × (mid : _) × (front back : List ℕ) × first old front (Ok v) mid ×
+    next v mid back (Err stop) new × (text ≡ front ++ back))
 
 -- a step that writes nothing, and ends with a value or a fault
 abbrev pub Quietly : {F V : Type 0} → (F → Result V Fault → F → Type 0) → Step F V
@@ -46,5 +49,6 @@ abbrev pub Still : {F V : Type 0} → Step (Unit {0}) V → Step F V
 Still does old text r new = does tt text r tt × (new ≡ old)
 
 -- a step is done, and its text stands in the writer behind what that held
-abbrev pub Writes : {F V : Type 0} → Step F V → F → F → Option (List ℕ) → Option (List ℕ) → Result V Stop → Type 0
+abbrev pub Writes : {F V : Type 0} → Step F V → F → F → Option (List ℕ) → Option (List ℕ) →
+    Result V Stop → Type 0
 Writes does old new held holds r = (text : List ℕ) × does old text r new × Appends held holds text

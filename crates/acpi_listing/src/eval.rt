@@ -53,8 +53,9 @@ use aml_verify::{Checked, Verdict};
 use std::alloc::Global;
 use std::io::Write;
 
-/// Evaluates a method, and prints its events and how that ended: with a number of steps that is given, or
-/// with as many as the verdict on it says; a method that is refused has the line of its verdict.
+/// Evaluates a method, and prints its events and how that ended: with a number of steps that is
+/// given, or with as many as the verdict on it says; a method that is refused has the line of its
+/// verdict.
 pub fn evaluate<F: Source, N: Notes, W: Write>(
     alloc: Global,
     request: &EvalRequest<'_>,
@@ -135,9 +136,11 @@ fn evaluate_inputs<N: Notes, W: Write>(
     requires set { TextSets given.registers.text.items (contents given.registers.file) }
     requires fresh { given.registers.file.events.items ≡ [] }
     ensures status { IfOk result (λ status. status ≤ 3) }
-    ensures printed { Writes (EvaluatesTables (contents given.registers.file) (kinds_told signatures.now)
+    ensures printed { Writes
+        (EvaluatesTables (contents given.registers.file) (kinds_told signatures.now)
         request.now.method.now (map view (vec_items given.arguments)) request.now.steps
-        (interfaces_of (option_map (λ text. text.now) request.now.osi)) (tables_of inputs.now)) tt tt (W.contents out.old) (W.contents out.new) result }
+        (interfaces_of (option_map (λ text. text.now) request.now.osi)) (tables_of inputs.now)) tt
+        tt (W.contents out.old) (W.contents out.new) result }
 {
     let known = interfaces_of(alloc, request.osi)?;
     let namespace = load_counted(alloc, inputs, &request.inputs, known.as_slice(), notes)?;
@@ -186,7 +189,8 @@ fn evaluate_judged<N: Notes, W: Write>(
     requires set { TextSets given.registers.text.items (contents given.registers.file) }
     requires fresh { given.registers.file.events.items ≡ [] }
     ensures status { IfOk result (λ status. status ≤ 3) }
-    ensures printed { Writes (EvaluatesFound (contents given.registers.file) (kinds_told signatures.now)
+    ensures printed { Writes
+        (EvaluatesFound (contents given.registers.file) (kinds_told signatures.now)
         (shown namespace.now) (map view (vec_items given.arguments)) None (id.0, method))
         tt tt (W.contents out.old) (W.contents out.new) result }
 {
@@ -203,7 +207,8 @@ fn evaluate_judged<N: Notes, W: Write>(
     tell_outcome(alloc, out, namespace, &outcome, registers.events())
 }
 
-// How an accepted method's evaluation ends, from what the names of the tables hold first, over registers.
+// How an accepted method's evaluation ends, from what the names of the tables hold first, over
+// registers.
 fn done_over(
     alloc: Global,
     checked: &Checked<'_>,
@@ -398,7 +403,8 @@ fn find_method<N: Notes>(
     }
 }
 
-// Whether the method takes these arguments: as many as it has, integers of the namespace among them.
+// Whether the method takes these arguments: as many as it has, integers of the namespace among
+// them.
 fn fits(namespace: &Namespace<'_>, method: Method, arguments: &[Value]) -> bool
     ensures { result ≡ true ↔ Takes (shown namespace.now) method (map view arguments.now) }
 {

@@ -1,7 +1,7 @@
 //! What `acpicheck` does: its commands, over any reader, writer and source of files. `program` and
-//! `command_line` run them; `files`, `names`, `verify`, `eval`, `resources` and `routing` are the commands,
-//! `objects` what the last two ask for; `load`, `madt`, `regs` and `signed` are what they read, `tell` what
-//! people are told, `stop` why a command ends.
+//! `command_line` run them; `files`, `names`, `verify`, `eval`, `resources` and `routing` are the
+//! commands, `objects` what the last two ask for; `load`, `madt`, `regs` and `signed` are what they
+//! read, `tell` what people are told, `stop` why a command ends.
 #![tactic(auto)]
 
 mod command_line;

@@ -16,8 +16,8 @@ use std::alloc::{AllocError, Global};
 /// The text of `_OS_`.
 const OS_NAME: &[u8] = b"acpicheck";
 
-/// Loads the tables that were read from files of these names, each with its number in the order of the
-/// files, with the texts that `_OSI` knows.
+/// Loads the tables that were read from files of these names, each with its number in the order of
+/// the files, with the texts that `_OSI` knows.
 ///
 /// Faults: E101 to E104, E201 to E209, E301 to E304, with table and place; E524.
 pub fn load<'a, N: Notes>(
@@ -28,7 +28,8 @@ pub fn load<'a, N: Notes>(
     notes: &N,
 ) -> Result<Namespace<'a>, Fault>
     ensures { let tables = tables_of inputs.now in
-        Tries (λ ns. IsNamespace (bytes_in osi.entry.now) tables (shown ns)) (FailsToLoad tables) result }
+        Tries (λ ns. IsNamespace (bytes_in osi.entry.now) tables (shown ns)) (FailsToLoad tables)
+        result }
 {
     let tables = slices_of(alloc, inputs.files.as_slice())?;
     let host = Host { os: OS_NAME, osi };
@@ -45,8 +46,8 @@ pub fn load<'a, N: Notes>(
     }
 }
 
-/// The same, for who reads bodies: it is counted once how many arguments the methods take that tables
-/// declare as others'.
+/// The same, for who reads bodies: it is counted once how many arguments the methods take that
+/// tables declare as others'.
 ///
 /// Faults: those of `load`.
 pub fn load_counted<'a, N: Notes>(
@@ -57,7 +58,8 @@ pub fn load_counted<'a, N: Notes>(
     notes: &N,
 ) -> Result<Namespace<'a>, Fault>
     ensures { let tables = tables_of inputs.now in
-        Tries (λ ns. IsNamespace (bytes_in osi.entry.now) tables (shown ns)) (FailsToLoad tables) result }
+        Tries (λ ns. IsNamespace (bytes_in osi.entry.now) tables (shown ns)) (FailsToLoad tables)
+        result }
 {
     let mut namespace = load(alloc, inputs, names, osi, notes)?;
     namespace.count_externals(alloc)?;

@@ -51,7 +51,8 @@ pub fn find_object<N: Notes>(
     Ok(id)
 }
 
-/// What an object that gives a value gives, from what the names of the tables hold first, over registers.
+/// What an object that gives a value gives, from what the names of the tables hold first, over
+/// registers.
 pub fn given_over(
     alloc: Global,
     checked: &Checked<'_>,
@@ -70,8 +71,8 @@ pub fn given_over(
     Ok(given)
 }
 
-/// What an object that gives a value gives, and the items of the links that it names, from what the names
-/// of the tables hold first, over registers. People are told which link is at fault.
+/// What an object that gives a value gives, and the items of the links that it names, from what the
+/// names of the tables hold first, over registers. People are told which link is at fault.
 pub fn prt_over<N: Notes>(
     alloc: Global,
     checked: &Checked<'_>,

@@ -19,9 +19,9 @@ use std::alloc::Global;
 use std::convert::AsStr;
 use std::io::{Read, Write};
 
-/// Runs the command that the words ask for, and answers the status that the program ends with: 0 done;
-/// 1 a fault; 2 words that are no command line; 3 a refused method, one that cannot be read, an AML
-/// error, or out of steps.
+/// Runs the command that the words ask for, and answers the status that the program ends with: 0
+/// done; 1 a fault; 2 words that are no command line; 3 a refused method, one that cannot be read,
+/// an AML error, or out of steps.
 ///
 /// A fault's line is written last.
 pub fn run_words<S: AsStr, F: Source, W: Write>(
@@ -59,11 +59,11 @@ pub fn run_words_noted<S: AsStr, F: Source, N: Notes, W: Write>(
     }
 }
 
-/// Runs the command whose words stand on the first line of the input, split at single spaces; a file
-/// `@` is the next line's hex text.
+/// Runs the command whose words stand on the first line of the input, split at single spaces; a
+/// file `@` is the next line's hex text.
 ///
-/// Answers as [`run_words`]. E523 where there is no line, or the input cannot be read to its end or has
-/// more than [`INPUT_LIMIT`] bytes.
+/// Answers as [`run_words`]. E523 where there is no line, or the input cannot be read to its end or
+/// has more than [`INPUT_LIMIT`] bytes.
 pub fn run<R: Read, W: Write>(alloc: Global, input: &mut R, out: &mut W) -> Result<u8, RunFault>
     ensures status { IfOk result (λ status. status ≤ 3) }
     ensures printed { RunsInput (R.remaining input.old) (R.remaining input.new)

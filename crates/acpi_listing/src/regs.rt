@@ -13,8 +13,8 @@ use std::alloc::Global;
 
 /// The registers that the text of the file of that name sets; without a name all are 0.
 ///
-/// Faults: E523 of a file that cannot be read or is too large; E511 with the number of the first bad
-/// line; E524.
+/// Faults: E523 of a file that cannot be read or is too large; E511 with the number of the first
+/// bad line; E524.
 pub fn read_registers<F: Source, N: Notes>(
     alloc: Global,
     name: Option<&str>,

@@ -34,8 +34,8 @@ use aml_verify::Checked;
 use std::alloc::Global;
 use std::io::Write;
 
-/// Prints the resource descriptors that an object gives: what a data name holds, or what the evaluation
-/// of an accepted method gives; a method that is refused has the line of its verdict.
+/// Prints the resource descriptors that an object gives: what a data name holds, or what the
+/// evaluation of an accepted method gives; a method that is refused has the line of its verdict.
 pub fn list_resources_of<F: Source, N: Notes, W: Write>(
     alloc: Global,
     request: &ObjectRequest<'_>,

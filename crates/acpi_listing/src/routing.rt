@@ -39,9 +39,10 @@ use aml_verify::Checked;
 use std::alloc::Global;
 use std::io::Write;
 
-/// Prints where the interrupts go that a `_PRT` lists: what a data name holds, or what the evaluation of
-/// an accepted method gives; a method that is refused has the line of its verdict. Of each link that the
-/// `_PRT` names the `_CRS` is asked once, over the names and the registers as they were left.
+/// Prints where the interrupts go that a `_PRT` lists: what a data name holds, or what the
+/// evaluation of an accepted method gives; a method that is refused has the line of its verdict. Of
+/// each link that the `_PRT` names the `_CRS` is asked once, over the names and the registers as
+/// they were left.
 pub fn list_routes_of<F: Source, N: Notes, W: Write>(
     alloc: Global,
     request: &RoutingRequest<'_>,
@@ -136,7 +137,8 @@ fn list_prt<N: Notes, W: Write>(
     out: &mut W,
 ) -> Result<u8, Stop>
     ensures status { IfOk result (λ status. status ≤ 3) }
-    ensures printed { Writes (ListsPrt (option_map (λ m. m.now) madt.entry) checked.now id.0 prt.now.given
+    ensures printed { Writes
+        (ListsPrt (option_map (λ m. m.now) madt.entry) checked.now id.0 prt.now.given
         (crs_of_links prt.now.links.items))
         tt tt (W.contents out.old) (W.contents out.new) result }
 {

@@ -9,10 +9,11 @@ use acpi_words::Notes;
 use aml_signatures::Signatures;
 use std::alloc::Global;
 
-/// The kinds of arguments that the text of the file of that name tells; without a name nothing is told.
+/// The kinds of arguments that the text of the file of that name tells; without a name nothing is
+/// told.
 ///
-/// Faults: E523 of a file that cannot be read or is too large; E501 with the number of the first bad
-/// line; E524.
+/// Faults: E523 of a file that cannot be read or is too large; E501 with the number of the first
+/// bad line; E524.
 pub fn read_signatures<F: Source, N: Notes>(
     alloc: Global,
     name: Option<&str>,

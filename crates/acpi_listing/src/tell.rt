@@ -42,8 +42,8 @@ pub(crate) fn tell_table<N: Notes>(
     tell(notes, table_note(alloc, label.as_str(), bytes, fault));
 }
 
-/// Of tables that cannot be loaded; where a table is refused for an If that `--dead-externals` opens, of
-/// that option too.
+/// Of tables that cannot be loaded; where a table is refused for an If that `--dead-externals`
+/// opens, of that option too.
 pub(crate) fn tell_load<N: Notes>(
     alloc: Global,
     notes: &N,
@@ -182,8 +182,8 @@ pub(crate) fn tell_object<N: Notes>(
     tell(notes, object_note(alloc, namespace, word));
 }
 
-/// Of arguments that do not fit a method: their number, the first integer that is too great, or that one
-/// is of another kind.
+/// Of arguments that do not fit a method: their number, the first integer that is too great, or
+/// that one is of another kind.
 pub(crate) fn tell_misfit<N: Notes>(
     alloc: Global,
     notes: &N,

@@ -23,8 +23,8 @@ use aml_verify::{Checked, verify};
 use std::alloc::Global;
 use std::io::Write;
 
-/// Prints the verdict on each method of a DSDT and its SSDTs; where that is asked for, people are told
-/// of each refused one why.
+/// Prints the verdict on each method of a DSDT and its SSDTs; where that is asked for, people are
+/// told of each refused one why.
 pub fn verify_files<F: Source, N: Notes, W: Write>(
     alloc: Global,
     request: &VerifyRequest<'_>,

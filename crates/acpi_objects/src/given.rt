@@ -43,8 +43,8 @@ pub fn gives_value(object: Option<Object>) -> bool
     }
 }
 
-/// What the object with a number gives, which gives a value: a data name what it holds, a method that is
-/// accepted what its evaluation gives, over these names and this world.
+/// What the object with a number gives, which gives a value: a data name what it holds, a method
+/// that is accepted what its evaluation gives, over these names and this world.
 ///
 /// # Errors
 ///

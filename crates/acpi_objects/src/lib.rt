@@ -1,5 +1,5 @@
-//! What an object of a namespace gives that a command asks for: a data name what it holds, a method that
-//! is accepted what its evaluation gives.
+//! What an object of a namespace gives that a command asks for: a data name what it holds, a method
+//! that is accepted what its evaluation gives.
 #![tactic(auto)]
 
 mod given;

@@ -31,7 +31,8 @@ giving ns id = if gives_value (object_at ns.entries id) then Some id else None
 abbrev pub value_under : Shown → List ℕ → Option ℕ
 value_under ns path = option_and_then (giving ns) (printed_object ns.entries path)
 
--- the _CRS of a device, by its number: the object of its path with `._CRS` behind, where that gives a value
+-- the _CRS of a device, by its number: the object of its path with `._CRS` behind, where that gives
+-- a value
 abbrev pub crs_of : Shown → ℕ → Option ℕ
 crs_of ns device = value_under ns (path_text (path_of ns.entries device) ++ codes "._CRS")
 
@@ -46,7 +47,8 @@ octets_given (given.Value v) = octets_of (view v)
 octets_given g = None
 
 -- the items of a device, by what its bytes spell
-abbrev pub items_spelled : ObjectId → Result (List Item) ResourceRefusal → Result (Option (List Item)) LinkRefusal
+abbrev pub items_spelled : ObjectId → Result (List Item) ResourceRefusal →
+    Result (Option (List Item)) LinkRefusal
 items_spelled device (Ok items) = Ok (Some items)
 items_spelled device (Err refusal) = Err (link_refusal device refusal)
 
@@ -58,14 +60,18 @@ items_in device None = Ok None
 abbrev pub items_given : ObjectId → Given → Result (Option (List Item)) LinkRefusal
 items_given device g = items_in device (octets_given g)
 
--- the items of a device, by the number of its _CRS: what that gives, from what names hold and the events so far; a device without one
--- has no items, and changes nothing
-abbrev pub HasItemsBy : Checked → ObjectId → Option ℕ → Result (Option (List Item)) LinkRefusal → Names → List Event → Names → List Event → Type 0
+-- the items of a device, by the number of its _CRS: what that gives, from what names hold and the
+-- events so far; a device without one has no items, and changes nothing
+abbrev pub HasItemsBy : Checked → ObjectId → Option ℕ → Result (Option (List Item)) LinkRefusal →
+    Names → List Event → Names → List Event → Type 0
 HasItemsBy c device (Some crs) r names log names_left log_left =
-    (g : Given) × GivesBy c crs (said_of c crs) g names log names_left log_left × (r ≡ items_given device g)
-HasItemsBy c device None r names log names_left log_left = (r ≡ Ok None) × (names_left ≡ names) × (log_left ≡ log)
+    (g : Given) × GivesBy c crs (said_of c crs) g names log names_left log_left ×
+    (r ≡ items_given device g)
+HasItemsBy c device None r names log names_left log_left =
+    (r ≡ Ok None) × (names_left ≡ names) × (log_left ≡ log)
 
 -- the items of a device, by its _CRS
-abbrev pub HasItems : Checked → ObjectId → Result (Option (List Item)) LinkRefusal → Names → List Event → Names → List Event → Type 0
+abbrev pub HasItems : Checked → ObjectId → Result (Option (List Item)) LinkRefusal → Names →
+    List Event → Names → List Event → Type 0
 HasItems c device r names log names_left log_left =
     HasItemsBy c device (crs_of (shown c.namespace.now) device.0) r names log names_left log_left

@@ -18,7 +18,8 @@ abbrev pub device_named : Option Element → Option ObjectId
 device_named (Some (Named device)) = device
 device_named e = None
 
--- the device that an element names: it is a package whose third part is that name, whatever else it is
+-- the device that an element names: it is a package whose third part is that name, whatever else it
+-- is
 abbrev pub device_of : Element → Option ObjectId
 device_of (Holds (Pkg parts)) = device_named (element_in parts 2)
 device_of e = None

@@ -17,8 +17,10 @@ abbrev pub link_fault : ObjectId → ResourceFault → LinkFault
 link_fault device resources.NoMemory = fault.NoMemory
 link_fault device (resources.Refused refusal) = fault.Refused (link_refusal device refusal)
 
--- the program's answer, seen by a view of its value, is one of these; nothing is said where memory is wanted
-abbrev pub Answers : {X Y : Type 0} → (X → Y) → (Result Y LinkRefusal → Type 0) → Result X LinkFault → Type 0
+-- the program's answer, seen by a view of its value, is one of these; nothing is said where memory
+-- is wanted
+abbrev pub Answers : {X Y : Type 0} → (X → Y) → (Result Y LinkRefusal → Type 0) →
+    Result X LinkFault → Type 0
 Answers view is (Ok x) = is (Ok (view x))
 Answers view is (Err fault.NoMemory) = Unit {0}
 Answers view is (Err (fault.Refused refusal)) = is (Err refusal)

@@ -19,11 +19,17 @@ abbrev pub leads : Links → Result Links LinkRefusal → Result Links LinkRefus
 leads first (Ok links) = Ok (first ++ links)
 leads first (Err refusal) = Err refusal
 
--- the items of devices: of each in its turn, from what the one before it left; the first whose bytes are no items ends it
-abbrev pub HaveItems : Checked → List ObjectId → Result Links LinkRefusal → Names → List Event → Names → List Event → Type 0
-HaveItems c [] r names log names_left log_left = (r ≡ Ok []) × (names_left ≡ names) × (log_left ≡ log)
+-- the items of devices: of each in its turn, from what the one before it left; the first whose
+-- bytes are no items ends it
+abbrev pub HaveItems : Checked → List ObjectId → Result Links LinkRefusal → Names → List Event →
+    Names → List Event → Type 0
+HaveItems c [] r names log names_left log_left =
+    (r ≡ Ok []) × (names_left ≡ names) × (log_left ≡ log)
 HaveItems c (device ∷ devices) r names log names_left log_left =
-    ((found : Option (List Item)) × (mid : Names) × (mid_log : List Event) × (rest : Result Links LinkRefusal)
+    ((found : Option (List Item)) × (mid : Names) × (mid_log : List Event) ×
+    (rest : Result Links LinkRefusal)
     × HasItems c device (Ok found) names log mid mid_log
-    × HaveItems c devices rest mid mid_log names_left log_left × (r ≡ leads (link_with device found) rest))
-    ⊎ ((refusal : LinkRefusal) × HasItems c device (Err refusal) names log names_left log_left × (r ≡ Err refusal))
+    × HaveItems c devices rest mid mid_log names_left log_left ×
+    (r ≡ leads (link_with device found) rest))
+    ⊎ ((refusal : LinkRefusal) × HasItems c device (Err refusal) names log names_left log_left ×
+    (r ≡ Err refusal))

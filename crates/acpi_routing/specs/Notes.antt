@@ -29,7 +29,8 @@ entry_note number =
 -- what stands behind the path of a link whose bytes are no list
 unfoldable pub link_part : ResourceRefusal → List ℕ
 link_part refusal =
-    joined (codes "._CRS: " ∷ resource_cause_text refusal.cause ∷ codes ": byte " ∷ decimal refusal.at ∷ codes " of the buffer that it gives\n" ∷ [])
+    joined (codes "._CRS: " ∷ resource_cause_text refusal.cause ∷ codes ": byte "
+    ∷ decimal refusal.at ∷ codes " of the buffer that it gives\n" ∷ [])
 
 -- the line of such a link
 abbrev pub link_text : Shown → LinkRefusal → List ℕ
@@ -37,7 +38,8 @@ link_text ns refused = path_text (path_of ns.entries refused.device.0) ++ link_p
 
 -- what stands in front of a source
 unfoldable pub source_part : ℕ → List ℕ
-source_part number = joined (codes "element " ∷ decimal number ∷ codes " of the _PRT: its source " ∷ [])
+source_part number =
+    joined (codes "element " ∷ decimal number ∷ codes " of the _PRT: its source " ∷ [])
 
 -- whether a device is among those that have items
 abbrev pub is_listed : Links → ObjectId → Bool
@@ -46,19 +48,22 @@ is_listed links device = list_any (λ (link : ObjectId × List Item). link.0.0 =
 -- why a link has no items, by the number of its _CRS
 abbrev pub reason_by : Checked → Option ℕ → Reason
 reason_by c None = reason.NoCrs
-reason_by c (Some crs) = if is_refused (said_of c crs) then reason.Refused (record { 0 = crs }) else reason.NoBuffer
+reason_by c (Some crs) =
+    if is_refused (said_of c crs) then reason.Refused (record { 0 = crs }) else reason.NoBuffer
 
 -- why a link has no interrupt
 abbrev pub reason_of : Checked → Links → ObjectId → Reason
 reason_of c links device =
-    if is_listed links device then reason.NoInterrupt else reason_by c (crs_of (shown c.namespace.now) device.0)
+    if is_listed links device then reason.NoInterrupt else
+    reason_by c (crs_of (shown c.namespace.now) device.0)
 
 -- the same in words
 unfoldable pub reason_words : Reason → List ℕ
 reason_words reason.NoCrs = codes " has no _CRS that is a data name or a method without arguments\n"
 reason_words (reason.Refused crs) = codes " has a _CRS that is refused\n"
 reason_words reason.NoBuffer = codes " has a _CRS that gives no buffer\n"
-reason_words reason.NoInterrupt = codes " has a _CRS without a descriptor of interrupts, or whose first one lists none\n"
+reason_words reason.NoInterrupt =
+    codes " has a _CRS without a descriptor of interrupts, or whose first one lists none\n"
 
 -- what is told behind that: of a _CRS that is refused why it is
 abbrev pub reason_behind : List (List ℕ) → Checked → Reason → List ℕ
@@ -72,8 +77,10 @@ reason_text names c r = reason_words r ++ reason_behind names c r
 abbrev pub named_text : List (List ℕ) → Checked → Links → Option ObjectId → List ℕ
 named_text names c links None = codes "names nothing\n"
 named_text names c links (Some device) =
-    path_text (path_of (shown c.namespace.now).entries device.0) ++ reason_text names c (reason_of c links device)
+    path_text (path_of (shown c.namespace.now).entries device.0) ++
+    reason_text names c (reason_of c links device)
 
 -- the lines of an element whose source leads to no interrupt
 abbrev pub source_text : List (List ℕ) → Checked → Value → Links → ℕ → List ℕ
-source_text names c prt links number = source_part number ++ named_text names c links (device_in prt number)
+source_text names c prt links number =
+    source_part number ++ named_text names c links (device_in prt number)

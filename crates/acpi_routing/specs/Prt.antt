@@ -20,13 +20,18 @@ abbrev pub devices_given : Given → List ObjectId
 devices_given (given.Value prt) = devices_in (view prt)
 devices_given g = []
 
--- an object gives something, and behind that the links that it names have these items, or one of them is refused
-abbrev pub GivesWith : Checked → ℕ → Given → Result Links LinkRefusal → Names → List Event → Names → List Event → Type 0
+-- an object gives something, and behind that the links that it names have these items, or one of
+-- them is refused
+abbrev pub GivesWith : Checked → ℕ → Given → Result Links LinkRefusal → Names → List Event → Names →
+    List Event → Type 0
 GivesWith c k g links names log names_left log_left =
     (mid : Names) × (mid_log : List Event) × GivesBy c k (said_of c k) g names log mid mid_log
     × HaveItems c (devices_given g) links mid mid_log names_left log_left
 
 -- the same by what comes of it: what the object gave with these items, or a link that is refused
-abbrev pub GivesPrt : Checked → ℕ → Result Prt LinkRefusal → Names → List Event → Names → List Event → Type 0
-GivesPrt c k (Ok prt) names log names_left log_left = GivesWith c k prt.given (Ok (crs_of_links prt.links.items)) names log names_left log_left
-GivesPrt c k (Err refusal) names log names_left log_left = (g : Given) × GivesWith c k g (Err refusal) names log names_left log_left
+abbrev pub GivesPrt : Checked → ℕ → Result Prt LinkRefusal → Names → List Event → Names →
+    List Event → Type 0
+GivesPrt c k (Ok prt) names log names_left log_left =
+    GivesWith c k prt.given (Ok (crs_of_links prt.links.items)) names log names_left log_left
+GivesPrt c k (Err refusal) names log names_left log_left =
+    (g : Given) × GivesWith c k g (Err refusal) names log names_left log_left

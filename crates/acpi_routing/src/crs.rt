@@ -24,8 +24,8 @@ use aml_values::Value;
 use aml_verify::Checked;
 use std::alloc::Global;
 
-/// The object whose path is that of a device with `_CRS` behind it, where it gives a value: a data name,
-/// or a method without arguments.
+/// The object whose path is that of a device with `_CRS` behind it, where it gives a value: a data
+/// name, or a method without arguments.
 ///
 /// # Errors
 ///
@@ -58,9 +58,9 @@ fn value_under(namespace: &Namespace<'_>, path: &[u8]) -> Option<ObjectId>
     }
 }
 
-/// The resource descriptors that a device's `_CRS` gives: what a data name holds, or what a method that
-/// is accepted gives, over these names and this world. None where there is no such `_CRS`, where it is a
-/// method that is not accepted, and where it gives no buffer.
+/// The resource descriptors that a device's `_CRS` gives: what a data name holds, or what a method
+/// that is accepted gives, over these names and this world. None where there is no such `_CRS`,
+/// where it is a method that is not accepted, and where it gives no buffer.
 ///
 /// # Errors
 ///
@@ -96,7 +96,8 @@ fn items_of_crs<W: World>(
     world: &mut W,
 ) -> Result<Option<Vec<Item>>, LinkFault>
     requires checked { WereChecked checked.now }
-    requires gives { objects.gives_value (object_at (shown checked.now.namespace.now).entries crs.0) ≡ true }
+    requires gives { objects.gives_value (object_at (shown checked.now.namespace.now).entries crs.0)
+        ≡ true }
     requires names { Belong (shown checked.now.namespace.now) (content_kinds names.old) }
     ensures items { Answers (option_map (λ found. found.items))
         (λ r. HasItemsBy checked.now device (Some crs.0) r (names_of names.old) (W.log world.old)

@@ -10,8 +10,8 @@ use aml_values::{Element, Value};
 use std::alloc::{AllocError, Global};
 use std::collections::BTreeSet;
 
-/// The link devices that a `_PRT` names, each once, in the order in which they first appear: those that
-/// the third parts of its elements name. None where it is no package.
+/// The link devices that a `_PRT` names, each once, in the order in which they first appear: those
+/// that the third parts of its elements name. None where it is no package.
 pub fn devices_in(alloc: Global, prt: &Value) -> Result<Vec<ObjectId>, AllocError>
     ensures { IfOk result (λ devices. devices.items ≡ devices_in (view prt.now)) }
 {

@@ -19,8 +19,8 @@ pub struct LinkRefusal {
     pub refusal: ResourceRefusal,
 }
 
-/// Why the links of a `_PRT` have no resource descriptors: want of memory, or the first link that is at
-/// fault.
+/// Why the links of a `_PRT` have no resource descriptors: want of memory, or the first link that
+/// is at fault.
 #[derive(Clone, Copy, Debug, PartialEq, Eq, Error)]
 pub enum LinkFault {
     /// An allocation failed.

@@ -1,5 +1,5 @@
-//! What an interrupt routing table needs to be followed: the link devices that a `_PRT` names, and the
-//! resource descriptors that each one's `_CRS` gives (ACPI 6.5, 6.2.13 and 6.2.2).
+//! What an interrupt routing table needs to be followed: the link devices that a `_PRT` names, and
+//! the resource descriptors that each one's `_CRS` gives (ACPI 6.5, 6.2.13 and 6.2.2).
 #![tactic(auto)]
 
 mod crs;

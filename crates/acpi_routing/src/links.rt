@@ -19,13 +19,13 @@ use aml_regions::World;
 use aml_verify::Checked;
 use std::alloc::Global;
 
-/// The resource descriptors of devices: each device that has some, with them. Each `_CRS` is asked once,
-/// in the order of the devices, over what the one before it left of the names and the world.
+/// The resource descriptors of devices: each device that has some, with them. Each `_CRS` is asked
+/// once, in the order of the devices, over what the one before it left of the names and the world.
 ///
 /// # Errors
 ///
-/// Of the first device that has one: E401 to E403 of the bytes that its `_CRS` gives; or `NoMemory`,
-/// where memory is wanted.
+/// Of the first device that has one: E401 to E403 of the bytes that its `_CRS` gives; or
+/// `NoMemory`, where memory is wanted.
 pub fn items_of_links<W: World>(
     alloc: Global,
     checked: &Checked<'_>,

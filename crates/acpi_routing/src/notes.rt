@@ -69,9 +69,9 @@ fn link_part(alloc: Global, refusal: ResourceRefusal) -> Result<String, AllocErr
     format!(in alloc; "._CRS: {cause}: byte {at} of the buffer that it gives\n")
 }
 
-/// Of an element of a `_PRT` whose source leads to no interrupt, by its number, in lines: which link it
-/// names, and why that has none; behind a `_CRS` that is refused stands why, with the files by their
-/// names.
+/// Of an element of a `_PRT` whose source leads to no interrupt, by its number, in lines: which
+/// link it names, and why that has none; behind a `_CRS` that is refused stands why, with the files
+/// by their names.
 pub fn source_text(
     alloc: Global,
     checked: &Checked<'_>,

@@ -28,14 +28,15 @@ pub struct Prt {
     pub links: Vec<(ObjectId, Vec<Item>)>,
 }
 
-/// What the object with a number gives, which gives a value; and, where that is a package, the resource descriptors of the
-/// links that its elements name: of each the first time that it is named, over what the object itself,
-/// and then each `_CRS` before, left of the names and the world.
+/// What the object with a number gives, which gives a value; and, where that is a package, the
+/// resource descriptors of the links that its elements name: of each the first time that it is
+/// named, over what the object itself, and then each `_CRS` before, left of the names and the
+/// world.
 ///
 /// # Errors
 ///
-/// Of the first link that has one: E401 to E403 of the bytes that its `_CRS` gives; or `NoMemory`, where
-/// memory is wanted.
+/// Of the first link that has one: E401 to E403 of the bytes that its `_CRS` gives; or `NoMemory`,
+/// where memory is wanted.
 pub fn prt_of<W: World>(
     alloc: Global,
     checked: &Checked<'_>,

@@ -29,10 +29,12 @@ use Rattle.aml_verify.specs.declared.checked.Checked.{Checked}
 use Rattle.aml_verify.specs.declared.verdict.Verdict.{Verdict}
 use Rattle.aml_verify.specs.declared.verdict.Verdict.TheVariants as verdict
 
--- how the file with a number is called: by its name, or by its number where the name is `@`, or there is none
+-- how the file with a number is called: by its name, or by its number where the name is `@`, or
+-- there is none
 unfoldable pub label_of : List (List ℕ) → ℕ → List ℕ
 label_of names number =
-    option_map_or (λ name. if bytes_eq name (codes "@") then line_label number else name) (slice_get names number) (codes "file " ++ decimal number)
+    option_map_or (λ name. if bytes_eq name (codes "@") then line_label number else name)
+    (slice_get names number) (codes "file " ++ decimal number)
 
 -- the method that a name means, if it means one
 abbrev pub method_meant : Link → Option ObjectId
@@ -41,7 +43,8 @@ method_meant _ = None
 
 -- the method that the name at the place of a refusal calls
 abbrev pub called_at : Shown → ObjectId → Refusal → Option ObjectId
-called_at ns id refusal = method_meant (link_at ns.entries id.0 (bytes_of ns.tables refusal.table) refusal.at)
+called_at ns id refusal =
+    method_meant (link_at ns.entries id.0 (bytes_of ns.tables refusal.table) refusal.at)
 
 -- whether a cause tells of the method that is called
 abbrev pub asks_callee : Cause → Bool
@@ -56,10 +59,12 @@ callee_told ns id refusal = if asks_callee refusal.why then called_at ns id refu
 
 -- a cause and its place
 unfoldable pub refused_place : List ℕ → Refusal → List ℕ
-refused_place label refusal = joined (codes ": " ∷ cause_text refusal.why ∷ codes ": " ∷ label ∷ codes ", byte " ∷ decimal refusal.at ∷ [])
+refused_place label refusal =
+    joined (codes ": " ∷ cause_text refusal.why ∷ codes ": " ∷ label ∷ codes ", byte "
+    ∷ decimal refusal.at ∷ [])
 
--- what stands behind the path of a method that is refused for a cause: that, what stands at the place, what the cause means, and what was
--- found there and what was wanted
+-- what stands behind the path of a method that is refused for a cause: that, what stands at the
+-- place, what the cause means, and what was found there and what was wanted
 abbrev pub refused_part : Shown → List ℕ → Refusal → Finding → List ℕ
 refused_part ns label refusal finding =
     refused_place label refusal
@@ -70,37 +75,46 @@ refused_part ns label refusal finding =
 abbrev pub refused_text : Shown → List ℕ → ObjectId → Refusal → Finding → List ℕ
 refused_text ns label id refusal finding =
     path_text (path_of ns.entries id.0) ++ refused_part ns label refusal finding
-    ++ option_map_or (λ (callee : ObjectId). codes ": " ++ path_text (path_of ns.entries callee.0)) (callee_told ns id refusal) []
+    ++ option_map_or (λ (callee : ObjectId). codes ": " ++ path_text (path_of ns.entries callee.0))
+    (callee_told ns id refusal) []
     ++ codes "\n"
 
 -- how the place of a body that cannot be read is called, behind the method's path
 unfoldable pub unreadable_label : List ℕ → Unread → List ℕ
-unreadable_label label refusal = joined (codes ": " ∷ tree_cause_text refusal.cause ∷ codes ": " ∷ label ∷ [])
+unreadable_label label refusal =
+    joined (codes ": " ∷ tree_cause_text refusal.cause ∷ codes ": " ∷ label ∷ [])
 
 -- the line of a method whose body cannot be read
 abbrev pub unreadable_text : Shown → List ℕ → List ℕ → ObjectId → Unread → List ℕ
-unreadable_text ns label bytes id refusal = path_text (path_of ns.entries id.0) ++ tree_note label bytes refusal.at refusal.cause ++ codes "\n"
+unreadable_text ns label bytes id refusal =
+    path_text (path_of ns.entries id.0) ++ tree_note label bytes refusal.at refusal.cause ++
+    codes "\n"
 
 -- the line of what is said of a method, if it is refused
 abbrev pub said_reason : List (List ℕ) → Shown → ObjectId → Option Verdict → List ℕ
 said_reason names ns id None = []
 said_reason names ns id (Some (verdict.Accepted accepted)) = []
-said_reason names ns id (Some (verdict.Refused refusal finding)) = refused_text ns (label_of names refusal.table) id refusal finding
+said_reason names ns id (Some (verdict.Refused refusal finding)) =
+    refused_text ns (label_of names refusal.table) id refusal finding
 said_reason names ns id (Some (verdict.Unreadable table refusal)) =
-    unreadable_text ns (unreadable_label (label_of names table) refusal) (bytes_of ns.tables table) id refusal
+    unreadable_text ns (unreadable_label (label_of names table) refusal) (bytes_of ns.tables table)
+    id refusal
 
 -- the line of a method
 abbrev pub reason_text : List (List ℕ) → Checked → ObjectId → List ℕ
-reason_text names checked id = said_reason names (shown checked.namespace.now) id (said_of checked id.0)
+reason_text names checked id =
+    said_reason names (shown checked.namespace.now) id (said_of checked id.0)
 
 -- whether a cause is that of the method that is called
 abbrev pub is_of_callee : Cause → Bool
 is_of_callee cause.CalleeRefused = true
 is_of_callee _ = false
 
--- the method whose own cause is told next, by what is said of one: that which it calls, where it is refused for that
+-- the method whose own cause is told next, by what is said of one: that which it calls, where it is
+-- refused for that
 abbrev pub next_by : Shown → ObjectId → Option Verdict → Option ObjectId
-next_by ns id (Some (verdict.Refused refusal finding)) = if is_of_callee refusal.why then called_at ns id refusal else None
+next_by ns id (Some (verdict.Refused refusal finding)) =
+    if is_of_callee refusal.why then called_at ns id refusal else None
 next_by ns id _ = None
 
 abbrev pub next_of : Checked → ObjectId → Option ObjectId
@@ -108,11 +122,14 @@ next_of checked id = next_by (shown checked.namespace.now) id (said_of checked i
 
 -- the line that says that the rest of a chain stands under a method
 abbrev pub rest_text : Shown → ObjectId → List ℕ
-rest_text ns id = codes "the rest of the chain stands under " ++ path_text (path_of ns.entries id.0) ++ codes "\n"
+rest_text ns id =
+    codes "the rest of the chain stands under " ++ path_text (path_of ns.entries id.0) ++ codes "\n"
 
--- the lines of a method and of those that are refused before it, so many methods at most, and behind the last where the rest stands
+-- the lines of a method and of those that are refused before it, so many methods at most, and
+-- behind the last where the rest stands
 abbrev pub chain_text : ℕ → List (List ℕ) → Checked → ObjectId → List ℕ
 chain_text zero names checked id = rest_text (shown checked.namespace.now) id
 chain_text (suc most) names checked id =
     reason_text names checked id
-    ++ option_map_or (λ callee. codes "  " ++ chain_text most names checked callee) (next_of checked id) []
+    ++ option_map_or (λ callee. codes "  " ++ chain_text most names checked callee)
+    (next_of checked id) []

@@ -90,12 +90,16 @@ wanted_text bits other = wanted_words other
 
 -- something else than what was wanted
 unfoldable pub other_text : ℕ → Found → Wanted → List ℕ
-other_text bits what instead = joined (codes ": found " ∷ found_text bits what ∷ codes ", wanted " ∷ wanted_text bits instead ∷ [])
+other_text bits what instead =
+    joined (codes ": found " ∷ found_text bits what ∷ codes ", wanted " ∷ wanted_text bits instead
+    ∷ [])
 
 -- what a call gives that need not give a value
 unfoldable pub given_text : ℕ → Yield → List ℕ
 given_text bits (yield.Always kind) = []
-given_text bits (yield.Sometimes kind) = joined (codes ": found " ∷ kind_text bits kind ∷ codes " on some ways alone, wanted a value on each" ∷ [])
+given_text bits (yield.Sometimes kind) =
+    joined (codes ": found " ∷ kind_text bits kind
+    ∷ codes " on some ways alone, wanted a value on each" ∷ [])
 given_text bits yield.Never = codes ": found no value on any way"
 
 -- a local or an argument
@@ -111,23 +115,32 @@ end_text bits None = codes "what may be unset"
 -- what a local or an argument holds where turns begin, and where one ends
 unfoldable pub turn_text : ℕ → NumberedSlot → Known → Option Known → List ℕ
 turn_text bits which began ends =
-    joined (codes ": found " ∷ end_text bits ends ∷ codes " in " ∷ slot_text which ∷ codes " where a turn ends, wanted " ∷ kind_text bits began ∷ codes " as where it began" ∷ [])
+    joined (codes ": found " ∷ end_text bits ends ∷ codes " in " ∷ slot_text which
+    ∷ codes " where a turn ends, wanted " ∷ kind_text bits began ∷ codes " as where it began"
+    ∷ [])
 
 -- what is wrong with a field, where that is no number
 abbrev pub fault_words : FieldFault → List ℕ
-fault_words fault.Connected = codes ": found a Connection or an extended access before it in its list, wanted neither"
+fault_words fault.Connected =
+    codes ": found a Connection or an extended access before it in its list, wanted neither"
 fault_words fault.Access = codes ": found access for buffers or a reserved one, wanted AnyAcc, ByteAcc, WordAcc, DWordAcc or QWordAcc"
-fault_words fault.Update = codes ": found the reserved update rule, wanted Preserve, WriteAsOnes or WriteAsZeros"
+fault_words fault.Update =
+    codes ": found the reserved update rule, wanted Preserve, WriteAsOnes or WriteAsZeros"
 fault_words fault.NoRegion = codes ": found a field of no OperationRegion, wanted a field of one"
-fault_words fault.Place = codes ": found a region whose first place is computed, wanted an integer literal"
-fault_words fault.Length = codes ": found a region whose length is computed, wanted an integer literal"
+fault_words fault.Place =
+    codes ": found a region whose first place is computed, wanted an integer literal"
+fault_words fault.Length =
+    codes ": found a region whose length is computed, wanted an integer literal"
 fault_words (fault.Bits bits) = []
 fault_words (fault.Space space) = []
 
 -- what is wrong with a field
 unfoldable pub fault_text : FieldFault → List ℕ
-fault_text (fault.Bits bits) = joined (codes ": found " ∷ decimal bits ∷ codes " bits, wanted 1 to 2048" ∷ [])
-fault_text (fault.Space space) = joined (codes ": found a region of space " ∷ decimal space ∷ codes ", wanted 0, 1, 2, 3 or 5" ∷ [])
+fault_text (fault.Bits bits) =
+    joined (codes ": found " ∷ decimal bits ∷ codes " bits, wanted 1 to 2048" ∷ [])
+fault_text (fault.Space space) =
+    joined (codes ": found a region of space " ∷ decimal space ∷ codes ", wanted 0, 1, 2, 3 or 5"
+    ∷ [])
 fault_text other = fault_words other
 
 -- how a loop's local is to change in each turn
@@ -138,14 +151,20 @@ change_words change.OneLess = codes "one less"
 -- a loop's local that changes otherwise than is wanted
 unfoldable pub otherwise_text : ℕ → Change → List ℕ
 otherwise_text number wanted =
-    joined (codes ": found a Continue before or other changes of Local" ∷ decimal number ∷ codes ", wanted it made " ∷ change_words wanted ∷ codes " once, at the top of the body" ∷ [])
+    joined (codes ": found a Continue before or other changes of Local" ∷ decimal number
+    ∷ codes ", wanted it made " ∷ change_words wanted ∷ codes " once, at the top of the body"
+    ∷ [])
 
 -- what a loop lacks that has no shape
 unfoldable pub lack_text : LoopLack → List ℕ
 lack_text lack.Test = codes ": found a test of another form, wanted a local, or LLess or LGreater of a local and a literal"
-lack_text (lack.Limit number) = joined (codes ": found Local" ∷ decimal number ∷ codes " compared with no integer literal, wanted it compared with one" ∷ [])
+lack_text (lack.Limit number) =
+    joined (codes ": found Local" ∷ decimal number
+    ∷ codes " compared with no integer literal, wanted it compared with one" ∷ [])
 lack_text (lack.Unchanged number wanted) =
-    joined (codes ": found no store into Local" ∷ decimal number ∷ codes " in the body, wanted it made " ∷ change_words wanted ∷ codes " by one statement at the top of it" ∷ [])
+    joined (codes ": found no store into Local" ∷ decimal number
+    ∷ codes " in the body, wanted it made " ∷ change_words wanted
+    ∷ codes " by one statement at the top of it" ∷ [])
 lack_text (lack.Otherwise number wanted) = otherwise_text number wanted
 
 -- what was found and what was wanted, behind a colon, where no object's path is told
@@ -155,21 +174,30 @@ finding_text bits (finding.Released mutex last) = []
 finding_text bits (finding.StillHeld last) = []
 finding_text bits (finding.Other what instead) = other_text bits what instead
 finding_text bits (finding.Index greatest (Some length)) =
-    joined (codes ": found an index up to " ∷ decimal greatest ∷ codes ", wanted one below " ∷ decimal length ∷ [])
+    joined (codes ": found an index up to " ∷ decimal greatest ∷ codes ", wanted one below "
+    ∷ decimal length ∷ [])
 finding_text bits (finding.Index greatest None) =
-    joined (codes ": found an index up to " ∷ decimal greatest ∷ codes ", wanted a length that is known" ∷ [])
+    joined (codes ": found an index up to " ∷ decimal greatest
+    ∷ codes ", wanted a length that is known" ∷ [])
 finding_text bits (finding.Element greatest length) =
-    joined (codes ": found an index up to " ∷ decimal greatest ∷ codes " of " ∷ decimal length ∷ codes " elements, wanted a value there" ∷ [])
+    joined (codes ": found an index up to " ∷ decimal greatest ∷ codes " of " ∷ decimal length
+    ∷ codes " elements, wanted a value there" ∷ [])
 finding_text bits (finding.Field byte bit count length) =
-    joined (codes ": found " ∷ decimal count ∷ codes " bits from bit " ∷ decimal bit ∷ codes " of byte " ∷ decimal byte ∷ codes " on, wanted them within buf:" ∷ decimal length ∷ [])
-finding_text bits (finding.Joined bytes) = joined (codes ": found " ∷ decimal bytes ∷ codes " bytes, wanted 65536 at most" ∷ [])
+    joined (codes ": found " ∷ decimal count ∷ codes " bits from bit " ∷ decimal bit
+    ∷ codes " of byte " ∷ decimal byte ∷ codes " on, wanted them within buf:" ∷ decimal length
+    ∷ [])
+finding_text bits (finding.Joined bytes) =
+    joined (codes ": found " ∷ decimal bytes ∷ codes " bytes, wanted 65536 at most" ∷ [])
 finding_text bits (finding.Given given) = given_text bits given
 finding_text bits (finding.Turn which began ends) = turn_text bits which began ends
 finding_text bits (finding.Level taken held) =
-    joined (codes ": found level " ∷ decimal taken ∷ codes ", wanted " ∷ decimal held ∷ codes " or more" ∷ [])
+    joined (codes ": found level " ∷ decimal taken ∷ codes ", wanted " ∷ decimal held
+    ∷ codes " or more" ∷ [])
 finding_text bits (finding.Fault fault) = fault_text fault
 finding_text bits (finding.Units at count unit length) =
-    joined (codes ": found " ∷ decimal count ∷ codes " bits from bit " ∷ decimal at ∷ codes " on in units of " ∷ decimal unit ∷ codes " bits, wanted whole units within the " ∷ decimal length ∷ codes " bytes of a region below 2^64" ∷ [])
+    joined (codes ": found " ∷ decimal count ∷ codes " bits from bit " ∷ decimal at
+    ∷ codes " on in units of " ∷ decimal unit ∷ codes " bits, wanted whole units within the "
+    ∷ decimal length ∷ codes " bytes of a region below 2^64" ∷ [])
 finding_text bits (finding.Lack lack) = lack_text lack
 
 -- the path of an object
@@ -178,16 +206,19 @@ object_path ns id = path_text (path_of ns.entries id.0)
 
 -- which mutex was wanted where one is released: the one that was taken last, if any is held
 abbrev pub last_text : Shown → Option ObjectId → List ℕ
-last_text ns (Some last) = codes ", wanted one of " ++ object_path ns last ++ codes ", the last taken of those held"
+last_text ns (Some last) =
+    codes ", wanted one of " ++ object_path ns last ++ codes ", the last taken of those held"
 last_text ns None = codes ", wanted none where no mutex is held"
 
 -- a mutex that is released, and the one that was wanted
 abbrev pub released_text : Shown → ObjectId → Option ObjectId → List ℕ
-released_text ns mutex last = codes ": found a release of " ++ object_path ns mutex ++ last_text ns last
+released_text ns mutex last =
+    codes ": found a release of " ++ object_path ns mutex ++ last_text ns last
 
 -- the mutex that was taken last of those that are still held
 abbrev pub still_held_text : Shown → ObjectId → List ℕ
-still_held_text ns last = codes ": found " ++ object_path ns last ++ codes " still held, wanted no mutex held"
+still_held_text ns last =
+    codes ": found " ++ object_path ns last ++ codes " still held, wanted no mutex held"
 
 -- what was found and what was wanted, behind a colon
 abbrev pub told_text : Shown → Finding → List ℕ

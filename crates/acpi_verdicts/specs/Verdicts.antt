@@ -35,7 +35,8 @@ line_of (verdict.Unreadable table refusal) = line.Unreadable table refusal
 
 -- the line of what is said of a method; nothing where nothing is said
 abbrev pub said_text : Checked → ObjectId → List ℕ
-said_text checked id = option_map_or (λ v. verdict_line (printed_of checked id) (line_of v)) (said_of checked id.0) []
+said_text checked id =
+    option_map_or (λ v. verdict_line (printed_of checked id) (line_of v)) (said_of checked id.0) []
 
 -- the lines of the verdicts on all methods, in order of definition
 abbrev pub verdicts_text : Checked → List ℕ
@@ -50,4 +51,5 @@ is_refused (Some (verdict.Unreadable table refusal)) = true
 
 -- any method is refused
 abbrev pub any_refused : Checked → Bool
-any_refused checked = list_any (λ (id : ObjectId). is_refused (said_of checked id.0)) (methods_of checked)
+any_refused checked =
+    list_any (λ (id : ObjectId). is_refused (said_of checked id.0)) (methods_of checked)

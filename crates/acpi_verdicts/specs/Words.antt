@@ -5,16 +5,21 @@ use Rattle.aml_causes.specs.declared.cause.Cause.TheVariants as cause
 
 -- what it means that a method is refused for a cause
 abbrev pub cause_words : Cause → List ℕ
-cause_words cause.Unresolved = codes "a name names nothing: no loaded table defines it, or not where the name is looked up"
+cause_words cause.Unresolved =
+    codes "a name names nothing: no loaded table defines it, or not where the name is looked up"
 cause_words cause.OutsideProfile = codes "an operator or a form that has no meaning here"
 cause_words cause.WrongKind = codes "a value or an object of the wrong kind"
-cause_words cause.Unset = codes "a local, an argument or an element of a package may be unset where it is read"
-cause_words cause.Cycle = codes "the method that is called calls, itself or through others, the one that calls it"
+cause_words cause.Unset =
+    codes "a local, an argument or an element of a package may be unset where it is read"
+cause_words cause.Cycle =
+    codes "the method that is called calls, itself or through others, the one that calls it"
 cause_words cause.LoopShape = codes "nothing tells how often a While turns at most"
 cause_words cause.Index = codes "an index need not be below the length of what it is an index of"
-cause_words cause.Divisor = codes "the second operand of Divide or Mod is no integer literal, or is zero"
+cause_words cause.Divisor =
+    codes "the second operand of Divide or Mod is no integer literal, or is zero"
 cause_words cause.Region = codes "a field that cannot be read and written here"
-cause_words cause.NoResult = codes "a value is wanted of a call, and the method that is called need not give one"
+cause_words cause.NoResult =
+    codes "a value is wanted of a call, and the method that is called need not give one"
 cause_words cause.BoundTooLarge = codes "the method may take 2^63 steps or more"
 cause_words cause.CalleeRefused = codes "the method that is called is refused itself"
 cause_words cause.LocalName =

@@ -21,12 +21,13 @@ use std::alloc::{AllocError, Global};
 /// The most methods that are told of one behind the other.
 const MOST_TOLD: u8 = 8;
 
-/// Why the method with a number is refused, in lines that each end in a line feed: its path, the cause,
-/// the file, the byte, what the cause means, and what was found there and what was wanted; of a cause that
-/// tells of a call the path of the method that is called. Where that one is refused itself, the lines of it follow, two spaces further in, down
-/// to the first method that is refused for another cause. 8 methods are told at most; a line behind them
-/// says under which method the rest of the chain stands: under the one that the last line calls. No line
-/// where the method is accepted, or no method has the number.
+/// Why the method with a number is refused, in lines that each end in a line feed: its path, the
+/// cause, the file, the byte, what the cause means, and what was found there and what was wanted;
+/// of a cause that tells of a call the path of the method that is called. Where that one is refused
+/// itself, the lines of it follow, two spaces further in, down to the first method that is refused
+/// for another cause. 8 methods are told at most; a line behind them says under which method the
+/// rest of the chain stands: under the one that the last line calls. No line where the method is
+/// accepted, or no method has the number.
 ///
 /// The files are called by the names that are handed in, in the order of the tables.
 ///
@@ -221,7 +222,8 @@ fn push_unreadable(
     Ok(())
 }
 
-// The method whose own cause is told next: the one that is called, where a method is refused for that.
+// The method whose own cause is told next: the one that is called, where a method is refused for
+// that.
 fn next_of(checked: &Checked<'_>, id: ObjectId) -> Option<ObjectId>
     ensures { result ≡ next_of checked.now id }
 {

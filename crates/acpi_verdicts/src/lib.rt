@@ -1,9 +1,9 @@
-//! The verdicts on the methods of a namespace, as they are printed, and what people are told of why a
-//! method is refused.
+//! The verdicts on the methods of a namespace, as they are printed, and what people are told of why
+//! a method is refused.
 //!
-//! Rooms: `listed` prints the verdicts and answers whether a method is refused, `words` has what causes
-//! mean, `findings` what was found there and what was wanted, `explained` what is told of a refused method
-//! and of those that it calls.
+//! Rooms: `listed` prints the verdicts and answers whether a method is refused, `words` has what
+//! causes mean, `findings` what was found there and what was wanted, `explained` what is told of a
+//! refused method and of those that it calls.
 #![tactic(auto)]
 
 mod explained;

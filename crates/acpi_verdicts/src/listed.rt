@@ -11,9 +11,9 @@ use aml_verify::{Checked, Verdict};
 use std::alloc::Global;
 use std::io::Write;
 
-/// Prints a line for each method of a namespace, in order of definition: `\M001 accepted 4` with the most
-/// steps that it takes, `\M002 refused 0 108 V4 Unset` with the table, the place and the cause, or `\M015
-/// refused 0 108 E205 TooDeep` of a body that cannot be read.
+/// Prints a line for each method of a namespace, in order of definition: `\M001 accepted 4` with
+/// the most steps that it takes, `\M002 refused 0 108 V4 Unset` with the table, the place and the
+/// cause, or `\M015 refused 0 108 E205 TooDeep` of a body that cannot be read.
 ///
 /// At Err the writer holds a beginning of that text.
 pub fn list_verdicts<W: Write>(

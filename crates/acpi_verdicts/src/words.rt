@@ -5,8 +5,8 @@ ghost use Rattle.acpi_verdicts.specs.Words as spec;
 
 use aml_causes::Cause;
 
-/// What it means that a method is refused for a cause; `docs/CAUSES.md` has more of each, with what can
-/// be done.
+/// What it means that a method is refused for a cause; `docs/CAUSES.md` has more of each, with what
+/// can be done.
 #[must_use]
 pub fn cause_words(cause: Cause) -> &'static str
     ensures { result.now ≡ spec.cause_words cause }

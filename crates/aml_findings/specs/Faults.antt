@@ -52,7 +52,8 @@ module _ (here : Around) where
   abbrev pub named_object : Option ObjectId → Option Object
   named_object id = option_and_then (λ k. here.object k.0) id
 
-  -- a region whose place or length is computed has no field; else a field's units need not lie in it
+  -- a region whose place or length is computed has no field; else a field's units need not lie in
+  -- it
   abbrev pub bounded_finding : Field → ℕ → Option ℕ → Option ℕ → Finding
   bounded_finding f unit None length = finding.Fault fault.Place
   bounded_finding f unit (Some place) None = finding.Fault fault.Length

@@ -51,7 +51,8 @@ pub enum Made {
     Field(BufferField),
 }
 
-/// What is known around a method's body, its own names so far among it, with the shapes of packages by their numbers.
+/// What is known around a method's body, its own names so far among it, with the shapes of packages
+/// by their numbers.
 pub trait Around: Shapes {
     ghost around: { Self → judged.Around };
 
@@ -77,7 +78,8 @@ pub trait Around: Shapes {
 
     /// The field of a region that the object with a number is, where it can be read and written.
     fn field(&self, id: ObjectId) -> Option<FieldCosts>
-        ensures { option_map costs_of result ≡ option_map field_seen ((around self.now).field id.0) };
+        ensures { option_map costs_of result ≡
+            option_map field_seen ((around self.now).field id.0) };
 
     /// The field of a buffer that the object with a number is, where it can be read and written.
     fn buffer_field(&self, id: ObjectId) -> Option<BufferField>

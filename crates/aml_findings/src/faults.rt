@@ -10,8 +10,8 @@ use crate::finding::{FieldFault, Finding};
 use aml_meaning::BufferField;
 use aml_namespace::{AccessType, Field, Link, Object, ObjectId, Region, Through, UpdateRule};
 
-/// The first of what is wrong with a field of a region or of a buffer, by what its name means. Of an
-/// index field and a bank field no more is told than its list tells.
+/// The first of what is wrong with a field of a region or of a buffer, by what its name means. Of
+/// an index field and a bank field no more is told than its list tells.
 pub fn unusable<A: Around>(here: &A, link: Link) -> Finding
     ensures { result ≡ spec.unusable_finding (A.around here.now) link }
 {

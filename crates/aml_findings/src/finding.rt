@@ -13,8 +13,8 @@ pub enum Finding {
         found: Found,
         wanted: Wanted,
     },
-    /// An index that may be as great as this one into so many bytes or elements, where it is known how
-    /// many there are.
+    /// An index that may be as great as this one into so many bytes or elements, where it is known
+    /// how many there are.
     Index {
         greatest: u64,
         length: Option<u64>,
@@ -37,7 +37,8 @@ pub enum Finding {
     },
     /// What a call gives that need not give a value.
     Given(Yield),
-    /// What a local or an argument holds where the turns of a loop begin, and where one of them ends.
+    /// What a local or an argument holds where the turns of a loop begin, and where one of them
+    /// ends.
     Turn {
         slot: NumberedSlot,
         began: Known,
@@ -59,7 +60,8 @@ pub enum Finding {
     },
     /// What is wrong with a field that cannot be read and written.
     Fault(FieldFault),
-    /// So many bits of a field from one on, in units of so many bits, and the bytes of their region.
+    /// So many bits of a field from one on, in units of so many bits, and the bytes of their
+    /// region.
     Units {
         at: u64,
         bits: u64,

@@ -177,7 +177,8 @@ pub fn byte_written<A: Around>(
     }
 }
 
-/// Where what is of a kind is stored into a name that holds what is of another, if it holds anything.
+/// Where what is of a kind is stored into a name that holds what is of another, if it holds
+/// anything.
 pub fn stored(held: Option<Known>, kind: Known) -> Finding
     ensures { result ≡ spec.stored_finding held kind }
 {
@@ -303,7 +304,8 @@ pub fn level(taken: Option<u8>, held: Option<u8>) -> Finding
     }
 }
 
-/// Where a mutex is released that was not taken last of those that are held, if it is known which was.
+/// Where a mutex is released that was not taken last of those that are held, if it is known which
+/// was.
 pub fn released(mutex: ObjectId, last: Result<Option<TakenMutex>, NoMemory>) -> Finding
     ensures { result ≡ spec.released_finding mutex last }
 {

@@ -25,7 +25,8 @@ pub fn shapeless<A: Around>(here: &A, test: &Term, body: &[Term]) -> Finding
 /// What a loop lacks by its test.
 #[tactic(auto, using(aml_operators::proofs::Views::view_out))]
 fn tested(test: &Term, targets: &Targets, width: Width) -> LoopLack
-    ensures { result ≡ spec.tested_lack (bits_of width) (is_marked targets.now.locals) (view test.now) }
+    ensures { result ≡
+        spec.tested_lack (bits_of width) (is_marked targets.now.locals) (view test.now) }
 {
     match action_of(test.op) {
         Action::Compare(Comparison::LLess) => {
@@ -74,7 +75,8 @@ fn against(wanted: Change, what: &Term, limit: &Term, targets: &Targets, width: 
     }
 }
 
-/// What a loop lacks that compares a local, with nothing behind it, with a limit, if that is a literal.
+/// What a loop lacks that compares a local, with nothing behind it, with a limit, if that is a
+/// literal.
 fn limited(
     wanted: Change,
     local: u8,

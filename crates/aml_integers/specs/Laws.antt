@@ -59,8 +59,8 @@ OrderDecides =
     is_short (called_from all) 64 k ≡ false) →
     AreIntegerOnly all known (decided_in_order all known (λ k. false) order)
 
--- where one method more is done behind those that it calls, and marked as is decided of it, all that
--- are done are marked so; and when all that are accepted are done, the marks are the answer
+-- where one method more is done behind those that it calls, and marked as is decided of it, all
+-- that are done are marked so; and when all that are accepted are done, the marks are the answer
 abbrev pub MarksDecide : Type 0
 MarksDecide =
     (all : Judging) (known : ℕ → Option Accepted) (done : ℕ → Bool) (marks : List Bool) (k : ℕ)

@@ -13,8 +13,8 @@ pub fn integers_are_found()
     ensures found { OrderDecides }
 {}
 
-/// Where methods are marked one by one, each behind those that it calls, the marks are right at each step;
-/// and when all that are accepted are marked, they are the answer.
+/// Where methods are marked one by one, each behind those that it calls, the marks are right at
+/// each step; and when all that are accepted are marked, they are the answer.
 pub fn marks_decide()
     ensures steps { MarksDecide }
     ensures done { DoneDecides }

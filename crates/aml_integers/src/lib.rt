@@ -1,4 +1,5 @@
-//! Which methods evaluate integers alone, by what `specs/Integers` of aml_judged says of their bodies.
+//! Which methods evaluate integers alone, by what `specs/Integers` of aml_judged says of their
+//! bodies.
 //!
 //! Rooms: `names` has what is asked of names and kinds, `walk` the walk over a body, `laws` what is
 //! said of the definitions alone.

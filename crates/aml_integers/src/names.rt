@@ -98,7 +98,8 @@ pub fn name<A: Around>(here: &A, link: Link) -> bool
     }
 }
 
-/// Whether a name with arguments calls a method that evaluates integers alone, or is read as one without.
+/// Whether a name with arguments calls a method that evaluates integers alone, or is read as one
+/// without.
 pub fn called<A: Around>(here: &A, only: &[bool], link: Link) -> bool
     ensures { result ≡ judged.integer_called (methods_in (A.around here.now))
         (body_in (A.around here.now)) (A.around here.now).kinds.shared (marked only.now) link }

@@ -106,8 +106,8 @@ fn all_alone<A: Around>(here: &A, only: &[bool], terms: &[Term]) -> bool
     true
 }
 
-/// Whether a method with arguments of these kinds evaluates integers alone, by its body and by which
-/// of the methods that it calls do. It takes no memory.
+/// Whether a method with arguments of these kinds evaluates integers alone, by its body and by
+/// which of the methods that it calls do. It takes no memory.
 #[must_use]
 pub fn integers_alone<A: Around>(here: &A, only: &[bool], args: &[Known], body: &[Term]) -> bool
     ensures { (methods : Methods) (m : Callee) → IsAround (A.around here.now) methods m →

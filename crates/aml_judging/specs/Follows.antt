@@ -28,7 +28,8 @@ pub record Goes {K : Type 0} (rule : Rule K) (old new : Standing) (k : K) : Type
   pub counted : new.cost ≡ held_cost (old.cost + cost)
 
 -- so does an answer say; or it is the rule's refusal; or memory was wanted
-abbrev pub Follows : {X K : Type 0} → (X → K) → Rule K → Standing → Standing → Result X Stop → Type 0
+abbrev pub Follows : {X K : Type 0} → (X → K) → Rule K → Standing → Standing → Result X Stop →
+    Type 0
 Follows see rule old new (Ok x) = Goes rule old new (see x)
 Follows see rule old new (Err (stop.Refused r)) = rule old.env ≡ Stops r
 Follows see rule old new (Err stop.NoMemory) = Unit {0}
@@ -59,9 +60,11 @@ abbrev pub Costs : {X K : Type 0} → (X → K) → (X → ℕ) → Rule K → R
 Costs see cost rule result = (env : Env) → rule env ≡ priced see cost result env
 
 -- a rule that costs nothing, in an environment
-abbrev pub GivesIn : {X K : Type 0} → (ℕ → Shape) → (X → K) → Rule K → program.Env → Result X Refusal → Type 0
+abbrev pub GivesIn : {X K : Type 0} → (ℕ → Shape) → (X → K) → Rule K → program.Env →
+    Result X Refusal → Type 0
 GivesIn shapes see rule env result =
-    (lists : ℕ → List TakenMutex) → rule (env_of shapes lists env) ≡ given see result (env_of shapes lists env)
+    (lists : ℕ → List TakenMutex) →
+    rule (env_of shapes lists env) ≡ given see result (env_of shapes lists env)
 
 -- the same, where memory may be wanted
 abbrev pub given_if_memory : {X K : Type 0} → (X → K) → Rule K → Env → Result X Stop → Type 0
@@ -69,7 +72,8 @@ given_if_memory see rule env (Ok x) = rule env ≡ judged.Goes (see x) env no_ex
 given_if_memory see rule env (Err (stop.Refused r)) = rule env ≡ Stops r
 given_if_memory see rule env (Err stop.NoMemory) = Unit {0}
 
-abbrev pub FollowsIn : {X K : Type 0} → (ℕ → Shape) → (X → K) → Rule K → program.Env → Result X Stop → Type 0
+abbrev pub FollowsIn : {X K : Type 0} → (ℕ → Shape) → (X → K) → Rule K → program.Env →
+    Result X Stop → Type 0
 FollowsIn shapes see rule env result =
     (lists : ℕ → List TakenMutex) → given_if_memory see rule (env_of shapes lists env) result
 
@@ -84,8 +88,10 @@ IsVerdict shapes verdict (Err (stop.Refused r)) = verdict ≡ Err r
 IsVerdict shapes verdict (Err stop.NoMemory) = Unit {0}
 
 -- what an operator's action is, behind its step
-abbrev pub Acts : (ℕ → Shape) → Around → Bool → Action → ℕ → Trees → Progress → Progress → Result Yield Stop → Type 0
-Acts shapes here w does at parts old new result = Judges shapes (λ lists. yield_of shapes) (judged_act here w does at parts) old new result
+abbrev pub Acts : (ℕ → Shape) → Around → Bool → Action → ℕ → Trees → Progress → Progress →
+    Result Yield Stop → Type 0
+Acts shapes here w does at parts old new result =
+    Judges shapes (λ lists. yield_of shapes) (judged_act here w does at parts) old new result
 
 -- a cost is paid, and nothing else changes
 pub record Paid (cost : ℕ) (old new : Progress) : Type 0 where

@@ -28,7 +28,8 @@ module _ (here : Around) where
 
   abbrev pub often_rule : ℕ → ℕ → Tree → Trees → Rule (Unit {0})
   often_rule turns at t ts = λ env.
-      often here env.looped turns at (begun here ts env) (tested t (begun here ts env)) (judged_all here ts)
+      often here env.looped turns at (begun here ts env) (tested t (begun here ts env))
+      (judged_all here ts)
 
   abbrev pub falling_rule : ℕ → ℕ → ℕ → Tree → Trees → Rule (Unit {0})
   falling_rule l c at t ts = λ env.
@@ -42,13 +43,14 @@ pub record IsTurn (shapes : ℕ → Shape) (lists : ℕ → List TakenMutex) (ru
       judged.Goes tt (env_of shapes lists turn.end) (exits_of shapes lists turn.exits) cost
   pub counted : held_cost turn.cost ≡ held_cost cost
 
-abbrev pub TurnSays : (ℕ → Shape) → (ℕ → List TakenMutex) → Rule (Unit {0}) → Env → Result Turn Stop → Type 0
+abbrev pub TurnSays : (ℕ → Shape) → (ℕ → List TakenMutex) → Rule (Unit {0}) → Env →
+    Result Turn Stop → Type 0
 TurnSays shapes lists rule held (Ok turn) = IsTurn shapes lists rule held turn
 TurnSays shapes lists rule held (Err (stop.Refused r)) = rule (env_of shapes lists held) ≡ Stops r
 TurnSays shapes lists rule held (Err stop.NoMemory) = Unit {0}
 
--- a turn of a loop's body is judged apart: where it goes on, all stands as before but for takings of
--- mutexes
+-- a turn of a loop's body is judged apart: where it goes on, all stands as before but for takings
+-- of mutexes
 abbrev pub StandsStill : Progress → Progress → Result Turn Stop → Type 0
 StandsStill old new (Ok turn) =
     (new.env ≡ old.env) × (new.exits ≡ old.exits) × (new.cost ≡ old.cost)
@@ -62,15 +64,16 @@ pub record Turned (shapes : ℕ → Shape) (here : Around) (body : Trees) (held 
   pub says : (lists : ℕ → List TakenMutex) → AreApart shapes →
       Says lists new.locks.takings.items → TurnSays shapes lists (judged_all here body) held result
 
--- what stands behind a loop is put in place: what stood behind its failed test and at its Breaks, its
--- body's other exits, and its cost
+-- what stands behind a loop is put in place: what stood behind its failed test and at its Breaks,
+-- its body's other exits, and its cost
 pub record Leaves (here : Around) (outer : Bool) (et : known.Env) (x : judged.Exits) (n : ℕ)
     (old new : Standing) : Type 0 where
   pub env : new.env ≡ in_loop outer (after_loop here x.broke et)
   pub exits : new.exits ≡ join_exits old.exits (record x { broke = None; continued = None })
   pub cost : new.cost ≡ held_cost (old.cost + n)
 
-abbrev pub PastSays : Around → (ℕ → Shape) → (ℕ → List TakenMutex) → Bool → Env → Exits → ℕ → Progress → Progress → Result (Unit {0}) NoMemory → Type 0
+abbrev pub PastSays : Around → (ℕ → Shape) → (ℕ → List TakenMutex) → Bool → Env → Exits → ℕ →
+    Progress → Progress → Result (Unit {0}) NoMemory → Type 0
 PastSays here shapes lists outer tested exits cost old new (Ok u) =
     Leaves here outer (env_of shapes lists tested) (exits_of shapes lists exits) cost
     (standing shapes lists old) (standing shapes lists new)

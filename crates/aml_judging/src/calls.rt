@@ -27,8 +27,8 @@ pub fn not_reaching<A: Around>(here: &A, at: usize, reaches: bool) -> Result<(),
     Ok(())
 }
 
-/// Where a value is wanted of a call, an accepted method gives one always. V10 at the name of one that
-/// need not.
+/// Where a value is wanted of a call, an accepted method gives one always. V10 at the name of one
+/// that need not.
 fn with_result<A: Around>(
     here: &A,
     wanted: bool,
@@ -47,8 +47,8 @@ fn with_result<A: Around>(
     }
 }
 
-/// The arguments of a call are within the kinds that its method takes. V3 at the first that is not; V2 at
-/// the table's beginning where they are not as many, which does not come.
+/// The arguments of a call are within the kinds that its method takes. V3 at the first that is not;
+/// V2 at the table's beginning where they are not as many, which does not come.
 fn are_within<A: Around>(
     here: &A,
     given: &[Known],
@@ -75,8 +75,8 @@ fn are_within<A: Around>(
     }
 }
 
-/// The least level that a method takes is at least each that its caller holds. V15 at the name of one that
-/// takes a lower one, V18 where ways hold different mutexes.
+/// The least level that a method takes is at least each that its caller holds. V15 at the name of
+/// one that takes a lower one, V18 where ways hold different mutexes.
 fn levels<A: Around>(
     here: &A,
     at: usize,
@@ -98,8 +98,8 @@ fn levels<A: Around>(
     }
 }
 
-/// A call behind its arguments, which are of these kinds. The causes in their order: V10, V12, V14, V3 of
-/// an argument, V15.
+/// A call behind its arguments, which are of these kinds. The causes in their order: V10, V12, V14,
+/// V3 of an argument, V15.
 pub fn called<A: Around>(
     here: &A,
     wanted: bool,

@@ -25,8 +25,8 @@ use aml_meaning::{Action, Definition, action_of};
 use aml_namespace::{CreatedFieldSize, Link};
 use aml_operators::{Op, Term, first_place, literal_of};
 
-/// Whether a definition makes an own name, by the place of its name: that is one segment without prefix,
-/// and no own name has it yet.
+/// Whether a definition makes an own name, by the place of its name: that is one segment without
+/// prefix, and no own name has it yet.
 fn may_make<A: Around>(here: &A, at: usize) -> bool
     ensures { result ≡ may_make (A.around here.now) at }
 {
@@ -44,8 +44,8 @@ fn named(greatest: u64, kind: Known) -> Known
     }
 }
 
-/// The kind of a Name's data, by their operator and parts (ACPI 6.5, 19.6, Name). V2 at data whose size is
-/// computed, and at what is no data.
+/// The kind of a Name's data, by their operator and parts (ACPI 6.5, 19.6, Name). V2 at data whose
+/// size is computed, and at what is no data.
 fn first_kind<A: Around>(here: &A, op: Op, at: usize, parts: &[Term]) -> Result<Known, Stop>
     ensures { GivesOrMemory (kind_of (A.numbered here.now))
         (first_kind_by (A.around here.now) (action op) at (views parts.now)) result }
@@ -63,8 +63,8 @@ fn first_kind<A: Around>(here: &A, op: Op, at: usize, parts: &[Term]) -> Result<
     }
 }
 
-/// What a field of a buffer is of: a data name, also an own one that is no field itself. V2 at the opcode
-/// of one of anything else.
+/// What a field of a buffer is of: a data name, also an own one that is no field itself. V2 at the
+/// opcode of one of anything else.
 fn source<A: Around>(here: &A, at: usize, link: Link) -> Result<Link, Refusal>
     ensures { Gives (λ l. l) (judged_source (A.around here.now) at link) result }
 {
@@ -87,8 +87,8 @@ fn source_place(term: &Term) -> Option<usize>
     }
 }
 
-/// A field of a buffer, where its source is a name, and its index and its size are integer literals (19.6,
-/// CreateField and its kin). V2 at the opcode of any other.
+/// A field of a buffer, where its source is a name, and its index and its size are integer literals
+/// (19.6, CreateField and its kin). V2 at the opcode of any other.
 fn field_made<A: Around>(
     here: &A,
     at: usize,
@@ -116,7 +116,8 @@ fn name_made<A: Around>(
     progress: &mut Progress,
 ) -> Result<Made, Stop>
     ensures { Judges (A.numbered here.now) (λ lists m. made_of (A.numbered here.now) m)
-        (judged_made (A.around here.now) makes.Name at (more (view name.now) (more (view held.now) none)))
+        (judged_made (A.around here.now) makes.Name at
+        (more (view name.now) (more (view held.now) none)))
         progress.old progress.new result }
 {
     if !may_make(here, name.at) {
@@ -159,7 +160,8 @@ fn counted_made<A: Around>(
 ) -> Result<Made, Refusal>
     ensures { Gives (made_of (A.numbered here.now))
         (judged_made (A.around here.now) makes.CountedField at
-        (more (view from.now) (more (view index.now) (more (view count.now) (more (view name.now) none))))) result }
+        (more (view from.now)
+        (more (view index.now) (more (view count.now) (more (view name.now) none))))) result }
 {
     if !may_make(here, name.at) {
         return Err(refusal(here, Cause::LocalName, at));
@@ -218,8 +220,8 @@ fn counted_among<A: Around>(here: &A, at: usize, parts: &[Term]) -> Result<Made,
     }
 }
 
-/// What a definition makes, behind its step. V13 at the opcode of one that may make no own name; V2 as its
-/// data or its source says.
+/// What a definition makes, behind its step. V13 at the opcode of one that may make no own name; V2
+/// as its data or its source says.
 pub fn made<A: Around>(
     here: &A,
     definition: Definition,

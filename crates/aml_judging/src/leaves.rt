@@ -53,8 +53,8 @@ fn is_stored(parts: &[Term]) -> bool
     }
 }
 
-/// Whether a term may be an operand, by its operator and its parts: a Store into a name or an Index is
-/// none.
+/// Whether a term may be an operand, by its operator and its parts: a Store into a name or an Index
+/// is none.
 pub fn is_operand(op: Op, parts: &[Term]) -> bool
     ensures { result ≡ is_operand (action op) (views parts.now) }
 {
@@ -171,7 +171,8 @@ pub fn sized<A: Around>(
 
 /// Whether something has a name (19.6, CondRefOf).
 pub fn asked<A: Around>(here: &A, at: usize, parts: &[Term]) -> Result<Yield, Stop>
-    ensures { (w : Bool) (p : _) → Acts (A.numbered here.now) (A.around here.now) w does.CondRefOf at
+    ensures { (w : Bool) (p : _) →
+        Acts (A.numbered here.now) (A.around here.now) w does.CondRefOf at
         (views parts.now) p p result }
 {
     let [what, target] = parts else {

@@ -16,8 +16,8 @@ use aml_namespace::{Link, Object};
 use aml_operators::Op;
 use aml_paths::ObjectId;
 
-/// The mutex that the object with a number is, named at a place, for an operator at another. V2 at the
-/// operator of the global lock, V3 at the name of what is no mutex.
+/// The mutex that the object with a number is, named at a place, for an operator at another. V2 at
+/// the operator of the global lock, V3 at the name of what is no mutex.
 fn numbered<A: Around>(
     here: &A,
     at: usize,
@@ -40,7 +40,8 @@ fn numbered<A: Around>(
     }
 }
 
-/// The mutex that a name means. V1 where it names nothing, V3 where it names no object of this kind.
+/// The mutex that a name means. V1 where it names nothing, V3 where it names no object of this
+/// kind.
 fn named<A: Around>(here: &A, at: usize, from: usize, link: Link) -> Result<TakenMutex, Refusal>
     ensures { Gives (λ m. m) (judged_mutex_named (A.around here.now) at from link) result }
 {
@@ -54,8 +55,8 @@ fn named<A: Around>(here: &A, at: usize, from: usize, link: Link) -> Result<Take
     }
 }
 
-/// The mutex that an operand of Acquire or Release is. A local and an argument are none, and are not read:
-/// V3. V2 at any other operand.
+/// The mutex that an operand of Acquire or Release is. A local and an argument are none, and are
+/// not read: V3. V2 at any other operand.
 pub fn mutex<A: Around>(here: &A, at: usize, op: Op, from: usize) -> Result<TakenMutex, Refusal>
     ensures { Gives (λ m. m) (judged_mutex (A.around here.now) at (action op) from) result }
 {
@@ -69,8 +70,8 @@ pub fn mutex<A: Around>(here: &A, at: usize, op: Op, from: usize) -> Result<Take
     }
 }
 
-/// A mutex is taken (ACPI 6.5, 19.6, Acquire). V15 at the operator where its level is below that of one
-/// that is held, V18 where ways hold different mutexes.
+/// A mutex is taken (ACPI 6.5, 19.6, Acquire). V15 at the operator where its level is below that of
+/// one that is held, V18 where ways hold different mutexes.
 pub fn taken<A: Around>(
     here: &A,
     at: usize,
@@ -93,8 +94,8 @@ pub fn taken<A: Around>(
     Ok(())
 }
 
-/// A mutex is released (19.6, Release). V16 at the operator where it was not the last that was taken, V18
-/// where ways hold different mutexes.
+/// A mutex is released (19.6, Release). V16 at the operator where it was not the last that was
+/// taken, V18 where ways hold different mutexes.
 pub fn released<A: Around>(
     here: &A,
     at: usize,

@@ -103,8 +103,8 @@ pub fn held_kind<A: Around>(here: &A, link: Link) -> Option<Known>
     }
 }
 
-/// A field of a buffer (19.6, CreateField). V9 at the name of one that cannot be read, V3 where its source
-/// is no buffer's name, V7 where it does not lie in its buffer.
+/// A field of a buffer (19.6, CreateField). V9 at the name of one that cannot be read, V3 where its
+/// source is no buffer's name, V7 where it does not lie in its buffer.
 fn buffer_field<A: Around>(
     here: &A,
     link: Link,

@@ -9,8 +9,8 @@ use aml_known::{Env, Exits, Locks};
 /// As many steps as no accepted method takes.
 pub const MOST_STEPS: u64 = 1 << 63;
 
-/// Where a judgement stands: what is known there, at the exits so far, and what the way there costs; all
-/// costs from 2 to the power 63 on are one. Beside these, all takings of mutexes so far.
+/// Where a judgement stands: what is known there, at the exits so far, and what the way there
+/// costs; all costs from 2 to the power 63 on are one. Beside these, all takings of mutexes so far.
 #[derive(Drop)]
 pub struct Progress {
     pub env: Env,

@@ -99,8 +99,8 @@ pub fn size<A: Around>(here: &A, of: &Term, env: &Env) -> Result<Known, Stop>
     size_kind(here.width(), here, place(here, of.at), kind)
 }
 
-/// Whether something has a name (19.6, CondRefOf). V2 at the operator with another operand than a name
-/// alone, or with a target.
+/// Whether something has a name (19.6, CondRefOf). V2 at the operator with another operand than a
+/// name alone, or with a target.
 #[tactic(auto, using(aml_operators::proofs::Views::view_out))]
 pub fn condition<A: Around>(
     here: &A,
@@ -141,8 +141,8 @@ fn notified_name<A: Around>(here: &A, link: Link, at: usize) -> Result<bool, Ref
     }
 }
 
-/// Whether an operand can be notified; a local and an argument cannot, and are not read. V2 at what is
-/// neither one of these nor a name.
+/// Whether an operand can be notified; a local and an argument cannot, and are not read. V2 at what
+/// is neither one of these nor a name.
 pub fn notified<A: Around>(here: &A, op: Op, at: usize) -> Result<bool, Refusal>
     ensures { Gives (λ b. b) (judged_notified (A.around here.now) (action op) at) result }
 {

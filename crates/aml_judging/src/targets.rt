@@ -23,8 +23,8 @@ use aml_meaning::{Action, BufferField, action_of};
 use aml_namespace::Link;
 use aml_operators::{Op, Term};
 
-/// What is of a kind is stored into a field of a region: so many events. V9 at the name of one that cannot
-/// be written, V3 where it does not take such a value.
+/// What is of a kind is stored into a field of a region: so many events. V9 at the name of one that
+/// cannot be written, V3 where it does not take such a value.
 fn field<A: Around>(
     here: &A,
     link: Link,
@@ -44,8 +44,8 @@ fn field<A: Around>(
     Ok(field.writes)
 }
 
-/// The same into a field of a buffer, without events. V9, V3 and V7 as where it is read, and V3 where it
-/// does not take such a value.
+/// The same into a field of a buffer, without events. V9, V3 and V7 as where it is read, and V3
+/// where it does not take such a value.
 fn buffer_field<A: Around>(
     here: &A,
     link: Link,
@@ -65,8 +65,8 @@ fn buffer_field<A: Around>(
     Ok(0)
 }
 
-/// The same into a name that holds what is of a kind, if it holds something. V3 where it may not hold such
-/// a value.
+/// The same into a name that holds what is of a kind, if it holds something. V3 where it may not
+/// hold such a value.
 fn into<A: Around>(here: &A, at: usize, old: Option<Known>, kind: Known) -> Result<u64, Refusal>
     ensures { Costs (λ n. tt) (λ n. 1 + n) (judged_into (A.around here.now) at
         (content_of (A.numbered here.now) old) (kind_of (A.numbered here.now) kind)) result }
@@ -92,8 +92,8 @@ fn own<A: Around>(here: &A, number: usize, at: usize, kind: Known) -> Result<u64
     }
 }
 
-/// The same into what a name means. V1 where it names nothing, V3 where it names nothing that is stored
-/// into.
+/// The same into what a name means. V1 where it names nothing, V3 where it names nothing that is
+/// stored into.
 fn name<A: Around>(here: &A, link: Link, at: usize, kind: Known) -> Result<u64, Refusal>
     ensures { Costs (λ n. tt) (λ n. 1 + n) (judged_target (A.around here.now) link at
         (kind_of (A.numbered here.now) kind)) result }
@@ -147,8 +147,8 @@ fn bound<A: Around>(here: &A, link: Link, at: usize) -> Result<usize, Refusal>
     }
 }
 
-/// The place of the name that a written Index is of, alone or with arguments, which are not judged. V2 at
-/// an Index of what is no name.
+/// The place of the name that a written Index is of, alone or with arguments, which are not judged.
+/// V2 at an Index of what is no name.
 #[tactic(auto, using(aml_operators::proofs::Views::view_out))]
 fn name_indexed<A: Around>(
     here: &A,
@@ -167,8 +167,8 @@ fn name_indexed<A: Around>(
     }
 }
 
-/// The place of the name that a written Index with this target of its own is of. V2 at an Index that has
-/// such a target.
+/// The place of the name that a written Index with this target of its own is of. V2 at an Index
+/// that has such a target.
 #[tactic(auto, using(aml_operators::proofs::Views::view_out))]
 pub fn indexed<A: Around>(here: &A, at: usize, own: Op, of: &Term) -> Result<usize, Refusal>
     ensures { Gives (λ p. p)

@@ -145,8 +145,8 @@ pub fn exit_holds(exit: &Option<Env>, other: &Env, locks: &Locks) -> Result<bool
     }
 }
 
-/// Whether what goes back to the test holds what the loop began with, and what breaks what is held behind
-/// the test.
+/// Whether what goes back to the test holds what the loop began with, and what breaks what is held
+/// behind the test.
 pub fn holds_back(
     end: &Env,
     exits: &Exits,
@@ -166,8 +166,8 @@ pub fn holds_back(
     )
 }
 
-/// What stands behind a loop: what stood behind its failed test and at its Breaks, the exits of its body
-/// that leave the method, and its cost.
+/// What stands behind a loop: what stood behind its failed test and at its Breaks, the exits of its
+/// body that leave the method, and its cost.
 pub fn past(
     outer: bool,
     tested: Env,

@@ -15,7 +15,8 @@ use Rattle.aml_methods.specs.declared.gather.Place.{Place}
 
 -- what the names of a body mean
 abbrev pub links_of : Place → ℕ → Link
-links_of p = link_with_owns (shown p.namespace.now).entries p.method.0 p.bytes.now (owns_seen p.owns.now)
+links_of p =
+    link_with_owns (shown p.namespace.now).entries p.method.0 p.bytes.now (owns_seen p.owns.now)
 
 -- a method's number, if there is one
 abbrev pub if_any : Option ObjectId → List ℕ

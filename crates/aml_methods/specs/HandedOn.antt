@@ -12,4 +12,5 @@ tree_at trees k = unwrap_or (slice_get trees k) None
 
 -- those under a number are the statements of its method's body
 pub record AreTrees (ns : Shown) (trees : List (Option (Vec Term Global))) : Type 0 where
-  pub are : (k : ℕ) (body : Vec Term Global) → tree_at trees k ≡ Some body → AreStatementsOf ns k (map view body.items)
+  pub are : (k : ℕ) (body : Vec Term Global) → tree_at trees k ≡ Some body →
+      AreStatementsOf ns k (map view body.items)

@@ -41,8 +41,8 @@ fn all_known(alloc: Global, kinds: &[ArgumentKind], width: Width) -> Result<Vec<
     Ok(args)
 }
 
-/// What is known of the arguments of the method with a number, which has so many, by what signatures tell
-/// of its printed path.
+/// What is known of the arguments of the method with a number, which has so many, by what
+/// signatures tell of its printed path.
 ///
 /// # Errors
 ///

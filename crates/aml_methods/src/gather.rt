@@ -48,8 +48,8 @@ impl Place<'_> {
     }
 }
 
-/// Adds the methods that terms call, in order of their names' places, and the shapes of literals of data
-/// that stand in no other.
+/// Adds the methods that terms call, in order of their names' places, and the shapes of literals of
+/// data that stand in no other.
 #[cycle(gather)]
 fn gather_all(
     alloc: Global,
@@ -111,8 +111,9 @@ fn push(callees: &mut Vec<ObjectId>, callee: Option<ObjectId>) -> Result<(), NoM
     }
 }
 
-/// The methods that a method's body calls; none where it cannot be read. The shapes of its literals of
-/// data are added where the table does not have them, and its statements are handed on where there is room.
+/// The methods that a method's body calls; none where it cannot be read. The shapes of its literals
+/// of data are added where the table does not have them, and its statements are handed on where
+/// there is room.
 fn callees_of(
     alloc: Global,
     namespace: &Namespace<'_>,
@@ -147,9 +148,9 @@ fn callees_of(
     Ok(callees)
 }
 
-/// Each method with those that it calls, in order of definition; none where its body cannot be read. The
-/// shapes of their literals of data are added where the table does not have them. Each body is read, and its
-/// statements are handed on where there is room for them.
+/// Each method with those that it calls, in order of definition; none where its body cannot be
+/// read. The shapes of their literals of data are added where the table does not have them. Each
+/// body is read, and its statements are handed on where there is room for them.
 ///
 /// # Errors
 ///

@@ -11,12 +11,12 @@ use aml_operators::Term;
 use aml_paths::{NoMemory, ObjectId};
 use std::alloc::Global;
 
-/// So many bytes have the bodies at most, together, whose statements are handed on: a tree takes up to 64
-/// bytes of memory for each of them.
+/// So many bytes have the bodies at most, together, whose statements are handed on: a tree takes up
+/// to 64 bytes of memory for each of them.
 const HANDED_ON: usize = 65_536;
 
-/// Statements of methods' bodies that were read, so that they need not be read again: of the first bodies
-/// for which there is room.
+/// Statements of methods' bodies that were read, so that they need not be read again: of the first
+/// bodies for which there is room.
 #[derive(Drop)]
 pub struct Trees {
     /// By the numbers of the methods' objects.

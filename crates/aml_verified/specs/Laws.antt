@@ -22,7 +22,8 @@ use Rattle.aml_verify.specs.declared.verdict.Verdict.TheVariants as verdict
 use Rattle.aml_verify.specs.Said.{verdict_at}
 use Rattle.aml_verify.specs.Verdicts.{IsChecked}
 
--- a method that was accepted, in the setting in which it was judged, where the tables are made of bytes
+-- a method that was accepted, in the setting in which it was judged, where the tables are made of
+-- bytes
 pub record WasAccepted (told : Told) (c : Checked) (all : Judging) (k : ℕ) (callee : Callee)
     (a : Accepted) : Type 0 where
   pub checked : IsChecked told c
@@ -33,8 +34,8 @@ pub record WasAccepted (told : Told) (c : Checked) (all : Judging) (k : ℕ) (ca
   pub said : verdict_at c.verdicts.items k ≡ Some (verdict.Accepted a)
   pub called : all.methods.callee k ≡ Some callee
 
--- arguments, what names hold, and the contents that Sleeps leave fit their kinds; and callers hold no
--- mutex above the least that it takes
+-- arguments, what names hold, and the contents that Sleeps leave fit their kinds; and callers hold
+-- no mutex above the least that it takes
 pub record MayRun (c : Checked) (all : Judging) (a : Accepted) (values : List Value)
     (script : List Event) (s : State) : Type 0 where
   pub arguments : FitAll all.methods.width values (accepted_of (numbered c.shapes) a).args
@@ -42,8 +43,9 @@ pub record MayRun (c : Checked) (all : Judging) (a : Accepted) (values : List Va
   pub answers : FitScript all.methods.width all.kinds script
   pub levels : Allows a.least (held_level s.frame)
 
--- then its evaluation meets no error, with however many steps; and with as many as its verdict says, or
--- more, it is done, with names of their kinds and a value as the verdict says, or a read has no answer
+-- then its evaluation meets no error, with however many steps; and with as many as its verdict
+-- says, or more, it is done, with names of their kinds and a value as the verdict says, or a read
+-- has no answer
 pub record AcceptedMethodsRun : Type 0 where
   pub no_error :
       (told : Told) (c : Checked) (all : Judging) (k : ℕ) (callee : Callee) (a : Accepted) →

@@ -15,7 +15,8 @@ all_fit [] [] = true
 all_fit (v ∷ vs) (k ∷ ks) = fits v k && all_fit vs ks
 all_fit vs ks = false
 
--- an accepted method takes as many values as it has arguments, each of its kind; any other method takes none
+-- an accepted method takes as many values as it has arguments, each of its kind; any other method
+-- takes none
 abbrev pub accepts_by : Option Accepted → List Value → Bool
 accepts_by None values = false
 accepts_by (Some a) values = all_fit values a.args

@@ -38,10 +38,11 @@ callee_by shapes heights components verdicts k j = record {
 abbrev pub kinds_by : List Shape → List (Option Known) → ContentKinds
 kinds_by shapes ks = map (option_map (kind_of (numbered shapes))) ks
 
--- what is known around the body of the method with a number, in a namespace: its table and its bytes,
--- its own names, and of those that are made so far what they hold and which fields they are
+-- what is known around the body of the method with a number, in a namespace: its table and its
+-- bytes, its own names, and of those that are made so far what they hold and which fields they are
 module _ (ns : Shown) (shapes : List Shape) (shared : List (Option Known)) (callee : ℕ → Seen) where
-  abbrev pub around_by : ℕ → ℕ → List ℕ → List OwnName → List (Option Known) → List (Option BufferField) → Around
+  abbrev pub around_by : ℕ → ℕ → List ℕ → List OwnName → List (Option Known) →
+      List (Option BufferField) → Around
   around_by k table bytes owns held fields = record {
     table = table;
     width = bits_of ns.width;
@@ -62,10 +63,12 @@ module _ (ns : Shown) (shapes : List Shape) (shared : List (Option Known)) (call
 abbrev pub around_body : Body → Around
 around_body b = around_by (shown b.names.namespace.now) b.shapes.now b.shared.now
     (callee_by b.shapes.now b.heights.now b.components.now b.verdicts.now b.names.method.0)
-    b.names.method.0 b.table b.names.bytes.now (owns_seen b.names.owns.now) b.held.items b.fields.items
+    b.names.method.0 b.table b.names.bytes.now (owns_seen b.names.owns.now) b.held.items
+    b.fields.items
 
 -- with one own name more, which holds what is of a kind, or is a field; and all else the same
-pub record IsGrown (old new : Body) (kind : Option Known) (field : Option BufferField) : Type 0 where
-  pub same : new ≡ record old { held = new.held; fields = new.fields }
-  pub held : new.held.items ≡ old.held.items ++ kind ∷ []
-  pub fields : new.fields.items ≡ old.fields.items ++ field ∷ []
+pub record IsGrown (old new : Body) (kind : Option Known) (field : Option BufferField) : Type 0
+  where
+    pub same : new ≡ record old { held = new.held; fields = new.fields }
+    pub held : new.held.items ≡ old.held.items ++ kind ∷ []
+    pub fields : new.fields.items ≡ old.fields.items ++ field ∷ []

@@ -1,4 +1,5 @@
--- What a verifier keeps of the bodies that it read, and which methods it marks as those that evaluate integers alone.
+-- What a verifier keeps of the bodies that it read, and which methods it marks as those that
+-- evaluate integers alone.
 use Rattle.std.specs.Prelude.{◌≡◌, ℕ, Bool, List, length, map, take, Option, Some, None, IsSome, true, Vec}
 use Rattle.std.specs.Option.{option_map}
 use Rattle.std.specs.declared.alloc.Global.{Global}
@@ -22,25 +23,30 @@ use Rattle.aml_operators.specs.Tree.{Tree, Trees, trees, view}
 use Rattle.aml_own_names.specs.OwnNames.{own_names}
 
 -- of the bodies of those methods that are judged each that has a tree is kept
-pub record KeepsSoFar (ns : Shown) (order : List ℕ) (judged : ℕ) (kept : List (Option Kept)) : Type 0 where
+pub record KeepsSoFar (ns : Shown) (order : List ℕ) (judged : ℕ) (kept : List (Option Kept)) : Type
+    0 where
   pub room : length kept ≡ length ns.entries
   pub are : AreKept ns kept
   pub all : (k : ℕ) (m : Method) → method_at ns k ≡ Some m → is_among k (take judged order) ≡ true →
       (ts : List Tree) → IsBodyOf ns k m ts → IsSome (kept_at kept k)
 
 -- those methods that are judged are marked as is decided of them, others are not marked
-pub record MarksSoFar (ns : Shown) (told : Told) (order : List ℕ) (judged : ℕ) (only : List Bool) : Type 0 where
+pub record MarksSoFar (ns : Shown) (told : Told) (order : List ℕ) (judged : ℕ)
+    (only : List Bool) : Type 0 where
   pub room : length only ≡ length ns.entries
-  pub are : (all : Judging) → IsJudging ns told all → (known : ℕ → Option Accepted) → AreAccepted all known →
+  pub are : (all : Judging) → IsJudging ns told all → (known : ℕ → Option Accepted) →
+      AreAccepted all known →
       AreDecided all known (λ k. is_among k (take judged order)) (marked only)
 
 -- marked are those methods that evaluate integers alone
 abbrev pub AreMarked : Shown → Told → List Bool → Type 0
 AreMarked ns told only =
-    (all : Judging) → IsJudging ns told all → (known : ℕ → Option Accepted) → AreAccepted all known →
+    (all : Judging) → IsJudging ns told all → (known : ℕ → Option Accepted) →
+    AreAccepted all known →
     AreIntegerOnly all known (marked only)
 
--- the table of a method, the place there of its body's first byte, and the table's bytes up to the body's end
+-- the table of a method, the place there of its body's first byte, and the table's bytes up to the
+-- body's end
 abbrev pub place_of : Shown → Method → ℕ × ℕ × List ℕ
 place_of ns m = (m.table, m.body.at, body_bytes ns m)
 
@@ -54,7 +60,10 @@ abbrev pub Means : Shown → ℕ → ℕ → Link → Type 0
 Means ns k at l = (m : Method) → method_at ns k ≡ Some m → (ts : List Tree) → IsBodyOf ns k m ts →
     l ≡ link_with_owns ns.entries k (body_bytes ns m) (own_names (body_bytes ns m) ts) at
 
--- the statements that are handed on under a number are those of its method's body, by whatever tells what these are
+-- the statements that are handed on under a number are those of its method's body, by whatever
+-- tells what these are
 pub record AreHanded (ns : Shown) (trees_on : List (Option (Vec Term Global))) : Type 0 where
-  pub are : (k : ℕ) (body : Vec Term Global) → tree_at trees_on k ≡ Some body → (m : Method) → method_at ns k ≡ Some m →
-      (bodies : ℕ → Option Trees) → AreBodies ns bodies → bodies k ≡ Some (trees (map view body.items))
+  pub are : (k : ℕ) (body : Vec Term Global) → tree_at trees_on k ≡ Some body → (m : Method) →
+      method_at ns k ≡ Some m →
+      (bodies : ℕ → Option Trees) → AreBodies ns bodies →
+      bodies k ≡ Some (trees (map view body.items))

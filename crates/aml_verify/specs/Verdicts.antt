@@ -50,8 +50,8 @@ AreRight ns told shapes verdicts =
     (v : Verdict) → verdict_at verdicts k ≡ Some v →
     Says ns shapes k m v (verdict_by all known k (all.methods.callee k))
 
--- verdicts on all methods of a namespace, and on nothing else; of their bodies those are kept that have a tree, and those methods are
--- marked that evaluate integers alone
+-- verdicts on all methods of a namespace, and on nothing else; of their bodies those are kept that
+-- have a tree, and those methods are marked that evaluate integers alone
 pub record IsChecked (told : Told) (c : Checked) : Type 0 where
   pub right : AreRight (shown c.namespace.now) told (numbered c.shapes) c.verdicts.items
   pub all : (k : ℕ) (m : Method) → method_at (shown c.namespace.now) k ≡ Some m →
@@ -82,10 +82,12 @@ abbrev pub order_of : Verifier → List ℕ
 order_of v = numbers v.order.items
 
 pub record IsVerifier (v : Verifier) : Type 0 where
-  pub at_work : IsAtWork (shown v.read.namespace.now) (kinds_told v.signatures.now) v.shapes v.shared.items
+  pub at_work : IsAtWork (shown v.read.namespace.now) (kinds_told v.signatures.now) v.shapes
+      v.shared.items
       v.heights v.components (order_of v) v.judged v.verdicts.items
   pub keeps : KeepsSoFar (shown v.read.namespace.now) (order_of v) v.judged v.kept.items
-  pub marks : MarksSoFar (shown v.read.namespace.now) (kinds_told v.signatures.now) (order_of v) v.judged v.integers.items
+  pub marks : MarksSoFar (shown v.read.namespace.now) (kinds_told v.signatures.now) (order_of v)
+      v.judged v.integers.items
 
 -- another verifier of the same methods in the same order, whose arguments are of the same kinds
 pub record IsOfSame (old new : Verifier) : Type 0 where
@@ -109,7 +111,8 @@ SaysNext v k m said =
     Says (shown v.read.namespace.now) (numbered v.shapes) k m said
     (verdict_by all known k (all.methods.callee k))
 
--- what is said of a number that is next: what is right of its method, or nothing where no method has it
+-- what is said of a number that is next: what is right of its method, or nothing where no method
+-- has it
 abbrev pub SaidOf : Verifier → ℕ → Option Verdict → Type 0
 SaidOf v k (Some said) =
     (m : Method) × (method_at (shown v.read.namespace.now) k ≡ Some m) × SaysNext v k m said
@@ -122,7 +125,8 @@ MarksNext v k mark =
     (known : ℕ → Option judged.Accepted) → AreAccepted all known →
     mark ≡ decided all known (marked v.integers.items) k
 
--- what is found of a number that is next: what is said of its method, what is kept of its body, where that has a tree, and its mark
+-- what is found of a number that is next: what is said of its method, what is kept of its body,
+-- where that has a tree, and its mark
 pub record FoundOf (v : Verifier) (k : ℕ) (f : Found) : Type 0 where
   pub said : SaidOf v k f.verdict
   pub kept : (one : Kept) → f.kept ≡ Some one → IsKept (shown v.read.namespace.now) k one

@@ -73,8 +73,8 @@ impl<'a> Checked<'a> {
         }
     }
 
-    /// What is kept of the body of the method with a number, to evaluate it from its bytes; None where no method has it, or its body
-    /// cannot be read.
+    /// What is kept of the body of the method with a number, to evaluate it from its bytes; None
+    /// where no method has it, or its body cannot be read.
     #[must_use]
     pub fn kept(&self, method: ObjectId) -> Option<&Kept>
         ensures { option_map (λ k. k.now) result ≡ kept_at self.now.kept.items method.0 }
@@ -85,7 +85,8 @@ impl<'a> Checked<'a> {
         }
     }
 
-    /// What is kept of the bodies of all methods, by their numbers, as an evaluation from the bytes takes it.
+    /// What is kept of the bodies of all methods, by their numbers, as an evaluation from the bytes
+    /// takes it.
     #[must_use]
     pub fn kept_bodies(&self) -> &[Option<Kept>]
         ensures { result.now ≡ self.now.kept.items }
@@ -93,8 +94,8 @@ impl<'a> Checked<'a> {
         &self.kept
     }
 
-    /// What the name at a place means in the body of the method with a number, by the place of its first byte; None where no name is
-    /// kept there. It takes no memory.
+    /// What the name at a place means in the body of the method with a number, by the place of its
+    /// first byte; None where no name is kept there. It takes no memory.
     #[must_use]
     pub fn link(&self, method: ObjectId, at: usize) -> Option<Link>
         ensures means { (told : Told) → IsChecked told self.now →
@@ -108,7 +109,8 @@ impl<'a> Checked<'a> {
         }
     }
 
-    /// Where the body of an accepted method stands: its table, the place there of its first byte, and the table's bytes up to its end.
+    /// Where the body of an accepted method stands: its table, the place there of its first byte,
+    /// and the table's bytes up to its end.
     #[must_use]
     pub fn body(&self, method: ObjectId) -> Option<(usize, usize, &'a [u8])>
         ensures { option_map (λ b. (b.0, b.1, b.2.now)) result
@@ -121,7 +123,8 @@ impl<'a> Checked<'a> {
         Some((found.table, found.body.at, bytes))
     }
 
-    /// Whether the method with a number is accepted and takes these values: as many as it has arguments, each of its kind.
+    /// Whether the method with a number is accepted and takes these values: as many as it has
+    /// arguments, each of its kind.
     #[must_use]
     pub fn accepts(&self, method: ObjectId, values: &[Value]) -> bool
         ensures takes { result
@@ -135,7 +138,8 @@ impl<'a> Checked<'a> {
 
     /// The same by the kinds that its verdict has.
     fn takes(&self, method: ObjectId, values: &[Value]) -> bool
-        ensures { result ≡ takes (verdict_at self.now.verdicts.items method.0) (map view values.now) }
+        ensures { result ≡
+            takes (verdict_at self.now.verdicts.items method.0) (map view values.now) }
     {
         match self.verdict(method) {
             Some(Verdict::Accepted(accepted)) => are_of(&accepted.args, values),
@@ -165,7 +169,8 @@ impl<'a> Checked<'a> {
         names.belong(self.namespace)
     }
 
-    /// The least level of a mutex that an accepted method takes, or one that it calls, if they take any.
+    /// The least level of a mutex that an accepted method takes, or one that it calls, if they take
+    /// any.
     #[must_use]
     pub fn least_level(&self, method: ObjectId) -> Option<u8>
         ensures { result ≡ option_and_then (λ a. a.least)

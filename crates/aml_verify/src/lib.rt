@@ -1,10 +1,10 @@
 //! The verifier: a verdict on each method of a namespace before any of them runs (the rules are the
 //! project's own; `docs/VERDICTS.md` tells them).
 //!
-//! Rooms: `verifier` judges one body at a time, each behind those that it calls; `read` is what it read before,
-//! `body` has what is known around a body, `named` what its names mean, `verdict` what is said of a method,
-//! `checked` what is said of all and what is kept of their bodies, `accepts` whether values are of the kinds of
-//! arguments.
+//! Rooms: `verifier` judges one body at a time, each behind those that it calls; `read` is what it
+//! read before, `body` has what is known around a body, `named` what its names mean, `verdict` what
+//! is said of a method, `checked` what is said of all and what is kept of their bodies, `accepts`
+//! whether values are of the kinds of arguments.
 #![tactic(auto)]
 
 mod accepts;

@@ -25,8 +25,8 @@ pub(crate) struct Named<'n, 'b> {
 }
 
 impl Named<'_, '_> {
-    /// What the name at a place means. A place that is not kept is looked up: so nothing rests on all being
-    /// kept.
+    /// What the name at a place means. A place that is not kept is looked up: so nothing rests on
+    /// all being kept.
     pub fn link(&self, at: usize) -> Link
         ensures { result ≡ link_with_owns (shown self.now.namespace.now).entries self.now.method.0
             self.now.bytes.now (owns_seen self.now.owns.now) at }

@@ -7,8 +7,8 @@ ghost use Rattle.aml_verify.specs.Keeping.{AreHanded};
 use aml_methods::Trees;
 use aml_namespace::Namespace;
 
-/// A namespace, and the statements of those of its methods' bodies that were read for what they call and
-/// for which there was room.
+/// A namespace, and the statements of those of its methods' bodies that were read for what they
+/// call and for which there was room.
 #[derive(Drop)]
 pub struct Read<'a> {
     pub(crate) namespace: &'a Namespace<'a>,

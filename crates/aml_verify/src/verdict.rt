@@ -16,7 +16,8 @@ use aml_tree::Refusal as Unread;
 pub enum Verdict {
     /// It is accepted: it meets no AML error, and takes at most so many steps.
     Accepted(Accepted),
-    /// It is refused, by the first cause that is met, with what was found there and what was wanted.
+    /// It is refused, by the first cause that is met, with what was found there and what was
+    /// wanted.
     Refused(Refusal, Finding),
     /// Its body, in the table with this number, cannot be read.
     Unreadable { table: usize, refusal: Unread },

@@ -149,8 +149,9 @@ fn mark(marks: &mut Vec<bool>, id: ObjectId, one: bool)
 }
 
 impl<'a, 's> Verifier<'a, 's> {
-    /// A verifier of the methods of a namespace, whose arguments are of the kinds that signatures tell. Each body is read
-    /// once for what it calls, and the statements of the first are handed on to `step`.
+    /// A verifier of the methods of a namespace, whose arguments are of the kinds that signatures
+    /// tell. Each body is read once for what it calls, and the statements of the first are handed
+    /// on to `step`.
     ///
     /// # Errors
     ///
@@ -206,7 +207,8 @@ impl<'a, 's> Verifier<'a, 's> {
     ///
     /// # Errors
     ///
-    /// `NoMemory`, where memory is wanted: then nothing has changed, and the method may be tried again.
+    /// `NoMemory`, where memory is wanted: then nothing has changed, and the method may be tried
+    /// again.
     pub fn step(&mut self) -> Result<Option<ObjectId>, NoMemory>
         ensures verifier { IsVerifier self.old → IsVerifier self.new }
         ensures same { IsOfSame self.old self.new }
@@ -281,8 +283,8 @@ impl<'a, 's> Verifier<'a, 's> {
         })
     }
 
-    /// Its verdict, and whether it is accepted and evaluates integers alone. What its names mean is taken
-    /// from what is kept of its body.
+    /// Its verdict, and whether it is accepted and evaluates integers alone. What its names mean is
+    /// taken from what is kept of its body.
     fn judge_with(
         &self,
         id: ObjectId,

@@ -115,9 +115,9 @@ fn result_of(counts: bool, returned: Option<Known>) -> Yield
     }
 }
 
-/// Judges a method's body, whose arguments are of these kinds: what it is, where it is accepted, or the
-/// first cause with its place. Whether each chain of calls from it is short, of at most 64 methods, and where
-/// its opcode stands is told. V11, at the opcode, comes last.
+/// Judges a method's body, whose arguments are of these kinds: what it is, where it is accepted, or
+/// the first cause with its place. Whether each chain of calls from it is short, of at most 64
+/// methods, and where its opcode stands is told. V11, at the opcode, comes last.
 pub fn judge<A: Around>(
     alloc: Global,
     here: &mut A,

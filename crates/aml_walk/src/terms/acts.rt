@@ -42,8 +42,8 @@ pub fn statement<A: Around>(
     }
 }
 
-/// A term's value, where one is wanted. V2 at what gives none as an operand, V10 where it need not give
-/// one.
+/// A term's value, where one is wanted. V2 at what gives none as an operand, V10 where it need not
+/// give one.
 #[cycle(terms)]
 pub(super) fn value<A: Around>(
     alloc: Global,
@@ -63,8 +63,8 @@ pub(super) fn value<A: Around>(
     Ok(kind)
 }
 
-/// What a term is behind its step, by its operator and its parts; whether its value is wanted matters to a
-/// call alone.
+/// What a term is behind its step, by its operator and its parts; whether its value is wanted
+/// matters to a call alone.
 #[cycle(terms)]
 fn act<A: Around>(
     alloc: Global,

@@ -69,7 +69,8 @@ fn otherwise<A: Around>(
     progress: &mut Progress,
 ) -> Result<(), Stop>
     ensures { Judges (A.numbered here.now) (λ lists u. u)
-        (judged_otherwise (A.around here.now) (views statements.now)) progress.old progress.new result }
+        (judged_otherwise (A.around here.now) (views statements.now)) progress.old progress.new
+        result }
 {
     for term in statements {
         if is_else(term.op) {
@@ -98,8 +99,8 @@ fn test<A: Around>(
     Ok(narrowed(here, term, progress.env))
 }
 
-/// Statements under a test, and those of an Else (19.6, If). V18 at the operator where both ends count and
-/// hold different mutexes.
+/// Statements under a test, and those of an Else (19.6, If). V18 at the operator where both ends
+/// count and hold different mutexes.
 #[cycle(terms)]
 pub(super) fn branch<A: Around>(
     alloc: Global,
@@ -180,8 +181,8 @@ fn turn<A: Around>(
     })
 }
 
-/// A loop that ends in its first turn, from its test. V18 where a Break holds other mutexes than the test
-/// leaves.
+/// A loop that ends in its first turn, from its test. V18 where a Break holds other mutexes than
+/// the test leaves.
 #[cycle(terms)]
 fn once<A: Around>(
     alloc: Global,
@@ -205,8 +206,8 @@ fn once<A: Around>(
     Ok(())
 }
 
-/// A loop that makes so many turns at most. V3 at one whose end or a Continue need not be within what it
-/// began with, and then V18 where they hold other mutexes.
+/// A loop that makes so many turns at most. V3 at one whose end or a Continue need not be within
+/// what it began with, and then V18 where they hold other mutexes.
 #[cycle(terms)]
 fn often<A: Around>(
     alloc: Global,
@@ -240,8 +241,8 @@ fn often<A: Around>(
     Ok(())
 }
 
-/// A loop that turns as often as a local falls from its greatest. Where that is no integer's, the test
-/// tells.
+/// A loop that turns as often as a local falls from its greatest. Where that is no integer's, the
+/// test tells.
 #[cycle(terms)]
 fn falling<A: Around>(
     alloc: Global,
@@ -253,7 +254,8 @@ fn falling<A: Around>(
     body: &[Term],
     progress: &mut Progress,
 ) -> Result<(), Stop>
-    ensures { Judges (A.numbered here.now) (λ lists u. u) (falling_rule (A.around here.now) local limit at
+    ensures { Judges (A.numbered here.now) (λ lists u. u)
+        (falling_rule (A.around here.now) local limit at
         (view condition.now) (views body.now)) progress.old progress.new result }
 {
     if let Some(Known::Int(greatest)) = kind_at(&progress.env.locals, local) {

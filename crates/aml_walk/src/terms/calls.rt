@@ -23,8 +23,8 @@ use aml_namespace::Link;
 use aml_operators::Term;
 use std::alloc::Global;
 
-/// A name with its arguments (20.2.5, MethodInvocation): a method is called behind them; what takes none
-/// is read.
+/// A name with its arguments (20.2.5, MethodInvocation): a method is called behind them; what takes
+/// none is read.
 #[cycle(terms)]
 pub(super) fn invoked<A: Around>(
     alloc: Global,
@@ -90,8 +90,8 @@ fn values<A: Around>(
     Ok(kinds)
 }
 
-/// An object notified with an integer (19.6, Notify). V3 at what may not be notified, and at what is no
-/// integer.
+/// An object notified with an integer (19.6, Notify). V3 at what may not be notified, and at what
+/// is no integer.
 #[cycle(terms)]
 pub(super) fn notifies<A: Around>(
     alloc: Global,

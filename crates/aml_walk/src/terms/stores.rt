@@ -42,8 +42,8 @@ pub(super) fn stored<A: Around>(
     Ok(Yield::Always(given))
 }
 
-/// What is of a kind is stored into a target, whose own operands come first; a byte of a name's buffer is
-/// written behind its index (19.6, Index).
+/// What is of a kind is stored into a target, whose own operands come first; a byte of a name's
+/// buffer is written behind its index (19.6, Index).
 #[cycle(terms)]
 pub(super) fn store<A: Around>(
     alloc: Global,
@@ -61,8 +61,8 @@ pub(super) fn store<A: Around>(
     }
 }
 
-/// A byte of a name's buffer is written. V2 at an Index that has a target of its own or is of what is no
-/// name; V3, V4, V7 as its rule says.
+/// A byte of a name's buffer is written. V2 at an Index that has a target of its own or is of what
+/// is no name; V3, V4, V7 as its rule says.
 #[cycle(terms)]
 fn store_byte<A: Around>(
     alloc: Global,
@@ -72,7 +72,8 @@ fn store_byte<A: Around>(
     kind: Known,
     progress: &mut Progress,
 ) -> Result<(), Stop>
-    ensures { Judges (A.numbered here.now) (λ lists u. u) (judged_stored (A.around here.now) does.Index
+    ensures { Judges (A.numbered here.now) (λ lists u. u)
+        (judged_stored (A.around here.now) does.Index
         at (views parts.now) (kind_of (A.numbered here.now) kind)) progress.old progress.new result }
 {
     let [of, index, own] = parts else {
@@ -115,8 +116,8 @@ pub(super) fn dereferenced<A: Around>(
     }
 }
 
-/// The byte or the element at an index. V2 at an Index that has a target of its own; V3, V4, V7 as its rule
-/// says.
+/// The byte or the element at an index. V2 at an Index that has a target of its own; V3, V4, V7 as
+/// its rule says.
 #[cycle(terms)]
 fn led<A: Around>(
     alloc: Global,
