@@ -1,12 +1,12 @@
 #!/usr/bin/env python3
-"""Resource templates as iasl compiles and disassembles them, as rows of a test (apt-get install acpica-tools).
+"""Resource templates as iasl compiles and disassembles them, as rows of the program (apt-get install acpica-tools).
 
     bench/resources.py          says whether the rows are what iasl gives
     bench/resources.py --write  writes them
 
 The templates of bench/resources.asl are compiled, and the table is disassembled with `iasl -d`. What that prints of each template is
-put into acpicheck's form, line by line; with the template's bytes it is a row of crates/acpi_resources_tests/src/compiled.rt. So the
-numbers, the modes and the order of items that the test wants are iasl's. Of descriptors that acpicheck does not tell apart iasl
+put into acpicheck's form, line by line; with the template's bytes it is a row of crates/acpicheck/rows/compiled.rows. So the numbers,
+the modes and the order of items that the rows want are iasl's. Of descriptors that acpicheck does not tell apart iasl
 prints more; their rows have the tag and the length that the ACPI specification gives them.
 """
 import pathlib
@@ -16,25 +16,13 @@ import sys
 import tempfile
 
 HERE = pathlib.Path(__file__).resolve().parent
-ROWS = HERE.parent / 'crates/acpi_resources_tests/src/compiled.rt'
-HEAD = '''// Resource templates as iasl 20200925 compiles them, with what `iasl -d` says of them in the form of
-// acpicheck's lines. bench/resources.py makes these rows from bench/resources.asl.
+ROWS = HERE.parent / 'crates/acpicheck/rows/compiled.rows'
+HEAD = '''# Resource templates as iasl 20200925 compiles them, with what `iasl -d` says of them in the form of acpicheck's lines.
+# bench/resources.py makes these rows from bench/resources.asl.
 
-use crate::lines::told_again;
-use std::test::Fail;
-
-#[test]
-fn rows_of_compiled_templates(rt: HostRuntime) -> Result<(), Fail> {
-    let rows: &[(&[u8], &str)] = &[
+growths
 '''
-FOOT = '''    ];
-    for (bytes, wanted) in rows {
-        let text = told_again(rt.alloc(), bytes)?;
-        assert_eq!(rt; text.as_slice(), wanted.as_bytes());
-    }
-    Ok(())
-}
-'''
+WIDTH = 118
 MODES = {'Edge': 'edge', 'Level': 'level', 'ActiveHigh': 'high', 'ActiveLow': 'low', 'Shared': 'shared', 'Exclusive': 'exclusive'}
 SPACES = {'Memory': 0, 'IO': 1, 'BusNumber': 2}
 # descriptors with no line of their own, by tag and length (ACPI 6.5, tables 6.27 and 6.40)
@@ -127,17 +115,20 @@ def rows(folder):
         yield template(table, name), lines
 
 
+def row(data, lines):
+    """A row of resources, over as many lines as it takes."""
+    out = ['resources']
+    for word in f'{data.hex(" ").upper()} | {"; ".join(lines)}'.split(' '):
+        if len(out[-1]) + 1 + len(word) > WIDTH:
+            out[-1] += ' \\'
+            out.append(f'    {word}')
+        else:
+            out[-1] += f' {word}'
+    return ''.join(f'{line}\n' for line in out)
+
+
 def written(found):
-    out = HEAD
-    for data, lines in found:
-        text = ''.join(f'{each}\\n\\\n             ' for each in lines).removesuffix('\\\n             ')
-        out += f'        (\n            &[{", ".join(map(str, data))}],\n            "{text}",\n        ),\n'
-    return out + FOOT
-
-
-def laid_out(text):
-    """The text without white space and closing commas, which `rt fmt` sets."""
-    return re.sub(r',(?=[\])])', '', re.sub(r'\s+', '', text))
+    return HEAD + ''.join(f'\n{row(data, lines)}' for data, lines in found)
 
 
 def main():
@@ -145,7 +136,7 @@ def main():
         found = list(rows(pathlib.Path(folder)))
     if sys.argv[1:] == ['--write']:
         ROWS.write_text(written(found))
-    elif laid_out(ROWS.read_text()) != laid_out(written(found)):
+    elif ROWS.read_text() != written(found):
         sys.exit(f'{ROWS.name} is not what iasl gives')
     items = sum(len(lines) for _, lines in found)
     print(f'{len(found)} templates, {items} items')

@@ -1,5 +1,5 @@
-//! Tests of tables and of the namespace, over the public calls of their crates alone. They stand in a
-//! crate of their own, since a crate with tests is proved twice.
+//! Tests of tables, of the namespace, of resource descriptors and of routes, over the public calls of
+//! their crates alone. They stand in a crate of their own, since a crate with tests is proved twice.
 #![tactic(auto)]
 
 #[cfg(test)]
@@ -9,4 +9,8 @@ mod namespace;
 #[cfg(test)]
 mod paths;
 #[cfg(test)]
+mod resources;
+#[cfg(test)]
 mod tables;
+#[cfg(test)]
+mod writers;

@@ -35,6 +35,41 @@ fn found(ns: &Namespace<'_>, scope: Scope, name: &[u8]) -> Option<ObjectId> {
     }
 }
 
+/// A scope, a name, and the number of the object that it names there.
+type LookUp<'a> = (Scope, &'a [u8], Option<usize>);
+
+/// The first row whose name names another object, by its number.
+fn misnamed(ns: &Namespace<'_>, rows: &[LookUp<'_>]) -> Option<usize> {
+    for (number, (scope, name, wanted)) in rows.iter().enumerate() {
+        if found(ns, *scope, name).map(|id| id.0) != *wanted {
+            return Some(number);
+        }
+    }
+    None
+}
+
+/// The same in the namespace of a DSDT, and of an SSDT, if there is one, with such modules.
+fn misnamed_in(
+    alloc: Global,
+    modules: (&[u8], &[u8]),
+    rows: &[LookUp<'_>],
+) -> Result<Option<usize>, LoadFault> {
+    let first = dsdt_of(alloc, modules.0).map_err(|_| LoadFault::NoMemory)?;
+    let second = ssdt_of(alloc, modules.1).map_err(|_| LoadFault::NoMemory)?;
+    let tables: &[&[u8]] = &[&first, &second];
+    let count = if modules.1.is_empty() { 1 } else { 2 };
+    let ns = Namespace::load(alloc, &tables[..count], HOST)?;
+    Ok(misnamed(&ns, rows))
+}
+
+/// Whether this is the path's own object, under its number.
+fn is_own(ns: &Namespace<'_>, number: usize, name: &[u8], object: Object) -> bool {
+    let id = ObjectId(number);
+    found(ns, Scope::Root, name) == Some(id)
+        && ns.object(id) == Some(object)
+        && ns.entry(id) == Some(Entry::Own(object))
+}
+
 /// Whether the path with this number has these segments.
 fn has_path(
     alloc: Global,
@@ -96,17 +131,9 @@ const PREDEFINED: &[([u8; 4], Object)] = &[
 fn predefined_names(rt: HostRuntime) -> Result<(), Fail> {
     let ns = Namespace::load(rt.alloc(), &[&DSDT], HOST)?;
     for (number, (bytes, object)) in PREDEFINED.iter().enumerate() {
-        let id = ObjectId(number);
-        let is_there = has_path(rt.alloc(), &ns, id, &[NameSeg { bytes: *bytes }])?;
-        assert_eq!(rt;
-            (
-                is_there,
-                found(&ns, Scope::Root, bytes),
-                ns.object(id),
-                ns.entry(id)
-            ),
-            (true, Some(id), Some(*object), Some(Entry::Own(*object)))
-        );
+        let segment = NameSeg { bytes: *bytes };
+        let is_there = has_path(rt.alloc(), &ns, ObjectId(number), &[segment])?;
+        assert!(rt; is_there && is_own(&ns, number, bytes, *object), "{number}");
     }
     Ok(())
 }

@@ -98,19 +98,20 @@ fn right_paths(alloc: Global, paths: &Paths) -> Result<usize, AllocError> {
     Ok(right)
 }
 
+/// The paths whose chains are laid anew, and a copy from before.
+fn settled(alloc: Global) -> Result<(Paths, Paths), AllocError> {
+    let mut paths = paths_of(alloc)?;
+    let copied = paths.copy(alloc)?;
+    paths.settle_chains()?;
+    Ok((paths, copied))
+}
+
 #[test]
 fn paths_and_their_segments(rt: HostRuntime) -> Result<(), Fail> {
-    let mut paths = paths_of(rt.alloc())?;
-    let copied = paths.copy(rt.alloc())?;
-    paths.settle_chains()?;
-    assert_eq!(rt;
-        [
-            paths.len(),
-            right_paths(rt.alloc(), &paths)?,
-            right_paths(rt.alloc(), &copied)?
-        ],
-        [6, 6, 6]
-    );
+    let (paths, copied) = settled(rt.alloc())?;
+    let right = right_paths(rt.alloc(), &paths)?;
+    let copies = right_paths(rt.alloc(), &copied)?;
+    assert_eq!(rt; [paths.len(), right, copies], [6, 6, 6]);
     Ok(())
 }
 

@@ -1,6 +1,6 @@
 // What each kind of definition makes.
 
-use super::{dsdt_of, found};
+use super::{dsdt_of, is_own};
 use acpi_samples::HOST;
 use aml_namespace::{
     AccessType, Content, CreatedField, CreatedFieldSize, DataName, Entry, Field, FieldRule, Link,
@@ -235,11 +235,7 @@ fn each_kind(rt: HostRuntime) -> Result<(), Fail> {
     let table = dsdt_of(rt.alloc(), KINDS)?;
     let ns = Namespace::load(rt.alloc(), &[&table], HOST)?;
     for (number, name, object) in OBJECTS {
-        let id = ObjectId(*number);
-        assert_eq!(rt;
-            (found(&ns, Scope::Root, name), ns.object(id), ns.entry(id)),
-            (Some(id), Some(*object), Some(Entry::Own(*object)))
-        );
+        assert!(rt; is_own(&ns, *number, name, *object), "{number}");
     }
     let alias = ObjectId(27);
     let entry = Entry::Alias(ObjectId(14));

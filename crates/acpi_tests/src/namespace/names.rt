@@ -1,6 +1,6 @@
 // What names name, and how many arguments they take.
 
-use super::{dsdt_of, found, ssdt_of};
+use super::{LookUp, dsdt_of, misnamed_in, ssdt_of};
 use acpi_samples::HOST;
 use aml_namespace::Namespace;
 use aml_paths::{ObjectId, Scope};
@@ -21,7 +21,7 @@ const PCI0: Scope = Scope::At(ObjectId(10));
 const BAR: Scope = Scope::At(ObjectId(11));
 
 /// A scope, a name, and the number of the object that it names there.
-const LOOK_UPS: &[(Scope, &[u8], Option<usize>)] = &[
+const LOOK_UPS: &[LookUp<'static>] = &[
     // A lone segment is searched upward, however it is spelled.
     (Scope::Root, b"FOO_", Some(9)),
     (FOO, b"FOO_", Some(9)),
@@ -54,12 +54,7 @@ const LOOK_UPS: &[(Scope, &[u8], Option<usize>)] = &[
 
 #[test]
 fn look_ups(rt: HostRuntime) -> Result<(), Fail> {
-    let table = dsdt_of(rt.alloc(), NAMES)?;
-    let ns = Namespace::load(rt.alloc(), &[&table], HOST)?;
-    for (scope, name, wanted) in LOOK_UPS {
-        let number = found(&ns, *scope, name).map(|id| id.0);
-        assert_eq!(rt; number, *wanted, "{scope:?} {name:?}");
-    }
+    assert_eq!(rt; misnamed_in(rt.alloc(), (NAMES, b""), LOOK_UPS)?, None);
     Ok(())
 }
 
@@ -81,7 +76,7 @@ const EEE0: Scope = Scope::At(ObjectId(16));
 const FFF0: Scope = Scope::At(ObjectId(17));
 
 /// The nearest of several paths that end alike, and of none.
-const NEAREST: &[(Scope, &[u8], Option<usize>)] = &[
+const NEAREST: &[LookUp<'static>] = &[
     (Scope::Root, b"SAME", Some(9)),
     (AAA0, b"SAME", Some(11)),
     (CCC0, b"SAME", Some(11)),
@@ -99,92 +94,85 @@ const NEAREST: &[(Scope, &[u8], Option<usize>)] = &[
 
 #[test]
 fn nearest_of_several(rt: HostRuntime) -> Result<(), Fail> {
-    let table = dsdt_of(rt.alloc(), SAME_NAMES)?;
-    let ns = Namespace::load(rt.alloc(), &[&table], HOST)?;
-    for (scope, name, wanted) in NEAREST {
-        let number = found(&ns, *scope, name).map(|id| id.0);
-        assert_eq!(rt; number, *wanted, "{scope:?} {name:?}");
-    }
+    assert_eq!(rt; misnamed_in(rt.alloc(), (SAME_NAMES, b""), NEAREST)?, None);
     Ok(())
 }
 
 /// An operator and its contents, of at most 3,999 bytes, behind their length.
 fn package(alloc: Global, op: &[u8], contents: &[u8]) -> Result<Vec<u8>, AllocError> {
     let length = contents.len() % 4_000 + 2;
-    let mut package = op.to_vec(alloc)?;
-    package.push(0x40 + (length % 16) as u8)?;
-    package.push((length / 16) as u8)?;
-    package.extend_from_slice(contents)?;
-    Ok(package)
+    let head = [0x40 + (length % 16) as u8, (length / 16) as u8];
+    [op, head.as_slice(), contents].concat(alloc)
 }
 
 /// Definitions in the last of so many devices DEEP, each within the one before.
 fn deep_scope(alloc: Global, depth: u8, inside: &[u8]) -> Result<Vec<u8>, AllocError> {
-    let mut contents = [0x5c, 0x2f, depth].to_vec(alloc)?;
-    for _ in 0..depth {
-        contents.extend_from_slice(b"DEEP")?;
-    }
-    contents.extend_from_slice(inside)?;
+    let path = b"DEEP".repeat(alloc, usize::from(depth))?;
+    let head = [0x5c, 0x2f, depth];
+    let contents = [head.as_slice(), path.as_slice(), inside].concat(alloc)?;
     package(alloc, b"\x10", &contents)
 }
+
+/// Name (SAME, One), Device (BESD) { Name (SAME, One) }, Device (DEEP) {}.
+const FIRST_PAIR: &[u8] = b"\x08SAME\x01\x5b\x82\x4c\x00BESD\x08SAME\x01\x5b\x82\x46\x00DEEP";
+
+/// The devices alone.
+const PAIR: &[u8] = b"\x5b\x82\x4c\x00BESD\x08SAME\x01\x5b\x82\x46\x00DEEP";
 
 /// Name (SAME, One), so many devices DEEP, each within the one before and behind a device BESD that has
 /// a SAME of its own, and Alias (SAME, LAST) within the last. Each BESD is made before the DEEP beside
 /// it, and so goes on the chain of the DEEP in which both are.
 fn devices_beside(alloc: Global, count: u8) -> Result<Vec<u8>, AllocError> {
-    let mut pair = package(alloc, b"\x5b\x82", b"BESD\x08SAME\x01")?;
-    pair.extend_from_slice(&package(alloc, b"\x5b\x82", b"DEEP")?)?;
-    let mut module = b"\x08SAME\x01".to_vec(alloc)?;
-    module.extend_from_slice(&pair)?;
-    for depth in 1..count {
-        module.extend_from_slice(&deep_scope(alloc, depth, &pair)?)?;
+    let mut module = FIRST_PAIR.to_vec(alloc)?;
+    for depth in 1..=count {
+        let inside = if depth < count { PAIR } else { b"\x06SAMELAST" };
+        module.extend_from_slice(&deep_scope(alloc, depth, inside)?)?;
     }
-    module.extend_from_slice(&deep_scope(alloc, count, b"\x06SAMELAST")?)?;
     Ok(module)
 }
 
-/// How many devices, and what names name there: the number of a scope, a name, and a number. The first
+/// How many devices, and what names name there. The first
 /// BESD has 10, the SAME within 11, DEEP 12, the BESD within that 13 and so on.
-const CHAINS: &[(u8, &[(usize, &[u8], Option<usize>)])] = &[
+const CHAINS: &[(u8, &[LookUp<'static>])] = &[
     // A few chains, which stay as they were made.
     (
         2,
         &[
-            (15, b"SAME", Some(9)),
-            (15, b"LAST", Some(9)),
-            (13, b"SAME", Some(14)),
-            (12, b"BESD", Some(13)),
-            (15, b"DEEP", Some(15)),
-            (12, b"LAST", None),
+            (Scope::At(ObjectId(15)), b"SAME", Some(9)),
+            (Scope::At(ObjectId(15)), b"LAST", Some(9)),
+            (Scope::At(ObjectId(13)), b"SAME", Some(14)),
+            (Scope::At(ObjectId(12)), b"BESD", Some(13)),
+            (Scope::At(ObjectId(15)), b"DEEP", Some(15)),
+            (Scope::At(ObjectId(12)), b"LAST", None),
         ],
     ),
     // Chains that are laid anew once the table is loaded.
     (
         40,
         &[
-            (129, b"SAME", Some(9)),
-            (129, b"LAST", Some(9)),
-            (127, b"SAME", Some(128)),
-            (126, b"BESD", Some(127)),
-            (129, b"DEEP", Some(129)),
-            (12, b"BESD", Some(13)),
-            (10, b"BESD", Some(10)),
-            (126, b"LAST", None),
+            (Scope::At(ObjectId(129)), b"SAME", Some(9)),
+            (Scope::At(ObjectId(129)), b"LAST", Some(9)),
+            (Scope::At(ObjectId(127)), b"SAME", Some(128)),
+            (Scope::At(ObjectId(126)), b"BESD", Some(127)),
+            (Scope::At(ObjectId(129)), b"DEEP", Some(129)),
+            (Scope::At(ObjectId(12)), b"BESD", Some(13)),
+            (Scope::At(ObjectId(10)), b"BESD", Some(10)),
+            (Scope::At(ObjectId(126)), b"LAST", None),
         ],
     ),
     // Chains that are laid anew also before, when the sixty-fifth DEEP gets what is within.
     (
         100,
         &[
-            (309, b"SAME", Some(9)),
-            (309, b"LAST", Some(9)),
-            (307, b"SAME", Some(308)),
-            (306, b"BESD", Some(307)),
-            (309, b"DEEP", Some(309)),
-            (204, b"DEEP", Some(207)),
-            (202, b"SAME", Some(203)),
-            (12, b"BESD", Some(13)),
-            (306, b"LAST", None),
+            (Scope::At(ObjectId(309)), b"SAME", Some(9)),
+            (Scope::At(ObjectId(309)), b"LAST", Some(9)),
+            (Scope::At(ObjectId(307)), b"SAME", Some(308)),
+            (Scope::At(ObjectId(306)), b"BESD", Some(307)),
+            (Scope::At(ObjectId(309)), b"DEEP", Some(309)),
+            (Scope::At(ObjectId(204)), b"DEEP", Some(207)),
+            (Scope::At(ObjectId(202)), b"SAME", Some(203)),
+            (Scope::At(ObjectId(12)), b"BESD", Some(13)),
+            (Scope::At(ObjectId(306)), b"LAST", None),
         ],
     ),
 ];
@@ -193,12 +181,8 @@ const CHAINS: &[(u8, &[(usize, &[u8], Option<usize>)])] = &[
 fn past_chains(rt: HostRuntime) -> Result<(), Fail> {
     for (count, rows) in CHAINS {
         let module = devices_beside(rt.alloc(), *count)?;
-        let table = dsdt_of(rt.alloc(), &module)?;
-        let ns = Namespace::load(rt.alloc(), &[&table], HOST)?;
-        for (scope, name, wanted) in *rows {
-            let number = found(&ns, Scope::At(ObjectId(*scope)), name).map(|id| id.0);
-            assert_eq!(rt; number, *wanted, "{count} {scope} {name:?}");
-        }
+        let told = misnamed_in(rt.alloc(), (&module, b""), rows)?;
+        assert_eq!(rt; told, None, "{count}");
     }
     Ok(())
 }

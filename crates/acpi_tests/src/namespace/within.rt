@@ -1,6 +1,6 @@
 // What definitions make within a device and its kin.
 
-use super::{dsdt_of, found};
+use super::{dsdt_of, is_own};
 use acpi_samples::HOST;
 use aml_namespace::{
     AccessType, Content, CreatedField, CreatedFieldSize, DataName, Field, FieldRule, Namespace,
@@ -204,11 +204,7 @@ fn members(rt: HostRuntime) -> Result<(), Fail> {
     let table = dsdt_of(rt.alloc(), WITHIN)?;
     let ns = Namespace::load(rt.alloc(), &[&table], HOST)?;
     for (number, name, made) in OBJECTS {
-        let id = ObjectId(*number);
-        assert_eq!(rt;
-            (found(&ns, Scope::Root, name), ns.object(id)),
-            (Some(id), Some(object_of(*made)))
-        );
+        assert!(rt; is_own(&ns, *number, name, object_of(*made)), "{number}");
     }
     assert_eq!(rt; ns.len(), 30);
     Ok(())

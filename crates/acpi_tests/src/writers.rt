@@ -1,13 +1,10 @@
-// Listings into a writer that takes a byte at a time, and into one that takes so many bytes and then
-// fails.
+// A listing of routes into a writer that takes a byte at a time, and into one that takes so many bytes and then fails.
 
-use acpi_resource_text::{list_resources, list_routes};
-use acpi_resources::{GlobalInterrupt, Item, Pin, Polarity, Route, Trigger, items};
+use acpi_resource_text::list_routes;
+use acpi_resources::{GlobalInterrupt, Pin, Polarity, Route, Trigger};
 use acpi_samples::Narrow;
 use acpi_text::RunFault;
 use std::test::Fail;
-
-const RESOURCES: &str = "irq 9 level low shared\nend\n";
 
 const ROUTES: &str = "0x1ffff A 20 level low\n0x2ffff B 17 level low\n";
 
@@ -21,24 +18,6 @@ fn route(address: u64, pin: Pin, number: u32) -> Route {
             polarity: Polarity::Low,
         },
     }
-}
-
-#[test]
-fn resources(rt: HostRuntime) -> Result<(), Fail> {
-    let alloc = rt.alloc();
-    let found = items(alloc, &[0x23, 0, 2, 0x18, 0x79, 0])?;
-    let mut slow = Narrow::new(alloc, 1, 128)?;
-    assert_eq!(rt; list_resources(alloc, &mut slow, &found), Ok(()));
-    assert_eq!(rt; slow.text.as_slice(), RESOURCES.as_bytes());
-    for room in 0..RESOURCES.len() {
-        let mut full = Narrow::new(alloc, 7, room)?;
-        assert_eq!(rt;
-            list_resources(alloc, &mut full, &found),
-            Err(RunFault::Write)
-        );
-        assert_eq!(rt; full.text.as_slice(), &RESOURCES.as_bytes()[..room]);
-    }
-    Ok(())
 }
 
 #[test]
