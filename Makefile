@@ -17,9 +17,9 @@ run:
 EDITED = acpi_resources acpi_sources acpi_tables acpi_verdicts acpi_words aml_bodies aml_components aml_externals aml_interp aml_kind_rules aml_known aml_lex aml_literal_laws aml_meaning \
 	aml_methods aml_namespace aml_objects aml_operators aml_path_text aml_paths aml_place_text aml_places aml_quick aml_regions aml_rules aml_signatures aml_targets aml_tree aml_verify
 
-# The gate: every crate proved, from nothing but for what a gate on this machine has passed with the same files; tests
-# and programs run, then the built program over its stored cases and rows, and last the must-fail edits, many in one
-# check, and those of a small crate that try the script itself. The last line counts all.
+# The gate: every crate proved from nothing; tests and programs run, then the built program over its stored cases and
+# rows, and last the must-fail edits, many in one check, and those of a small crate that try the script itself. The last
+# line counts all.
 test:
 	@python3 bench/edits.py clear
 	@rt ci | python3 bench/cases.py after | python3 bench/edits.py after $(EDITED)

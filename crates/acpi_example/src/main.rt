@@ -1,5 +1,5 @@
-//! What an author of boot code or of a test bench writes to evaluate a method, as the README shows it:
-//! `\_SB_.PCI0.SENS._TMP` of the board of examples/, over registers of its own.
+//! What an author of boot code or of a test bench writes to evaluate a method, as the README shows
+//! it: `\_SB_.PCI0.SENS._TMP` of the board of examples/, over registers of its own.
 #![tactic(auto)]
 
 mod value;

@@ -337,7 +337,8 @@ fn tell_outcome<W: Write>(
     events: &[Event],
 ) -> Result<u8, Stop>
     ensures status { IfOk result (λ status. status ≤ 3) }
-    ensures printed { let text = evaluation_text (shown namespace.now).entries (outcome.now, events_of events.now) in
+    ensures printed { let entries = (shown namespace.now).entries in
+        let text = evaluation_text entries (outcome.now, events_of events.now) in
         Writes (Tells text (outcome_status outcome.now))
         (tt {0}) (tt {0}) (W.contents out.old) (W.contents out.new) result }
 {

@@ -1,5 +1,5 @@
-// What the built program cannot show: writers that fail, files that memory cannot hold, and single calls. What it prints
-// and answers is told by the rows of crates/acpicheck/rows.
+// What the built program cannot show: writers that fail, files that memory cannot hold, and single
+// calls. What it prints and answers is told by the rows of crates/acpicheck/rows.
 
 mod calls;
 mod faults;
@@ -75,7 +75,8 @@ fn seal(table: &mut [u8]) -> Option<()> {
 }
 
 // What a command prints, into a writer that takes a byte at a time, and into one that fails at each
-// byte: each listing, a verdict, an outcome, a fault's line and the line of a body that cannot be read.
+// byte: each listing, a verdict, an outcome, a fault's line and the line of a body that cannot be
+// read.
 #[test]
 fn writers(rt: HostRuntime) -> Result<(), Fail> {
     let alloc = rt.alloc();

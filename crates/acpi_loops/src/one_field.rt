@@ -1,6 +1,6 @@
-// A world of one unit of a region, which counts its calls in place of a log: what it takes comes again in
-// the same order, so the count tells it. Calls on it are not inlined, as those of a world that someone else
-// wrote would not be.
+// A world of one unit of a region, which counts its calls in place of a log: what it takes comes
+// again in the same order, so the count tells it. Calls on it are not inlined, as those of a world
+// that someone else wrote would not be.
 
 ghost use Rattle.std.specs.Prelude.{◌≡◌, ◌<◌, false};
 ghost use Rattle.aml_regions.specs.Worlds.{counted};
@@ -20,8 +20,9 @@ const UNIT: Access = Access {
 /// What it holds when it is read.
 const ANSWER: u64 = 0xa55a;
 
-/// A world that takes a read of the unit, again and again, and nothing else; if it is written too, a write
-/// of one value behind each read. The two are types of their own, so that calls on one are compiled apart.
+/// A world that takes a read of the unit, again and again, and nothing else; if it is written too,
+/// a write of one value behind each read. The two are types of their own, so that calls on one are
+/// compiled apart.
 #[derive(Drop)]
 pub struct Unit<const WRITTEN: bool> {
     pub written: u64,

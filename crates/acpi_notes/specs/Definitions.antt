@@ -12,10 +12,13 @@ segment_behind name = slice_get name.segs (length name.segs - 1)
 
 -- the last segment of the name that stands at a byte of a table
 abbrev pub last_segment : List (List ℕ) → ℕ → ℕ → Option (List ℕ)
-last_segment tables table at = option_and_then (λ bytes. option_and_then segment_behind (name_there bytes at)) (slice_get tables table)
+last_segment tables table at =
+    option_and_then (λ bytes. option_and_then segment_behind (name_there bytes at))
+    (slice_get tables table)
 
 -- the names at both places have one last segment
 abbrev pub HaveOneSegment : List (List ℕ) → Place → Found → Type 0
-HaveOneSegment tables refused (Twice path (Some first)) = last_segment tables first.table first.at ≡ last_segment tables refused.table refused.at
+HaveOneSegment tables refused (Twice path (Some first)) =
+    last_segment tables first.table first.at ≡ last_segment tables refused.table refused.at
 HaveOneSegment tables refused (Twice path None) = Unit {0}
 HaveOneSegment tables refused (Nothing wanted) = Unit {0}

@@ -27,7 +27,8 @@ help_by first last = help_for first (asks_for_help first || asks_for_help last)
 
 abbrev pub help_of : List (List ℕ) → Option Help
 help_of words =
-    option_and_then (λ first. option_and_then (help_by first) (slice_get words (length words - 1))) (slice_get words 0)
+    option_and_then (λ first. option_and_then (help_by first) (slice_get words (length words - 1)))
+    (slice_get words 0)
 
 -- the help of each, as the program has it
 abbrev pub help_text : Help → List ℕ

@@ -13,10 +13,12 @@ bytes_numbered tables number = unwrap_or (slice_get tables number) []
 -- a path that is defined twice, behind the file of the second definition
 unfoldable pub found_note : ℕ → List ℕ → List ℕ → ℕ → List ℕ
 found_note at path before place =
-    joined (codes ": " ∷ path ∷ codes ", defined at byte " ∷ decimal at ∷ codes ", is already defined at byte " ∷ decimal place ∷ codes " of " ∷ before ∷ [])
+    joined (codes ": " ∷ path ∷ codes ", defined at byte " ∷ decimal at
+    ∷ codes ", is already defined at byte " ∷ decimal place ∷ codes " of " ∷ before ∷ [])
 
 unfoldable pub too_many_note : List ℕ → ℕ → List ℕ
-too_many_note label at = joined (label ∷ codes ": the definition at byte " ∷ decimal at ∷ codes " makes a path more than 65535" ∷ [])
+too_many_note label at = joined (label ∷ codes ": the definition at byte " ∷ decimal at
+    ∷ codes " makes a path more than 65535" ∷ [])
 
 -- a text begins with another
 abbrev pub BeginsWith : List ℕ → List ℕ → Type 0

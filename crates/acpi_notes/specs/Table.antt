@@ -11,16 +11,19 @@ byte_at bytes at = slice_index bytes at
 
 -- the number of four bytes from a place on, the lowest first
 abbrev pub number_at : List ℕ → ℕ → ℕ
-number_at bytes at = byte_at bytes at + 256 * byte_at bytes (at + 1) + 65536 * (byte_at bytes (at + 2) + 256 * byte_at bytes (at + 3))
+number_at bytes at = byte_at bytes at + 256 * byte_at bytes (at + 1)
+    + 65536 * (byte_at bytes (at + 2) + 256 * byte_at bytes (at + 3))
 
 -- how many bytes a table says it has: at place 4, of an RSDP at 20
 abbrev pub stated : List ℕ → ℕ → ℕ
 stated bytes at = if at == 20 then number_at bytes 20 else number_at bytes 4
 
--- the fewest bytes of a table: of an RSDP 20, or 36 of its later revisions; of a MADT 44; of any other the header's 36
+-- the fewest bytes of a table: of an RSDP 20, or 36 of its later revisions; of a MADT 44; of any
+-- other the header's 36
 abbrev pub least_of : List ℕ → ℕ
 least_of bytes =
-    if starts_with nat_eq bytes (codes "RSD PTR ") then (if nat_lt (length bytes) 20 then 20 else 36)
+    if starts_with nat_eq bytes (codes "RSD PTR ")
+    then (if nat_lt (length bytes) 20 then 20 else 36)
     else if starts_with nat_eq bytes (codes "APIC") && nat_le 36 (length bytes) then 44
     else 36
 
@@ -33,27 +36,33 @@ summed bytes at =
 
 unfoldable pub short_note : List ℕ → ℕ → ℕ → List ℕ
 short_note label length least =
-    joined (label ∷ codes ": it has " ∷ decimal length ∷ codes " bytes, and such a table has " ∷ decimal least ∷ codes " or more" ∷ [])
+    joined (label ∷ codes ": it has " ∷ decimal length ∷ codes " bytes, and such a table has "
+    ∷ decimal least ∷ codes " or more" ∷ [])
 
 unfoldable pub length_note : List ℕ → ℕ → ℕ → List ℕ
 length_note label length stated =
-    joined (label ∷ codes ": its length says " ∷ decimal stated ∷ codes ", and it has " ∷ decimal length ∷ codes " bytes" ∷ [])
+    joined (label ∷ codes ": its length says " ∷ decimal stated ∷ codes ", and it has "
+    ∷ decimal length ∷ codes " bytes" ∷ [])
 
 unfoldable pub sum_note : List ℕ → ℕ → List ℕ
-sum_note label sum = joined (label ∷ codes ": its bytes sum to " ∷ decimal sum ∷ codes " modulo 256, and 0 is wanted" ∷ [])
+sum_note label sum = joined (label ∷ codes ": its bytes sum to " ∷ decimal sum
+    ∷ codes " modulo 256, and 0 is wanted" ∷ [])
 
 unfoldable pub signature_note : List ℕ → List ℕ → List ℕ
 signature_note label signature =
-    joined (label ∷ codes ": its signature is " ∷ signature ∷ codes ", and the first file is to be a DSDT, the others SSDTs" ∷ [])
+    joined (label ∷ codes ": its signature is " ∷ signature
+    ∷ codes ", and the first file is to be a DSDT, the others SSDTs" ∷ [])
 
 unfoldable pub entry_note : List ℕ → ℕ → ℕ → List ℕ
 entry_note label at kind =
-    joined (label ∷ codes ": the entry at byte " ∷ decimal at ∷ codes ", which begins with " ∷ decimal kind ∷ codes ", is cut or too short" ∷ [])
+    joined (label ∷ codes ": the entry at byte " ∷ decimal at ∷ codes ", which begins with "
+    ∷ decimal kind ∷ codes ", is cut or too short" ∷ [])
 
 -- what is told of a file, by what is wrong and where
 abbrev pub table_note : List ℕ → List ℕ → TableCause → ℕ → List ℕ
 table_note label bytes Short at = short_note label (length bytes) (least_of bytes)
 table_note label bytes BadLength at = length_note label (length bytes) (stated bytes at)
 table_note label bytes BadSum at = sum_note label (summed bytes at)
-table_note label bytes BadSignature at = signature_note label (shown_bytes (take (min (length bytes) 4) bytes))
+table_note label bytes BadSignature at =
+    signature_note label (shown_bytes (take (min (length bytes) 4) bytes))
 table_note label bytes BadEntry at = entry_note label at (byte_at bytes at)

@@ -48,8 +48,8 @@ pub fn registers_note(alloc: Global, label: &str, line: usize) -> Result<String,
     )
 }
 
-/// Of a line of the text of `--kinds` that is no signature, or has the path of a line before it: its
-/// number, from 1.
+/// Of a line of the text of `--kinds` that is no signature, or has the path of a line before it:
+/// its number, from 1.
 #[tactic(auto, unfolding(crate::specs::Command::signatures_note))]
 pub fn signatures_note(alloc: Global, label: &str, line: usize) -> Result<String, AllocError>
     ensures { IfOk result (λ note. string_bytes note ≡ signatures_note label.now line) }

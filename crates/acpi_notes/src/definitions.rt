@@ -1,4 +1,5 @@
-// The definitions of tables over again, to tell of one that was refused which others it met (ACPI 6.5, 5.3).
+// The definitions of tables over again, to tell of one that was refused which others it met (ACPI
+// 6.5, 5.3).
 
 ghost use Rattle.std.specs.Prelude.{◌≡◌, IfOk, IfSome, map, true, vec_items};
 ghost use Rattle.std.specs.Option.{option_map};
@@ -473,8 +474,8 @@ fn have_one_segment(tables: &[Vec<u8>], refused: Place, found: &Found) -> bool
     }
 }
 
-/// What the definition met that a load refused, of the tables of that load; None where they have no such
-/// definition.
+/// What the definition met that a load refused, of the tables of that load; None where they have no
+/// such definition.
 pub fn find_again(
     alloc: Global,
     tables: &[Vec<u8>],

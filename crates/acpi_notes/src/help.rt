@@ -148,8 +148,8 @@ impl Help {
     }
 }
 
-/// Which help the words ask for: `--version` in front, or `--help` or `-h` first or last, of the command
-/// that is the first word.
+/// Which help the words ask for: `--version` in front, or `--help` or `-h` first or last, of the
+/// command that is the first word.
 pub fn help_of<S: AsStr>(words: &[S]) -> Option<Help>
     ensures { result ≡ help_of (map S.text words.now) }
 {

@@ -5,11 +5,14 @@ ghost use Rattle.acpi_notes.specs.Label.{line_label};
 
 use std::alloc::{AllocError, Global};
 
-/// A file's name; or of `@`, which stands for a line of standard input, the number of the file, from 0.
+/// A file's name; or of `@`, which stands for a line of standard input, the number of the file,
+/// from 0.
 #[tactic(auto, unfolding(crate::specs::Label::line_label))]
 pub fn file_label(alloc: Global, name: &str, number: usize) -> Result<String, AllocError>
-    ensures line { name.now ≡ codes "@" → IfOk result (λ label. string_bytes label ≡ line_label number) }
-    ensures named { (name.now ≡ codes "@" → ⊥) → IfOk result (λ label. string_bytes label ≡ name.now) }
+    ensures line { name.now ≡ codes "@" →
+        IfOk result (λ label. string_bytes label ≡ line_label number) }
+    ensures named { (name.now ≡ codes "@" → ⊥) →
+        IfOk result (λ label. string_bytes label ≡ name.now) }
 {
     if name == "@" {
         return format!(in alloc; "file {number} of standard input");

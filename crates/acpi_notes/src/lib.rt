@@ -1,4 +1,5 @@
-//! What people are told of a fault beside its line: the file, what was wanted there and what was found.
+//! What people are told of a fault beside its line: the file, what was wanted there and what was
+//! found.
 #![tactic(auto)]
 
 mod command;

@@ -21,7 +21,8 @@ pub struct Files<'a> {
 impl Files<'_> {
     /// How the file with a number is called.
     pub fn label(&self, alloc: Global, number: usize) -> Result<String, AllocError>
-        ensures { (name : List ℕ) → slice_get (map (λ n. n.now) self.now.names.now) number ≡ Some name
+        ensures { (name : List ℕ) →
+            slice_get (map (λ n. n.now) self.now.names.now) number ≡ Some name
             → (name ≡ codes "@" → ⊥) → IfOk result (λ label. string_bytes label ≡ name) }
     {
         match self.names.get(number) {
@@ -40,8 +41,8 @@ impl Files<'_> {
     }
 }
 
-/// Of a load's refusal: the file and place, what was wanted there and what was found; of a path that is
-/// defined twice both places, of one that is missing which it is.
+/// Of a load's refusal: the file and place, what was wanted there and what was found; of a path
+/// that is defined twice both places, of one that is missing which it is.
 pub fn load_note(
     alloc: Global,
     label: &str,

@@ -9,8 +9,8 @@ ghost use Rattle.acpi_notes.specs.Near.{IsObjectNote, missing_part, no_method_no
 use aml_namespace::Namespace;
 use std::alloc::{AllocError, Global};
 
-/// The path as it is printed that a word may mean: with a `\` in front, in upper case, each segment of
-/// four characters; None where the word is that already, or nothing has that path.
+/// The path as it is printed that a word may mean: with a `\` in front, in upper case, each segment
+/// of four characters; None where the word is that already, or nothing has that path.
 pub fn near_path(
     alloc: Global,
     namespace: &Namespace<'_>,
@@ -64,7 +64,8 @@ fn front_there<'a>(namespace: &Namespace<'_>, path: &'a str) -> &'a str {
     "\\"
 }
 
-/// Of a path that is no method's: what stands there, or which path may be meant, or how far it leads.
+/// Of a path that is no method's: what stands there, or which path may be meant, or how far it
+/// leads.
 pub fn object_note(
     alloc: Global,
     namespace: &Namespace<'_>,

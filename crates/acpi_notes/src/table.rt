@@ -99,8 +99,8 @@ fn shown_character(byte: u8) -> char
     '?'
 }
 
-/// Of the fault of a file's table: how many bytes it has, and is said or wanted to have; what they sum
-/// to; its signature; how the entry begins that cannot be read.
+/// Of the fault of a file's table: how many bytes it has, and is said or wanted to have; what they
+/// sum to; its signature; how the entry begins that cannot be read.
 pub fn table_note(
     alloc: Global,
     label: &str,

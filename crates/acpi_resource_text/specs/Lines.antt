@@ -22,32 +22,40 @@ numbers_text (n ∷ rest) = decimal n ++ flat_map behind_comma rest
 -- the line of an item that lists interrupts, behind its word
 unfoldable pub interrupts_line : List ℕ → List ℕ → Signal → List ℕ
 interrupts_line word numbers signal =
-    joined (word ∷ codes " " ∷ numbers ∷ codes " " ∷ trigger_text signal.trigger ∷ codes " " ∷ polarity_text signal.polarity ∷ codes " " ∷ sharing_text signal.sharing ∷ codes "\n" ∷ [])
+    joined (word ∷ codes " " ∷ numbers ∷ codes " " ∷ trigger_text signal.trigger ∷ codes " "
+    ∷ polarity_text signal.polarity ∷ codes " " ∷ sharing_text signal.sharing ∷ codes "\n" ∷ [])
 
 -- a range whose first place is between two addresses
 unfoldable pub placed_line : List ℕ → ℕ → ℕ → ℕ → ℕ → List ℕ
 placed_line word minimum maximum alignment length =
-    joined (word ∷ codes " 0x" ∷ hex minimum ∷ codes " 0x" ∷ hex maximum ∷ codes " align " ∷ decimal alignment ∷ codes " length " ∷ decimal length ∷ codes "\n" ∷ [])
+    joined (word ∷ codes " 0x" ∷ hex minimum ∷ codes " 0x" ∷ hex maximum ∷ codes " align "
+    ∷ decimal alignment ∷ codes " length " ∷ decimal length ∷ codes "\n" ∷ [])
 
 -- a range from a place on
 unfoldable pub fixed_line : List ℕ → ℕ → ℕ → List ℕ
-fixed_line word base length = joined (word ∷ codes " 0x" ∷ hex base ∷ codes " length " ∷ decimal length ∷ codes "\n" ∷ [])
+fixed_line word base length =
+    joined (word ∷ codes " 0x" ∷ hex base ∷ codes " length " ∷ decimal length ∷ codes "\n" ∷ [])
 
 -- a range of an address space of a type
 unfoldable pub space_line : AddressWidth → ℕ → ℕ → ℕ → ℕ → List ℕ
 space_line width kind minimum maximum length =
-    joined (width_text width ∷ codes " space type " ∷ decimal kind ∷ codes " 0x" ∷ hex minimum ∷ codes " 0x" ∷ hex maximum ∷ codes " length " ∷ decimal length ∷ codes "\n" ∷ [])
+    joined (width_text width ∷ codes " space type " ∷ decimal kind ∷ codes " 0x" ∷ hex minimum
+    ∷ codes " 0x" ∷ hex maximum ∷ codes " length " ∷ decimal length ∷ codes "\n" ∷ [])
 
 -- the line of an item
 abbrev pub item_line : Item → List ℕ
 item_line (item.Irq mask signal) = interrupts_line (codes "irq") (numbers_text (irqs mask)) signal
-item_line (item.Io minimum maximum alignment length) = placed_line (codes "io") minimum maximum alignment length
+item_line (item.Io minimum maximum alignment length) =
+    placed_line (codes "io") minimum maximum alignment length
 item_line (item.FixedIo base length) = fixed_line (codes "fixed-io") base length
 item_line item.End = codes "end\n"
-item_line (item.Memory minimum maximum alignment length) = placed_line (codes "memory") minimum maximum alignment length
+item_line (item.Memory minimum maximum alignment length) =
+    placed_line (codes "memory") minimum maximum alignment length
 item_line (item.FixedMemory base length) = fixed_line (codes "fixed-memory") base length
-item_line (item.AddressSpace width kind granularity minimum maximum translation length) = space_line width kind minimum maximum length
-item_line (item.Interrupt signal numbers) = interrupts_line (codes "interrupt") (numbers_text numbers) signal
+item_line (item.AddressSpace width kind granularity minimum maximum translation length) =
+    space_line width kind minimum maximum length
+item_line (item.Interrupt signal numbers) =
+    interrupts_line (codes "interrupt") (numbers_text numbers) signal
 item_line (item.Other tag length) = fixed_line (codes "other") tag length
 
 -- the lines of items, one after the other
@@ -57,7 +65,9 @@ items_text items = flat_map item_line items
 -- the line of a route
 unfoldable pub route_line : Route → List ℕ
 route_line route =
-    joined (codes "0x" ∷ hex route.address ∷ codes " " ∷ pin_text route.pin ∷ codes " " ∷ decimal route.interrupt.number ∷ codes " " ∷ trigger_text route.interrupt.trigger ∷ codes " " ∷ polarity_text route.interrupt.polarity ∷ codes "\n" ∷ [])
+    joined (codes "0x" ∷ hex route.address ∷ codes " " ∷ pin_text route.pin ∷ codes " "
+    ∷ decimal route.interrupt.number ∷ codes " " ∷ trigger_text route.interrupt.trigger ∷ codes " "
+    ∷ polarity_text route.interrupt.polarity ∷ codes "\n" ∷ [])
 
 -- the lines of routes, one after the other
 abbrev pub routes_text : List Route → List ℕ

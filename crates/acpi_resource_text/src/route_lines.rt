@@ -10,8 +10,8 @@ use acpi_text::{RunFault, put};
 use std::alloc::{AllocError, Global};
 use std::io::Write;
 
-/// Prints a line for each route, in their order: `0x1ffff A 20 level low`, the device's address, its
-/// pin, the number of the global interrupt, and how it is signalled.
+/// Prints a line for each route, in their order: `0x1ffff A 20 level low`, the device's address,
+/// its pin, the number of the global interrupt, and how it is signalled.
 ///
 /// At Err the writer holds a beginning of that text.
 pub fn list_routes<W: Write>(alloc: Global, out: &mut W, routes: &[Route]) -> Result<(), RunFault>

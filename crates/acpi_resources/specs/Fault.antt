@@ -14,7 +14,8 @@ Fails NoMemory answer = Unit {0}
 Fails (Refused refused) answer = answer ≡ Err refused
 
 -- the program's answer, seen by a view of its value, is that of a definition, unless memory ran out
-abbrev pub ReadsAs : {X Y : Type 0} → (X → Y) → Result X ResourceFault → Result Y ResourceRefusal → Type 0
+abbrev pub ReadsAs : {X Y : Type 0} → (X → Y) → Result X ResourceFault →
+    Result Y ResourceRefusal → Type 0
 ReadsAs view (Ok x) answer = answer ≡ Ok (view x)
 ReadsAs view (Err fault) answer = Fails fault answer
 

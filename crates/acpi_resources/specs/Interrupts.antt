@@ -26,9 +26,11 @@ first_of (n ∷ rest) = Some n
 
 -- an interrupt of that number, signalled so
 abbrev pub by_signal : Signal → ℕ → GlobalInterrupt
-by_signal signal number = record { number = number; trigger = signal.trigger; polarity = signal.polarity }
+by_signal signal number =
+    record { number = number; trigger = signal.trigger; polarity = signal.polarity }
 
--- the number of the global interrupt of an interrupt of the ISA bus: where the MADT sends it, its own without one
+-- the number of the global interrupt of an interrupt of the ISA bus: where the MADT sends it, its
+-- own without one
 abbrev pub global_number : Option Madt → ℕ → ℕ
 global_number None irq = irq
 global_number (Some madt) irq = (isa (entries madt) irq).number
@@ -39,14 +41,17 @@ is_of_interrupts (item.Irq mask signal) = true
 is_of_interrupts (item.Interrupt signal numbers) = true
 is_of_interrupts _ = false
 
--- the first interrupt that an item lists, as it says that interrupts are signalled: of the ISA bus by the global interrupt's number,
--- others by their own
+-- the first interrupt that an item lists, as it says that interrupts are signalled: of the ISA bus
+-- by the global interrupt's number, others by their own
 abbrev pub first_interrupt : (ℕ → ℕ) → Item → Option GlobalInterrupt
-first_interrupt global (item.Irq mask signal) = option_map (λ irq. by_signal signal (global irq)) (first_of (irqs mask))
-first_interrupt global (item.Interrupt signal numbers) = option_map (by_signal signal) (first_of numbers)
+first_interrupt global (item.Irq mask signal) =
+    option_map (λ irq. by_signal signal (global irq)) (first_of (irqs mask))
+first_interrupt global (item.Interrupt signal numbers) =
+    option_map (by_signal signal) (first_of numbers)
 first_interrupt global _ = None
 
--- the interrupt of a device with these items: the first of the first item that lists interrupts, and none where that lists none
+-- the interrupt of a device with these items: the first of the first item that lists interrupts,
+-- and none where that lists none
 abbrev pub link_interrupt : (ℕ → ℕ) → List Item → Option GlobalInterrupt
 link_interrupt global items = option_and_then (first_interrupt global) (find is_of_interrupts items)
 
@@ -60,7 +65,8 @@ items_of_device links device = lookup (λ id. id.0 == device) links
 
 -- the interrupt of a device by its number, if it is listed and has one
 abbrev pub interrupt_of_device : (ℕ → ℕ) → Links → ℕ → Option GlobalInterrupt
-interrupt_of_device global links device = option_and_then (link_interrupt global) (items_of_device links device)
+interrupt_of_device global links device =
+    option_and_then (link_interrupt global) (items_of_device links device)
 
 -- the program's list of links as such a list
 abbrev pub crs_of_links : {Z : Type 0} → List (ObjectId × Vec Item Z) → Links

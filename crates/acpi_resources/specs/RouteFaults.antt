@@ -14,6 +14,7 @@ RouteFails NoMemory answer = Unit {0}
 RouteFails (Refused refused) answer = answer ≡ Err refused
 
 -- the program's answer, seen by a view of its value, is that of a definition, unless memory ran out
-abbrev pub RoutesAs : {X Y : Type 0} → (X → Y) → Result X RouteFault → Result Y RouteRefusal → Type 0
+abbrev pub RoutesAs : {X Y : Type 0} → (X → Y) → Result X RouteFault →
+    Result Y RouteRefusal → Type 0
 RoutesAs view (Ok x) answer = answer ≡ Ok (view x)
 RoutesAs view (Err fault) answer = RouteFails fault answer

@@ -20,7 +20,8 @@ abbrev pub sharing_of : Bool → Sharing
 sharing_of true = Shared
 sharing_of false = Exclusive
 
--- the third byte of an IRQ descriptor: bit 0 is set for edge, bit 3 for active low, bit 4 for shared
+-- the third byte of an IRQ descriptor: bit 0 is set for edge, bit 3 for active low, bit 4 for
+-- shared
 abbrev pub irq_signal : ℕ → Signal
 irq_signal information = record {
   trigger = trigger_of (information % 2 == 1);
@@ -32,7 +33,8 @@ irq_signal information = record {
 abbrev pub isa_signal : Signal
 isa_signal = record { trigger = Edge; polarity = High; sharing = Exclusive }
 
--- the flags of an extended interrupt descriptor: bit 1 is set for edge, bit 2 for active low, bit 3 for shared
+-- the flags of an extended interrupt descriptor: bit 1 is set for edge, bit 2 for active low, bit 3
+-- for shared
 abbrev pub interrupt_signal : ℕ → Signal
 interrupt_signal flags = record {
   trigger = trigger_of (flags / 2 % 2 == 1);

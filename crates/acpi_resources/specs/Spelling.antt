@@ -1,5 +1,6 @@
--- Which bytes spell which resource descriptors, and what is wrong where none is spelled (ACPI 6.5, 6.4.2 and 6.4.3). Nothing here reads
--- from left to right: these are relations between bytes and items.
+-- Which bytes spell which resource descriptors, and what is wrong where none is spelled (ACPI 6.5,
+-- 6.4.2 and 6.4.3). Nothing here reads from left to right: these are relations between bytes and
+-- items.
 use Rattle.std.specs.Prelude.{◌≡◌, ◌⊎◌, ◌<◌, ◌≤◌, ◌+◌, ◌%◌, ℕ, List, [], ◌∷◌, ◌++◌, true, false, Some, None, length}
 use Rattle.acpi_tables.specs.Bytes.{number_at}
 use Rattle.acpi_resources.specs.Forms.{small_form, large_form, may_have}
@@ -18,7 +19,8 @@ pub record IsSmallLead (form : Form) (size : ℕ) (lead : List ℕ) : Type 0 whe
   pub names : small_form tag ≡ form
   pub tells : tag % 8 ≡ size
 
--- the tag of a large descriptor, whose bit 7 is set and whose others name it, and the number of bytes behind both in two bytes
+-- the tag of a large descriptor, whose bit 7 is set and whose others name it, and the number of
+-- bytes behind both in two bytes
 pub record IsLargeLead (form : Form) (size : ℕ) (lead : List ℕ) : Type 0 where
   pub tag : ℕ
   pub low : ℕ
@@ -32,8 +34,8 @@ pub record IsLargeLead (form : Form) (size : ℕ) (lead : List ℕ) : Type 0 whe
 abbrev pub IsLead : Form → ℕ → List ℕ → Type 0
 IsLead form size lead = IsSmallLead form size lead ⊎ IsLargeLead form size lead
 
--- these bytes are an item's: tag and length, and as many bytes behind them as they tell, which that descriptor may have, and which say
--- the item
+-- these bytes are an item's: tag and length, and as many bytes behind them as they tell, which that
+-- descriptor may have, and which say the item
 pub record Spells (item : Item) (bytes : List ℕ) : Type 0 where
   pub form : Form
   pub lead : List ℕ
@@ -43,7 +45,8 @@ pub record Spells (item : Item) (bytes : List ℕ) : Type 0 where
   pub allowed : may_have form (length body) ≡ true
   pub says : said form body ≡ Some item
 
--- the spellings of these items, one behind the other, begin the bytes; the last of them is an end tag, and no other is
+-- the spellings of these items, one behind the other, begin the bytes; the last of them is an end
+-- tag, and no other is
 abbrev pub Begin : List Item → List ℕ → Type 0
 Begin [] bytes = ⊥
 Begin (item ∷ items) bytes =
@@ -96,9 +99,11 @@ IsWrong Truncated bytes = IsCutLead bytes ⊎ IsCutBody bytes
 IsWrong BadItem bytes = HasBadLength bytes ⊎ SaysNothing bytes
 IsWrong NoEnd bytes = bytes ≡ []
 
--- the bytes, which stand at a place, begin with the spellings of these items, none of them an end tag, and are refused behind them
+-- the bytes, which stand at a place, begin with the spellings of these items, none of them an end
+-- tag, and are refused behind them
 abbrev pub AreRefused : List Item → ResourceRefusal → ℕ → List ℕ → Type 0
 AreRefused [] refused at bytes = (refused.at ≡ at) × IsWrong refused.cause bytes
 AreRefused (item ∷ items) refused at bytes =
-    (spelling : List ℕ) × (rest : List ℕ) × (bytes ≡ spelling ++ rest) × Spells item spelling × (is_end item ≡ false)
+    (spelling : List ℕ) × (rest : List ℕ) × (bytes ≡ spelling ++ rest) × Spells item spelling
+    × (is_end item ≡ false)
     × AreRefused items refused (at + length spelling) rest

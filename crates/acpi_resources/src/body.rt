@@ -1,4 +1,5 @@
-// What the bytes of a resource descriptor behind its tag and length say (ACPI 6.5, 6.4.2 and 6.4.3).
+// What the bytes of a resource descriptor behind its tag and length say (ACPI 6.5, 6.4.2 and
+// 6.4.3).
 
 ghost use Rattle.std.specs.Prelude.{◌≡◌, ◌⊎◌, ◌<◌, ◌≤◌, ◌+◌, ◌*◌, IfOk, Some, length, true};
 ghost use Rattle.acpi_tables.specs.Bytes.{number_at};

@@ -14,8 +14,8 @@ use thiserror::Error;
 pub enum ResourceCause {
     /// The bytes end within a descriptor; its place is the descriptor's.
     Truncated,
-    /// A length that the descriptor cannot have, or an extended interrupt's count that its length does
-    /// not hold; its place is the descriptor's.
+    /// A length that the descriptor cannot have, or an extended interrupt's count that its length
+    /// does not hold; its place is the descriptor's.
     BadItem,
     /// The bytes end without an end tag; its place is that end.
     NoEnd,

@@ -16,7 +16,8 @@ pub(crate) struct Head {
     pub(crate) size: u16,
 }
 
-/// How the descriptor at the front of the bytes begins; None where its tag and length are not whole.
+/// How the descriptor at the front of the bytes begins; None where its tag and length are not
+/// whole.
 pub(crate) fn head_of(bytes: &[u8]) -> Option<Head>
     ensures head { result ≡ head_of bytes.now }
     ensures lead { IfSome result (λ head. 1 ≤ head.lead) }

@@ -14,10 +14,10 @@ use std::alloc::Global;
 /// The items that the bytes hold, up to the first end tag, which is the last of them. What stands
 /// behind it is not looked at.
 ///
-/// Faults, of the first item that has one, at its place: E401 where the bytes end within its tag and
-/// length; E402 where it cannot have that length; E401 where the bytes end within it; E402 where the
-/// numbers of an extended interrupt descriptor go past it. E403 where no end tag comes, at the end of
-/// the bytes. Or want of memory.
+/// Faults, of the first item that has one, at its place: E401 where the bytes end within its tag
+/// and length; E402 where it cannot have that length; E401 where the bytes end within it; E402
+/// where the numbers of an extended interrupt descriptor go past it. E403 where no end tag comes,
+/// at the end of the bytes. Or want of memory.
 pub fn items(alloc: Global, bytes: &[u8]) -> Result<Vec<Item>, ResourceFault>
     ensures gives { ReadsAs (λ items. items.items) result (items_of bytes.now) }
     ensures place { IfErr result (StandsWithin (length bytes.now)) }

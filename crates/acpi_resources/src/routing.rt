@@ -24,16 +24,16 @@ use std::alloc::Global;
 /// Where the interrupt pins go that a `_PRT` lists, in its order.
 ///
 /// An element is a package of an address, a pin from 0 to 3, a source and an index. With source 0
-/// the index is the number of a global interrupt, which is level triggered and active low. A name as
-/// source names a link device, whose items, those of its `_CRS`, stand in `links` (of two pairs of one
-/// device the first counts): the first interrupt of the first item that lists interrupts is taken, as
-/// that item says that it is signalled. The number of an interrupt of the ISA bus is the one to which
-/// [`Madt::isa_route`] sends it, or its own without a MADT.
+/// the index is the number of a global interrupt, which is level triggered and active low. A name
+/// as source names a link device, whose items, those of its `_CRS`, stand in `links` (of two pairs
+/// of one device the first counts): the first interrupt of the first item that lists interrupts is
+/// taken, as that item says that it is signalled. The number of an interrupt of the ISA bus is the
+/// one to which [`Madt::isa_route`] sends it, or its own without a MADT.
 ///
-/// Faults, of the first element that has one, by its number: E411 where it is no such package, or its
-/// index is 2^32 or more with source 0; E412 where its name names nothing, or a device that is not
-/// among the links, that has no item of interrupts, or none in the first. E411 of element 0 where the
-/// value is no package. Or want of memory.
+/// Faults, of the first element that has one, by its number: E411 where it is no such package, or
+/// its index is 2^32 or more with source 0; E412 where its name names nothing, or a device that is
+/// not among the links, that has no item of interrupts, or none in the first. E411 of element 0
+/// where the value is no package. Or want of memory.
 pub fn routes(
     alloc: Global,
     prt: &Value,

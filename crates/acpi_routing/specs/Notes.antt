@@ -24,7 +24,9 @@ use Rattle.aml_verify.specs.declared.checked.Checked.{Checked}
 -- an element that says nothing
 unfoldable pub entry_note : ℕ → List ℕ
 entry_note number =
-    joined (codes "element " ∷ decimal number ∷ codes " of the _PRT is no package of an address, a pin from 0 to 3, a source (a name, or 0) and an index" ∷ [])
+    joined (codes "element " ∷ decimal number
+    ∷ codes " of the _PRT is no package of an address, a pin from 0 to 3, a source (a name, or 0) and an index"
+    ∷ [])
 
 -- what stands behind the path of a link whose bytes are no list
 unfoldable pub link_part : ResourceRefusal → List ℕ

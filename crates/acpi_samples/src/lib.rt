@@ -31,8 +31,8 @@ fn byte_sum(bytes: &[u8]) -> u8 {
     sum
 }
 
-/// A table of a signature and a revision (ACPI 6.5, 5.2.6), and of at most 64,999 bytes behind its header;
-/// the length and the checksum fit, what else the header has is 0.
+/// A table of a signature and a revision (ACPI 6.5, 5.2.6), and of at most 64,999 bytes behind its
+/// header; the length and the checksum fit, what else the header has is 0.
 pub fn table_of(
     alloc: Global,
     signature: [u8; 4],
@@ -66,8 +66,8 @@ pub fn changed(alloc: Global, table: &[u8], changes: &[(usize, u8)]) -> Result<V
     Ok(changed)
 }
 
-/// A method MAIN of so many arguments, whose body has at most 57 bytes and begins 43 bytes behind the
-/// start of its table, where it is the first there.
+/// A method MAIN of so many arguments, whose body has at most 57 bytes and begins 43 bytes behind
+/// the start of its table, where it is the first there.
 pub fn method_of(alloc: Global, arguments: u8, body: &[u8]) -> Result<Vec<u8>, AllocError>
     ensures { IfOk result (λ method. drop 7 method.items ≡ body.now) }
 {

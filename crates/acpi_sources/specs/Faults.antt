@@ -64,7 +64,8 @@ cause_text (Load cause) = load_cause_text cause
 cause_text (Resources cause) = resource_cause_text cause
 cause_text (Routes cause) = route_cause_text cause
 
--- where it is, as it is printed behind that: the table and the byte, the byte alone, the line, or the element
+-- where it is, as it is printed behind that: the table and the byte, the byte alone, the line, or
+-- the element
 unfoldable pub where_text : Where → List ℕ
 where_text place.Nowhere = []
 where_text (place.Table table at) = joined (codes " " ∷ decimal table ∷ codes " " ∷ decimal at ∷ [])
@@ -74,7 +75,8 @@ where_text (place.Element element) = joined (codes " " ∷ decimal element ∷ [
 
 -- the line of a fault
 abbrev pub fault_line : Fault → List ℕ
-fault_line fault = joined (codes "fault " ∷ cause_text fault.cause ∷ where_text fault.at ∷ codes "\n" ∷ [])
+fault_line fault =
+    joined (codes "fault " ∷ cause_text fault.cause ∷ where_text fault.at ∷ codes "\n" ∷ [])
 
 -- why a file has no bytes
 abbrev pub source_fault : SourceFault → Fault

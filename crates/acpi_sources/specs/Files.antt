@@ -18,7 +18,8 @@ Answers F = F → List ℕ → Result (List ℕ) SourceFault → F → Type 0
 
 -- a table whose Externals in Ifs that never run can be read; what is no table stays
 abbrev pub IsOpened : List ℕ → List ℕ → Type 0
-IsOpened before after = (IsTable before → after ≡ (table_opened before).0) × ((IsTable before → ⊥) → after ≡ before)
+IsOpened before after =
+    (IsTable before → after ≡ (table_opened before).0) × ((IsTable before → ⊥) → after ≡ before)
 
 -- a table as it is loaded: opened where that is wanted, else as it is
 abbrev pub Prepares : Bool → List ℕ → List ℕ → Type 0
@@ -40,10 +41,13 @@ abbrev pub Opens : {F : Type 0} → Answers F → F → List ℕ → Result (Lis
 Opens answers old name (Ok bytes) new = answers old name (Ok bytes) new × (length bytes ≤ limit)
 Opens answers old name (Err f) new =
     ((e : SourceFault) × answers old name (Err e) new × (f ≡ source_fault e))
-    ⊎ ((bytes : List ℕ) × answers old name (Ok bytes) new × (limit < length bytes) × (f ≡ nowhere cause.File))
+    ⊎ ((bytes : List ℕ) × answers old name (Ok bytes) new × (limit < length bytes)
+    × (f ≡ nowhere cause.File))
 
--- files are read one after the other, up to the first that cannot be had; before each, memory may be wanted
-abbrev pub OpensAll : {F : Type 0} → Answers F → F → List (List ℕ) → Result (List (List ℕ)) Fault → F → Type 0
+-- files are read one after the other, up to the first that cannot be had; before each, memory may
+-- be wanted
+abbrev pub OpensAll : {F : Type 0} → Answers F → F → List (List ℕ) →
+    Result (List (List ℕ)) Fault → F → Type 0
 OpensAll answers old [] (Ok all) new = (all ≡ []) × (new ≡ old)
 OpensAll answers old (name ∷ names) (Ok all) new =
     (bytes : List ℕ) × (mid : _) × (more : List (List ℕ)) × Opens answers old name (Ok bytes) mid
@@ -51,7 +55,8 @@ OpensAll answers old (name ∷ names) (Ok all) new =
 OpensAll answers old [] (Err f) new = (f ≡ nowhere cause.NoMemory) × (new ≡ old)
 OpensAll answers old (name ∷ names) (Err f) new =
     ((f ≡ nowhere cause.NoMemory) × (new ≡ old)) ⊎ (Opens answers old name (Err f) new
-    ⊎ ((bytes : List ℕ) × (mid : _) × Opens answers old name (Ok bytes) mid × OpensAll answers mid names (Err f) new))
+    ⊎ ((bytes : List ℕ) × (mid : _) × Opens answers old name (Ok bytes) mid
+    × OpensAll answers mid names (Err f) new))
 
 -- the bytes of files that were read
 abbrev pub files_of : {A B E : Type 0} → Result (Vec (Vec ℕ A) B) E → Result (List (List ℕ)) E

@@ -9,10 +9,12 @@ use Rattle.acpi_sources.specs.declared.hex_lines.HexLines.{HexLines}
 use Rattle.acpi_sources.specs.declared.source.SourceFault.{SourceFault}
 use Rattle.acpi_sources.specs.declared.source.SourceFault.TheVariants.{File, NoMemory}
 
--- what was read of a stream: its next bytes; and where they are told to be whole, all and at most 16 MiB
+-- what was read of a stream: its next bytes; and where they are told to be whole, all and at most
+-- 16 MiB
 abbrev pub IsRead : Option (List ℕ) → Option (List ℕ) → Input → Type 0
 IsRead old new read =
-    Consumes old new (vec_items read.bytes) × (read.is_whole ≡ true → IsAtEnd new × (length (vec_items read.bytes) ≤ limit))
+    Consumes old new (vec_items read.bytes)
+    × (read.is_whole ≡ true → IsAtEnd new × (length (vec_items read.bytes) ≤ limit))
 
 -- all bytes of a stream, at most 16 MiB
 abbrev pub IsAllOf : Option (List ℕ) → Option (List ℕ) → List ℕ → Type 0
@@ -22,7 +24,8 @@ IsAllOf old new bytes = Consumes old new bytes × IsAtEnd new × (length bytes �
 abbrev pub NextLine : List ℕ → Option (List ℕ) → List ℕ → Type 0
 NextLine bytes None rest = (bytes ≡ []) × (rest ≡ [])
 NextLine bytes (Some line) rest =
-    All (λ b. not (b == 10) ≡ true) line × ((bytes ≡ line ++ (10 ∷ rest)) ⊎ ((bytes ≡ line) × (0 < length line) × (rest ≡ [])))
+    All (λ b. not (b == 10) ≡ true) line
+    × ((bytes ≡ line ++ (10 ∷ rest)) ⊎ ((bytes ≡ line) × (0 < length line) × (rest ≡ [])))
 
 -- a first line that may go on, as the input failed behind it
 abbrev pub IsTorn : Bool → List ℕ → List ℕ → Type 0
@@ -32,8 +35,11 @@ IsTorn whole line bytes = (whole ≡ false) × (length line ≡ length bytes)
 abbrev pub hex_answers : HexLines → List ℕ → Result (List ℕ) SourceFault → HexLines → Type 0
 hex_answers old name (Ok bytes) new =
     (name ≡ codes "@") × (old.is_whole ≡ true)
-    × ((line : List ℕ) × NextLine old.lines.rest.now (Some line) new.lines.rest.now × (decode_of line ≡ Ok bytes))
+    × ((line : List ℕ) × NextLine old.lines.rest.now (Some line) new.lines.rest.now
+    × (decode_of line ≡ Ok bytes))
 hex_answers old name (Err File) new =
-    (name ≡ codes "@" → ⊥) ⊎ ((old.is_whole ≡ false) ⊎ (NextLine old.lines.rest.now None new.lines.rest.now
-    ⊎ ((line : List ℕ) × (e : FromHexError) × NextLine old.lines.rest.now (Some line) new.lines.rest.now × (decode_of line ≡ Err e))))
+    (name ≡ codes "@" → ⊥)
+    ⊎ ((old.is_whole ≡ false) ⊎ (NextLine old.lines.rest.now None new.lines.rest.now
+    ⊎ ((line : List ℕ) × (e : FromHexError)
+    × NextLine old.lines.rest.now (Some line) new.lines.rest.now × (decode_of line ≡ Err e))))
 hex_answers old name (Err NoMemory) new = Unit {0}

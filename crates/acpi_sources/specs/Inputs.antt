@@ -14,7 +14,10 @@ abbrev pub tables_of : Inputs → List (List ℕ)
 tables_of inputs = map vec_items (vec_items inputs.files)
 
 -- all is read that is named, in this order: the files
-abbrev pub OpensInputs : {F : Type 0} → Answers F → F → InputNames → Result Inputs Fault → F → Type 0
+abbrev pub OpensInputs : {F : Type 0} → Answers F → F → InputNames →
+    Result Inputs Fault → F → Type 0
 OpensInputs answers old names (Ok inputs) new =
-    OpensAll (prepared names.dead_externals answers) old (file_names names) (Ok (tables_of inputs)) new
-OpensInputs answers old names (Err f) new = OpensAll (prepared names.dead_externals answers) old (file_names names) (Err f) new
+    OpensAll (prepared names.dead_externals answers) old (file_names names)
+    (Ok (tables_of inputs)) new
+OpensInputs answers old names (Err f) new =
+    OpensAll (prepared names.dead_externals answers) old (file_names names) (Err f) new

@@ -9,11 +9,11 @@ use acpi_text::{RunFault, put};
 use std::alloc::{AllocError, Global};
 use std::io::Write;
 
-/// Prints a fault's line: `fault E103 BadSum 1 9`, with number and name of what is wrong, and behind
-/// them where: the table and the byte in it, a byte, a line, an element, or nothing.
+/// Prints a fault's line: `fault E103 BadSum 1 9`, with number and name of what is wrong, and
+/// behind them where: the table and the byte in it, a byte, a line, an element, or nothing.
 ///
-/// Only a fault that has a place needs memory to be told. At Err the writer holds a beginning of the
-/// line.
+/// Only a fault that has a place needs memory to be told. At Err the writer holds a beginning of
+/// the line.
 pub fn list_fault<W: Write>(alloc: Global, out: &mut W, fault: Fault) -> Result<(), RunFault>
     ensures { Lists result (W.contents out.old) (W.contents out.new) (fault_line fault) }
 {

@@ -1,6 +1,6 @@
-//! Where the files of a command come from, which tables they are, and how what is wrong is told: the
-//! disk, and the lines of standard input (`source`, `disk`, `input`, `hex_lines`, `inputs`), a file's
-//! table (`any_table`), faults and their lines (`fault`, `fault_line`).
+//! Where the files of a command come from, which tables they are, and how what is wrong is told:
+//! the disk, and the lines of standard input (`source`, `disk`, `input`, `hex_lines`, `inputs`), a
+//! file's table (`any_table`), faults and their lines (`fault`, `fault_line`).
 #![tactic(auto)]
 
 mod any_table;

@@ -74,8 +74,8 @@ fn read_prepared<F: Source>(
     Ok(bytes)
 }
 
-/// Reads tables of at most [`INPUT_LIMIT`] bytes each, one after the other; where that is wanted, with
-/// the Ifs round their Externals opened.
+/// Reads tables of at most [`INPUT_LIMIT`] bytes each, one after the other; where that is wanted,
+/// with the Ifs round their Externals opened.
 pub fn read_files<F: Source>(
     alloc: Global,
     names: &[&str],

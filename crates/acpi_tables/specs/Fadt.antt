@@ -12,7 +12,8 @@ IsFadt bytes = IsTableOf (codes "FACP") bytes
 
 -- the number at a place, where the bytes reach its end
 abbrev pub field_at : ℕ → ℕ → List ℕ → Option ℕ
-field_at at size bytes = if nat_le (at + size) (length bytes) then Some (number_at at size bytes) else None
+field_at at size bytes =
+    if nat_le (at + size) (length bytes) then Some (number_at at size bytes) else None
 
 -- its header, and the fields that it reaches
 pub record HasFadt (bytes : List ℕ) (fadt : Fadt) : Type 0 where

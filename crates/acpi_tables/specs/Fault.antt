@@ -15,4 +15,5 @@ check fails cause at = record { fails = fails; cause = cause; at = at }
 -- the fault of the first check that fails
 abbrev pub first_fault : List Check → Option TableFault
 first_fault [] = None
-first_fault (c ∷ cs) = if c.fails then Some (record { cause = c.cause; at = c.at }) else first_fault cs
+first_fault (c ∷ cs) =
+    if c.fails then Some (record { cause = c.cause; at = c.at }) else first_fault cs

@@ -20,7 +20,8 @@ is_edge flags = not (flags / 4 % 4 == 3)
 
 -- where an override sends a source; with none it keeps its number, as ISA has it
 abbrev pub route : ℕ → Option Entry → Isa
-route source (Some (InterruptSourceOverride bus from number flags)) = record { number = number; edge = is_edge flags; low = is_low flags }
+route source (Some (InterruptSourceOverride bus from number flags)) =
+    record { number = number; edge = is_edge flags; low = is_low flags }
 route source _ = record { number = source; edge = true; low = false }
 
 -- where a source goes: by the first override of it

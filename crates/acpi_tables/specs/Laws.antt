@@ -7,4 +7,5 @@ use Rattle.acpi_tables.specs.Structure.{AreStructures, structures}
 -- from the front on, and are as long together as the bytes
 abbrev pub StructuresAreFound : Type 0
 StructuresAreFound =
-    (ss : List (List ℕ)) (bytes : List ℕ) → AreStructures ss bytes ↔ ((structures bytes ≡ ss) × (sum_by length ss ≡ length bytes))
+    (ss : List (List ℕ)) (bytes : List ℕ) →
+    AreStructures ss bytes ↔ ((structures bytes ≡ ss) × (sum_by length ss ≡ length bytes))

@@ -7,7 +7,8 @@ use Rattle.acpi_tables.specs.declared.fault.TableCause.TheVariants.{Short, BadLe
 use Rattle.acpi_tables.specs.declared.rsdp.Rsdp.{Rsdp}
 use Rattle.acpi_tables.specs.declared.rsdp.RsdpExtension.{RsdpExtension}
 
--- what stands behind the first 20 bytes: a length of its own within the bytes, and a sum over that length
+-- what stands behind the first 20 bytes: a length of its own within the bytes, and a sum over that
+-- length
 pub record IsExtended (bytes : List ℕ) : Type 0 where
   pub long_enough : 36 ≤ length bytes
   pub whole : 36 ≤ number_at 20 4 bytes
@@ -49,7 +50,8 @@ pub record HasRsdp (bytes : List ℕ) (rsdp : Rsdp) : Type 0 where
 abbrev pub extension_checks : List ℕ → List Check
 extension_checks bytes =
     check (nat_lt (length bytes) 36) Short (length bytes)
-    ∷ check (nat_lt (number_at 20 4 bytes) 36 || nat_lt (length bytes) (number_at 20 4 bytes)) BadLength 20
+    ∷ check (nat_lt (number_at 20 4 bytes) 36 || nat_lt (length bytes) (number_at 20 4 bytes))
+    BadLength 20
     ∷ check (not (sum (take (number_at 20 4 bytes) bytes) % 256 == 0)) BadSum 32
     ∷ []
 

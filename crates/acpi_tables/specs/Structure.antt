@@ -8,8 +8,14 @@ use Rattle.acpi_tables.specs.declared.entry.Entry.TheVariants.{LocalApic, IoApic
 -- how many bytes a type lays out: of a type that is not listed, its type and length alone
 unfoldable pub layout_size : ℕ → ℕ
 layout_size kind =
-    if kind == 0 then 8 else (if kind == 1 then 12 else (if kind == 2 then 10 else (if kind == 3 then 8
-    else (if kind == 4 then 6 else (if kind == 5 then 12 else (if kind == 9 then 16 else (if kind == 10 then 12
+    if kind == 0 then 8
+    else (if kind == 1 then 12
+    else (if kind == 2 then 10
+    else (if kind == 3 then 8
+    else (if kind == 4 then 6
+    else (if kind == 5 then 12
+    else (if kind == 9 then 16
+    else (if kind == 10 then 12
     else 2)))))))
 
 -- a structure: its second byte is the number of its bytes, which cover its type's layout
@@ -21,12 +27,15 @@ pub record IsStructure (bytes : List ℕ) : Type 0 where
 -- these structures, each where the one before it ends, are all the bytes
 abbrev pub AreStructures : List (List ℕ) → List ℕ → Type 0
 AreStructures [] bytes = bytes ≡ []
-AreStructures (s ∷ ss) bytes = IsStructure s × ((rest : List ℕ) × (bytes ≡ s ++ rest) × AreStructures ss rest)
+AreStructures (s ∷ ss) bytes =
+    IsStructure s × ((rest : List ℕ) × (bytes ≡ s ++ rest) × AreStructures ss rest)
 
--- whether a structure stands at the front: a length that covers the layout and ends within the bytes
+-- whether a structure stands at the front: a length that covers the layout and ends within the
+-- bytes
 unfoldable pub begins_structure : List ℕ → Bool
 begins_structure bytes =
-    nat_le 2 (length bytes) && nat_le (layout_size (slice_index bytes 0)) (slice_index bytes 1) && nat_le (slice_index bytes 1) (length bytes)
+    nat_le 2 (length bytes) && nat_le (layout_size (slice_index bytes 0)) (slice_index bytes 1)
+    && nat_le (slice_index bytes 1) (length bytes)
 
 -- the structures at the front, so many at most, each where the one before it ends
 unfoldable pub structures_up_to : ℕ → List ℕ → List (List ℕ)
@@ -49,13 +58,15 @@ io_apic bytes = IoApic (number_at 2 1 bytes) (number_at 4 4 bytes) (number_at 8 
 
 abbrev pub interrupt_source_override : List ℕ → Entry
 interrupt_source_override bytes =
-    InterruptSourceOverride (number_at 2 1 bytes) (number_at 3 1 bytes) (number_at 4 4 bytes) (number_at 8 2 bytes)
+    InterruptSourceOverride (number_at 2 1 bytes) (number_at 3 1 bytes) (number_at 4 4 bytes)
+    (number_at 8 2 bytes)
 
 abbrev pub nmi_source : List ℕ → Entry
 nmi_source bytes = NmiSource (number_at 2 2 bytes) (number_at 4 4 bytes)
 
 abbrev pub local_apic_nmi : List ℕ → Entry
-local_apic_nmi bytes = LocalApicNmi (number_at 2 1 bytes) (number_at 3 2 bytes) (number_at 5 1 bytes)
+local_apic_nmi bytes =
+    LocalApicNmi (number_at 2 1 bytes) (number_at 3 2 bytes) (number_at 5 1 bytes)
 
 abbrev pub local_apic_address_override : List ℕ → Entry
 local_apic_address_override bytes = LocalApicAddressOverride (number_at 4 8 bytes)
@@ -64,16 +75,21 @@ abbrev pub local_x2apic : List ℕ → Entry
 local_x2apic bytes = LocalX2Apic (number_at 4 4 bytes) (number_at 8 4 bytes) (number_at 12 4 bytes)
 
 abbrev pub local_x2apic_nmi : List ℕ → Entry
-local_x2apic_nmi bytes = LocalX2ApicNmi (number_at 2 2 bytes) (number_at 4 4 bytes) (number_at 8 1 bytes)
+local_x2apic_nmi bytes =
+    LocalX2ApicNmi (number_at 2 2 bytes) (number_at 4 4 bytes) (number_at 8 1 bytes)
 
 -- what a structure says, by its type; of a type that is not listed, its type and length
 unfoldable pub entry_of : List ℕ → Entry
 entry_of bytes =
     let kind = slice_index bytes 0 in
-    if kind == 0 then local_apic bytes else (if kind == 1 then io_apic bytes
-    else (if kind == 2 then interrupt_source_override bytes else (if kind == 3 then nmi_source bytes
-    else (if kind == 4 then local_apic_nmi bytes else (if kind == 5 then local_apic_address_override bytes
-    else (if kind == 9 then local_x2apic bytes else (if kind == 10 then local_x2apic_nmi bytes
+    if kind == 0 then local_apic bytes
+    else (if kind == 1 then io_apic bytes
+    else (if kind == 2 then interrupt_source_override bytes
+    else (if kind == 3 then nmi_source bytes
+    else (if kind == 4 then local_apic_nmi bytes
+    else (if kind == 5 then local_apic_address_override bytes
+    else (if kind == 9 then local_x2apic bytes
+    else (if kind == 10 then local_x2apic_nmi bytes
     else Other kind (slice_index bytes 1))))))))
 
 -- what the structures at the front say, in order

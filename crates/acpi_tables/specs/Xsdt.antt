@@ -30,4 +30,5 @@ pub record HasXsdt (bytes : List ℕ) (xsdt : Xsdt) : Type 0 where
 abbrev pub xsdt_checks : List ℕ → List Check
 xsdt_checks bytes =
     table_checks (codes "XSDT") bytes
-    ++ check (not ((length bytes - 36) % 8 == 0)) BadEntry (length bytes - (length bytes - 36) % 8) ∷ []
+    ++ check (not ((length bytes - 36) % 8 == 0)) BadEntry
+    (length bytes - (length bytes - 36) % 8) ∷ []

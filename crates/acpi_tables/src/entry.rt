@@ -14,7 +14,8 @@ pub enum Entry {
         id: u8,
         flags: u32,
     },
-    /// Type 1, an I/O APIC at a physical address, whose inputs are the global interrupts from `base` on.
+    /// Type 1, an I/O APIC at a physical address, whose inputs are the global interrupts from
+    /// `base` on.
     IoApic {
         id: u8,
         address: u32,
@@ -112,7 +113,8 @@ pub fn first_structure(bytes: &[u8]) -> Option<&[u8]>
     Some(&bytes[..size])
 }
 
-// The number of bytes that a type lays out: of a type that is not listed, its type and length alone.
+// The number of bytes that a type lays out: of a type that is not listed, its type and length
+// alone.
 #[tactic(auto, unfolding(crate::specs::Structure::layout_size))]
 fn smallest_size(kind: u8) -> usize
     ensures value { result ≡ layout_size kind }

@@ -35,8 +35,8 @@ impl<'a> Header<'a> {
 
     /// Reads the header of a table that fills the bytes.
     ///
-    /// Faults, in this order: E101 below 36 bytes, at the number of bytes; E102 at 4 where the length
-    /// is not the number of bytes; E103 at 9 where the bytes do not sum to 0 modulo 256.
+    /// Faults, in this order: E101 below 36 bytes, at the number of bytes; E102 at 4 where the
+    /// length is not the number of bytes; E103 at 9 where the bytes do not sum to 0 modulo 256.
     pub fn read(bytes: &'a [u8]) -> Result<Self, TableFault>
         ensures table { IsOk result ↔ IsTable bytes.now }
         ensures fields { IfOk result (λ header. HasHeader bytes.now header) }

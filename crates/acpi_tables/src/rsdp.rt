@@ -43,10 +43,10 @@ impl<'a> Rsdp<'a> {
 
     /// Reads the RSDP at the front of the bytes; bytes behind it are ignored.
     ///
-    /// Faults, in this order: E101 below 20 bytes, at the number of bytes; E104 at 0; E103 at 8 where
-    /// the first 20 bytes do not sum to 0 modulo 256. From revision 2 on also E101 below 36 bytes, at
-    /// the number of bytes; E102 at 20 where the length is below 36 or past the bytes; E103 at 32
-    /// where the bytes of that length do not sum to 0 modulo 256.
+    /// Faults, in this order: E101 below 20 bytes, at the number of bytes; E104 at 0; E103 at 8
+    /// where the first 20 bytes do not sum to 0 modulo 256. From revision 2 on also E101 below 36
+    /// bytes, at the number of bytes; E102 at 20 where the length is below 36 or past the bytes;
+    /// E103 at 32 where the bytes of that length do not sum to 0 modulo 256.
     pub fn read(bytes: &'a [u8]) -> Result<Self, TableFault>
         ensures table { IsOk result ↔ IsRsdp bytes.now }
         ensures fields { IfOk result (λ rsdp. HasRsdp bytes.now rsdp) }

@@ -54,7 +54,8 @@ const ROWS: &[(&[u8], &[usize])] = &[
         \x0d\x00\x5b\x81\x0bREG0\x01FLD0\x08\xa0\x09\x00\x15FOO1\x08\x01",
         &[83],
     ),
-    // Behind a region whose place is a Load in 62 Nots, as deep as a term may be: its target is none.
+    // Behind a region whose place is a Load in 62 Nots, as deep as a term may be: its target is
+    // none.
     (
         b"\x5b\x80REG0\x00\
         \x80\x80\x80\x80\x80\x80\x80\x80\x80\x80\x80\x80\x80\x80\x80\x80\x80\x80\x80\x80\
@@ -121,8 +122,8 @@ const ROWS: &[(&[u8], &[usize])] = &[
     (b"\x5b\x82\x09DEV0\xa0\x09\x00\x15FOO1\x08\x01", &[]),
 ];
 
-/// A DSDT with such a module, and what becomes of it: each of the places holds a Scope's opcode, and
-/// the checksum fits.
+/// A DSDT with such a module, and what becomes of it: each of the places holds a Scope's opcode,
+/// and the checksum fits.
 fn made(alloc: Global, module: &[u8], places: &[usize]) -> Result<(Vec<u8>, Vec<u8>), AllocError> {
     let table = table_of(alloc, *b"DSDT", 2, module)?;
     let mut wanted = module.to_vec(alloc)?;

@@ -1,5 +1,6 @@
-//! Tests of tables, of the namespace, of resource descriptors and of routes, over the public calls of
-//! their crates alone. They stand in a crate of their own, since a crate with tests is proved twice.
+//! Tests of tables, of the namespace, of resource descriptors and of routes, over the public calls
+//! of their crates alone. They stand in a crate of their own, since a crate with tests is proved
+//! twice.
 #![tactic(auto)]
 
 #[cfg(test)]

@@ -143,8 +143,8 @@ fn count_of(alloc: Global) -> Result<usize, LoadFault> {
     Ok(Namespace::load(alloc, &[&DSDT], HOST)?.len())
 }
 
-/// Also for a run in which an allocation fails: the load is then refused for want of memory, and the
-/// next one has its answer.
+/// Also for a run in which an allocation fails: the load is then refused for want of memory, and
+/// the next one has its answer.
 #[test]
 fn want_of_memory(rt: HostRuntime) -> Result<(), Fail> {
     let count = match count_of(rt.alloc()) {

@@ -25,7 +25,8 @@ const SEGMENTS: &[&[[u8; 4]]] = &[
     &[*b"_SB_", *b"DEV0"],
 ];
 
-/// The number of a scope's path, a name, and the numbers of what it spells and of what it names there.
+/// The number of a scope's path, a name, and the numbers of what it spells and of what it names
+/// there.
 const NAMES: &[(usize, &[u8], [Option<usize>; 2])] = &[
     // A lone segment is searched upward.
     (0, b"PCI0", [Some(3), Some(3)]),

@@ -1,5 +1,5 @@
-// Calls of resource descriptors and of routes that the program does not show: a descriptor that no buffer holds, values
-// and elements that no table has, and a link that is listed twice.
+// Calls of resource descriptors and of routes that the program does not show: a descriptor that no
+// buffer holds, values and elements that no table has, and a link that is listed twice.
 
 use acpi_resources::{
     Item, RouteCause, RouteFault, items, items_are_spelled, refusals_are_first, routes,
@@ -9,7 +9,8 @@ use aml_values::{Bytes, Element, Package, Value};
 use std::alloc::Global;
 use std::test::Fail;
 
-/// The base and the length of the first item, where that is memory at a fixed place, and how many there are.
+/// The base and the length of the first item, where that is memory at a fixed place, and how many
+/// there are.
 fn first_memory(found: &[Item]) -> Option<(u32, u32, usize)> {
     match found.first()? {
         Item::FixedMemory { base, length } => Some((*base, *length, found.len())),

@@ -1,5 +1,5 @@
-// Readers' calls that the program does not show. What it prints of tables, and their faults, are told by the rows of
-// crates/acpicheck/rows.
+// Readers' calls that the program does not show. What it prints of tables, and their faults, are
+// told by the rows of crates/acpicheck/rows.
 
 use acpi_samples::{DSDT, table_of};
 use acpi_tables::{

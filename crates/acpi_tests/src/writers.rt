@@ -1,4 +1,5 @@
-// A listing of routes into a writer that takes a byte at a time, and into one that takes so many bytes and then fails.
+// A listing of routes into a writer that takes a byte at a time, and into one that takes so many
+// bytes and then fails.
 
 use acpi_resource_text::list_routes;
 use acpi_resources::{GlobalInterrupt, Pin, Polarity, Route, Trigger};

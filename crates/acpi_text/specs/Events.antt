@@ -7,7 +7,8 @@ use Rattle.aml_objects.specs.Entries.{Entries}
 use Rattle.aml_regions.specs.declared.access.Access.{Access}
 use Rattle.aml_regions.specs.Events.{Event, Read, Written, Notified, Slept, Stalled}
 
--- an address space (ACPI 6.5, 5.5.2.4): the word that a register file's text has for it, or else its number
+-- an address space (ACPI 6.5, 5.5.2.4): the word that a register file's text has for it, or else
+-- its number
 abbrev pub space_text : ℕ → List ℕ
 space_text space =
     if space == 0 then codes "mem"
@@ -27,7 +28,8 @@ access_line verb access value = joined (
 
 -- the line of a Notify of the object with this text
 unfoldable pub notify_line : List ℕ → ℕ → List ℕ
-notify_line thing value = joined (codes "notify " ∷ thing ∷ codes " 0x" ∷ hex value ∷ codes "\n" ∷ [])
+notify_line thing value =
+    joined (codes "notify " ∷ thing ∷ codes " 0x" ∷ hex value ∷ codes "\n" ∷ [])
 
 -- the line of a Sleep or a Stall of some time
 unfoldable pub wait_line : List ℕ → ℕ → List ℕ

@@ -18,7 +18,8 @@ use Rattle.aml_paths.specs.declared.scope.ObjectId.{ObjectId}
 
 -- the first path of the object with a number, where there is one
 abbrev pub object_text : Entries → ObjectId → List ℕ
-object_text entries id = if is_some (object_at entries id.0) then path_text (path_of entries id.0) else codes "unresolved"
+object_text entries id = if is_some (object_at entries id.0) then path_text (path_of entries id.0)
+    else codes "unresolved"
 
 -- what is under a name of data: its kind, and how many bytes or elements it has
 unfoldable pub content_text : Content → List ℕ
@@ -27,7 +28,8 @@ content_text (content.Buffer count) = codes "buffer " ++ decimal count
 content_text (content.String count) = codes "string " ++ decimal count
 content_text (content.Package count) = codes "package " ++ decimal count
 
--- the kind of an object, with a method's arguments and a field's bits, where integers have so many bits
+-- the kind of an object, with a method's arguments and a field's bits, where integers have so many
+-- bits
 unfoldable pub kind_text : ℕ → Object → List ℕ
 kind_text width object.Scope = codes "scope"
 kind_text width object.Device = codes "device"
@@ -40,7 +42,8 @@ kind_text width (object.Data name) = content_text name.content
 kind_text width (object.Region region) = codes "region"
 kind_text width object.DataTableRegion = codes "region"
 kind_text width (object.Field field) = codes "field " ++ decimal field.bits
-kind_text width (object.BufferField field) = codes "bufferfield " ++ decimal (size_bits width field.size)
+kind_text width (object.BufferField field) =
+    codes "bufferfield " ++ decimal (size_bits width field.size)
 kind_text width (object.Mutex level) = codes "mutex"
 kind_text width object.GlobalLock = codes "mutex"
 kind_text width object.Event = codes "event"
@@ -52,7 +55,8 @@ entry_text ns (Alias id) = codes "alias " ++ path_text (path_of ns.entries id.0)
 
 -- the line of a path and what stands under it
 unfoldable pub entry_line : Shown → Path × Entry → List ℕ
-entry_line ns (path, entry) = joined (path_text path ∷ codes " " ∷ entry_text ns entry ∷ codes "\n" ∷ [])
+entry_line ns (path, entry) =
+    joined (path_text path ∷ codes " " ∷ entry_text ns entry ∷ codes "\n" ∷ [])
 
 -- the lines of a namespace's names, in order of definition
 abbrev pub names_text : Shown → List ℕ

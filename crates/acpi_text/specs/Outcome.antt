@@ -20,7 +20,8 @@ result_line entries value = joined (codes "result " ∷ value_text entries value
 -- the line of an AML error: its table, place, number and name
 unfoldable pub error_line : AmlError → List ℕ
 error_line error =
-    joined (codes "error " ∷ decimal error.table ∷ codes " " ∷ decimal error.at ∷ codes " " ∷ aml_cause_text error.cause ∷ codes "\n" ∷ [])
+    joined (codes "error " ∷ decimal error.table ∷ codes " " ∷ decimal error.at ∷ codes " "
+    ∷ aml_cause_text error.cause ∷ codes "\n" ∷ [])
 
 -- the line of an outcome
 abbrev pub outcome_line : Entries → Outcome → List ℕ

@@ -92,7 +92,8 @@ table_text (kind.Rsdp rsdp) = pointer_line rsdp
 table_text kind.Facs = codes "facs left out\n"
 table_text (kind.Xsdt xsdt) = header_line xsdt.header ++ flat_map address_line (listed xsdt)
 table_text (kind.Fadt fadt) = header_line fadt.header ++ fixed_lines fadt
-table_text (kind.Madt madt) = header_line madt.header ++ (interrupt_lines madt ++ flat_map structure_line (entries madt))
+table_text (kind.Madt madt) =
+    header_line madt.header ++ (interrupt_lines madt ++ flat_map structure_line (entries madt))
 table_text (kind.Other header) = header_line header
 
 -- what tables say, one after the other

@@ -28,8 +28,10 @@ unfoldable mutual
   pub value_text : Entries → Value → List ℕ
   value_text entries (Int n) = codes "0x" ++ hex n
   value_text entries (Buf bytes) = codes "buffer " ++ bytes_text bytes
-  value_text entries (Str characters) = joined (codes "string \"" ∷ escaped characters ∷ codes "\"" ∷ [])
-  value_text entries (Pkg elements) = joined (codes "package [" ∷ listed (element_texts entries elements) ∷ codes "]" ∷ [])
+  value_text entries (Str characters) =
+      joined (codes "string \"" ∷ escaped characters ∷ codes "\"" ∷ [])
+  value_text entries (Pkg elements) =
+      joined (codes "package [" ∷ listed (element_texts entries elements) ∷ codes "]" ∷ [])
 
   pub element_texts : Entries → Elements → List (List ℕ)
   element_texts entries none = []

@@ -31,13 +31,16 @@ cause_text cause.HeldDiffers = codes "V18 HeldDiffers"
 -- what stands behind the path of a method that is refused: its table, and the place and the cause
 unfoldable pub refused_part : ℕ → ℕ → List ℕ → List ℕ
 refused_part table at cause =
-    joined (codes " refused " ∷ decimal table ∷ codes " " ∷ decimal at ∷ codes " " ∷ cause ∷ codes "\n" ∷ [])
+    joined (codes " refused " ∷ decimal table ∷ codes " " ∷ decimal at ∷ codes " " ∷ cause
+    ∷ codes "\n" ∷ [])
 
--- what stands behind a method's path: that it is accepted, with the most steps, or refused, also since its body cannot be read
+-- what stands behind a method's path: that it is accepted, with the most steps, or refused, also
+-- since its body cannot be read
 unfoldable pub verdict_part : VerdictLine → List ℕ
 verdict_part (Accepted steps) = joined (codes " accepted " ∷ decimal steps ∷ codes "\n" ∷ [])
 verdict_part (Refused refusal) = refused_part refusal.table refusal.at (cause_text refusal.why)
-verdict_part (Unreadable table refusal) = refused_part table refusal.at (tree_cause_text refusal.cause)
+verdict_part (Unreadable table refusal) =
+    refused_part table refusal.at (tree_cause_text refusal.cause)
 
 -- the line of a verdict
 unfoldable pub verdict_line : List ℕ → VerdictLine → List ℕ

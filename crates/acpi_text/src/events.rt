@@ -15,9 +15,9 @@ use aml_regions::{Access, Event};
 use std::alloc::{AllocError, Global};
 use std::io::Write;
 
-/// Prints a line for each event, in their order: `read io 0x60 8 0x15` and `write io 0x60 8 0xb5` with
-/// space, address, width in bits and value, `notify \DEV0 0x80` with the first path of the object,
-/// `sleep 0xa` in milliseconds and `stall 0xa` in microseconds.
+/// Prints a line for each event, in their order: `read io 0x60 8 0x15` and `write io 0x60 8 0xb5`
+/// with space, address, width in bits and value, `notify \DEV0 0x80` with the first path of the
+/// object, `sleep 0xa` in milliseconds and `stall 0xa` in microseconds.
 ///
 /// At Err the writer holds a beginning of that text.
 pub fn list_events<W: Write>(

@@ -47,7 +47,8 @@ fn list_name<W: Write>(
     requires { id.0 < length (shown namespace.now).entries }
     ensures { let entries = (shown namespace.now).entries in
         (named : Path × Entry) → slice_get entries id.0 ≡ Some named
-        → Lists result (W.contents out.old) (W.contents out.new) (entry_line (shown namespace.now) named) }
+        → Lists result (W.contents out.old) (W.contents out.new)
+        (entry_line (shown namespace.now) named) }
 {
     let entry = namespace.entry(id).unwrap();
     let line = line_of(alloc, namespace, id, entry)?;

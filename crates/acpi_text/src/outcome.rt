@@ -14,8 +14,8 @@ use aml_values::Value;
 use std::alloc::{AllocError, Global};
 use std::io::Write;
 
-/// Prints how an evaluation ended: `result 0x2a` with the value, `result none`, `error 0 44 A1 Unset`
-/// with the error's table and place, or `out of steps`.
+/// Prints how an evaluation ended: `result 0x2a` with the value, `result none`, `error 0 44 A1
+/// Unset` with the error's table and place, or `out of steps`.
 ///
 /// At Err the writer holds a beginning of that line.
 pub fn list_evaluation<W: Write>(

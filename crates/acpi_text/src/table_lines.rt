@@ -55,7 +55,8 @@ fn line_of_words(alloc: Global, words: &[(&str, String)]) -> Result<String, Allo
 }
 
 fn push_word(line: &mut String, lead: &str, word: &str) -> Result<(), AllocError>
-    ensures { OnOk result (string_bytes line.new ≡ string_bytes line.old ++ (lead.now ++ word.now)) }
+    ensures { OnOk result
+        (string_bytes line.new ≡ string_bytes line.old ++ (lead.now ++ word.now)) }
 {
     write!(line, "{lead}{word}")
 }

@@ -18,8 +18,8 @@ use std::alloc::Global;
 use std::io::Write;
 use std::slice;
 
-/// Prints what tables say, one after the other: each its header's line, or `rsdp` or `facs left out`
-/// in place of it, and its contents on lines that begin with two spaces.
+/// Prints what tables say, one after the other: each its header's line, or `rsdp` or `facs left
+/// out` in place of it, and its contents on lines that begin with two spaces.
 ///
 /// At Err the writer holds a beginning of that text.
 pub fn list_tables<W: Write>(

@@ -18,8 +18,8 @@ use std::alloc::{AllocError, Global};
 use std::io::Write;
 
 /// Prints a value: an integer as `0x2a`; `buffer 0102`, of no bytes `buffer -`; `string "AB"`, with
-/// `\x` and two hex digits for what is no printable character; `package [E, E]`, in which an element
-/// is a value, the first path of the object that a name names, `unresolved` or `unset`.
+/// `\x` and two hex digits for what is no printable character; `package [E, E]`, in which an
+/// element is a value, the first path of the object that a name names, `unresolved` or `unset`.
 ///
 /// At Err the writer holds a beginning of that text.
 pub fn list_value<W: Write>(

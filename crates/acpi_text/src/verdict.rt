@@ -29,9 +29,9 @@ pub enum VerdictLine {
     Unreadable { table: usize, refusal: Unread },
 }
 
-/// Prints the verdict on the method with this number behind the method's first path: `\M001 accepted 4`
-/// with the most steps, `\M002 refused 0 108 V4 Unset` with the table, the place and the cause, or `\M015
-/// refused 0 108 E205 TooDeep` of a body that cannot be read.
+/// Prints the verdict on the method with this number behind the method's first path: `\M001
+/// accepted 4` with the most steps, `\M002 refused 0 108 V4 Unset` with the table, the place and
+/// the cause, or `\M015 refused 0 108 E205 TooDeep` of a body that cannot be read.
 ///
 /// At Err the writer holds a beginning of that line.
 pub fn list_verdict<W: Write>(

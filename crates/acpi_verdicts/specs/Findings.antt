@@ -123,7 +123,8 @@ turn_text bits which began ends =
 abbrev pub fault_words : FieldFault → List ℕ
 fault_words fault.Connected =
     codes ": found a Connection or an extended access before it in its list, wanted neither"
-fault_words fault.Access = codes ": found access for buffers or a reserved one, wanted AnyAcc, ByteAcc, WordAcc, DWordAcc or QWordAcc"
+fault_words fault.Access =
+    codes ": found access for buffers or a reserved one, wanted AnyAcc, ByteAcc, WordAcc, DWordAcc or QWordAcc"
 fault_words fault.Update =
     codes ": found the reserved update rule, wanted Preserve, WriteAsOnes or WriteAsZeros"
 fault_words fault.NoRegion = codes ": found a field of no OperationRegion, wanted a field of one"
@@ -157,7 +158,8 @@ otherwise_text number wanted =
 
 -- what a loop lacks that has no shape
 unfoldable pub lack_text : LoopLack → List ℕ
-lack_text lack.Test = codes ": found a test of another form, wanted a local, or LLess or LGreater of a local and a literal"
+lack_text lack.Test = codes
+    ": found a test of another form, wanted a local, or LLess or LGreater of a local and a literal"
 lack_text (lack.Limit number) =
     joined (codes ": found Local" ∷ decimal number
     ∷ codes " compared with no integer literal, wanted it compared with one" ∷ [])

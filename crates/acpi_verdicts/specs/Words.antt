@@ -27,6 +27,7 @@ cause_words cause.LocalName =
 cause_words cause.Depth = codes "a chain of more than 64 methods, each of which calls the next"
 cause_words cause.Level =
     codes "a mutex is taken whose sync level is below that of one that the method holds, or a method is called that takes such a one"
-cause_words cause.NotHeld = codes "a mutex is released that is not the one which the method took last of those that it holds"
+cause_words cause.NotHeld = codes
+    "a mutex is released that is not the one which the method took last of those that it holds"
 cause_words cause.StillHeld = codes "the method ends while it holds a mutex"
 cause_words cause.HeldDiffers = codes "ways meet on which the method holds different mutexes"

@@ -235,7 +235,8 @@ fn other_text(
     found: Found,
     wanted: Wanted,
 ) -> Result<String, AllocError>
-    ensures { IfOk result (λ text. string_bytes text ≡ spec.other_text (bits_of width) found wanted) }
+    ensures { IfOk result
+        (λ text. string_bytes text ≡ spec.other_text (bits_of width) found wanted) }
 {
     let found = found_text(alloc, width, found)?;
     let wanted = wanted_text(alloc, width, wanted)?;

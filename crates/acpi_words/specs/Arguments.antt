@@ -9,7 +9,8 @@ use Rattle.hex.specs.Hex.{decode_of}
 abbrev pub IsInteger : List ℕ → ℕ → Type 0
 IsInteger text n =
     (n < 2 ^ 64) × ((IsNumeral 10 text × (n ≡ digits_value 10 text))
-    ⊎ ((digits : List ℕ) × (text ≡ 48 ∷ 120 ∷ digits) × IsNumeral 16 digits × (n ≡ digits_value 16 digits)))
+    ⊎ ((digits : List ℕ) × (text ≡ 48 ∷ 120 ∷ digits) × IsNumeral 16 digits
+    × (n ≡ digits_value 16 digits)))
 
 -- the most bytes of a buffer
 abbrev pub most_bytes : ℕ
@@ -23,10 +24,12 @@ AreBytes digits bytes = (decode_of digits ≡ Ok bytes) × (length bytes ≤ mos
 abbrev pub AreCharacters : List ℕ → Type 0
 AreCharacters text = All (λ b. (0 < b) × (b < 128)) text
 
--- a value: an integer, `buf:` and bytes in hex, `str:` and characters, or `pkg` for the empty package
+-- a value: an integer, `buf:` and bytes in hex, `str:` and characters, or `pkg` for the empty
+-- package
 abbrev pub IsArgument : List ℕ → Value → Type 0
 IsArgument text (Int n) = IsInteger text n
-IsArgument text (Buf bytes) = (digits : List ℕ) × (text ≡ codes "buf:" ++ digits) × AreBytes digits bytes
+IsArgument text (Buf bytes) =
+    (digits : List ℕ) × (text ≡ codes "buf:" ++ digits) × AreBytes digits bytes
 IsArgument text (Str characters) = (text ≡ codes "str:" ++ characters) × AreCharacters characters
 IsArgument text (Pkg none) = text ≡ codes "pkg"
 IsArgument text (Pkg (more e es)) = ⊥
@@ -56,7 +59,8 @@ ListsValues text vs = AreArguments (elements text) vs
 -- a text has an element that is no value's
 abbrev pub ListsNoValues : List ℕ → Type 0
 ListsNoValues text =
-    (before behind : List (List ℕ)) × (element : List ℕ) × (elements text ≡ before ++ (element ∷ behind)) × IsNoArgument element
+    (before behind : List (List ℕ)) × (element : List ℕ)
+    × (elements text ≡ before ++ (element ∷ behind)) × IsNoArgument element
 
 -- the arguments: those of `--args`, without it none
 abbrev pub ListsArguments : Option (List ℕ) → List Value → Type 0
@@ -71,5 +75,6 @@ ListsBadArguments (Some text) = ListsNoValues text
 -- this element is the first that is no value's, and has this number
 abbrev pub IsFirstBad : List ℕ → ℕ → List ℕ → Type 0
 IsFirstBad text number element =
-    (before behind : List (List ℕ)) × (elements text ≡ before ++ (element ∷ behind)) × (length before ≡ number)
+    (before behind : List (List ℕ)) × (elements text ≡ before ++ (element ∷ behind))
+    × (length before ≡ number)
     × All IsAnyArgument before × IsNoArgument element

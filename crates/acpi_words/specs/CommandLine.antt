@@ -62,14 +62,20 @@ abbrev pub names_app : App
 names_app = with_rule (with_rule (new_app (codes "names")) dead_externals_rule) files_rule
 
 abbrev pub verify_app : App
-verify_app = with_rule (with_rule (with_rule (with_rule (new_app (codes "verify")) kinds_rule) explain_rule) dead_externals_rule) files_rule
+verify_app =
+    with_rule (with_rule (with_rule (with_rule (new_app (codes "verify")) kinds_rule) explain_rule)
+    dead_externals_rule) files_rule
 
 -- `eval` without the options of its tables and of the system
 abbrev pub method_app : App
-method_app = with_rule (with_rule (with_rule (with_rule (new_app (codes "eval")) method_rule) args_rule) regs_rule) plain_rule
+method_app =
+    with_rule (with_rule (with_rule (with_rule (new_app (codes "eval")) method_rule) args_rule)
+    regs_rule) plain_rule
 
 abbrev pub eval_app : App
-eval_app = with_rule (with_rule (with_rule (with_rule method_app kinds_rule) osi_rule) dead_externals_rule) files_rule
+eval_app =
+    with_rule (with_rule (with_rule (with_rule method_app kinds_rule) osi_rule) dead_externals_rule)
+    files_rule
 
 abbrev pub object_rule : Rule
 object_rule = record (option_rule (codes "object")) { required = true }
@@ -79,20 +85,25 @@ abbrev pub object_app : List ℕ → App
 object_app name = with_rule (with_rule (with_rule (new_app name) object_rule) regs_rule) kinds_rule
 
 abbrev pub resources_app : App
-resources_app = with_rule (with_rule (object_app (codes "resources")) dead_externals_rule) files_rule
+resources_app =
+    with_rule (with_rule (object_app (codes "resources")) dead_externals_rule) files_rule
 
 -- the file of the MADT
 abbrev pub madt_rule : Rule
 madt_rule = option_rule (codes "madt")
 
 abbrev pub routing_app : App
-routing_app = with_rule (with_rule (with_rule (object_app (codes "routing")) madt_rule) dead_externals_rule) files_rule
+routing_app =
+    with_rule (with_rule (with_rule (object_app (codes "routing")) madt_rule) dead_externals_rule)
+    files_rule
 
 -- the words have no program's name in front, and one of the commands is wanted
 abbrev pub commands_app : App
-commands_app = on_top (λ s. record s { no_binary_name = true; subcommand_required = true }) (new_app (codes "acpicheck"))
+commands_app = on_top (λ s. record s { no_binary_name = true; subcommand_required = true })
+    (new_app (codes "acpicheck"))
 
 abbrev pub acpicheck_app : App
 acpicheck_app =
-    with_subcommand (with_subcommand (with_subcommand (with_subcommand (with_subcommand (with_subcommand commands_app
-    (files_app (codes "tables")).top) names_app.top) verify_app.top) eval_app.top) resources_app.top) routing_app.top
+    with_subcommand (with_subcommand (with_subcommand (with_subcommand (with_subcommand
+    (with_subcommand commands_app (files_app (codes "tables")).top) names_app.top) verify_app.top)
+    eval_app.top) resources_app.top) routing_app.top

@@ -17,8 +17,9 @@ use std::alloc::Global;
 /// The most bytes of a buffer.
 const BUFFER_LIMIT: usize = 65_536;
 
-/// The values that a text lists by commas: integers below 2^64, decimal or hex behind `0x`; `buf:` and
-/// at most 65,536 bytes in hex; `str:` and ASCII characters but the zero; and `pkg`, the empty package.
+/// The values that a text lists by commas: integers below 2^64, decimal or hex behind `0x`; `buf:`
+/// and at most 65,536 bytes in hex; `str:` and ASCII characters but the zero; and `pkg`, the empty
+/// package.
 ///
 /// Fault: E521 where an element has any other form.
 pub fn read_arguments(alloc: Global, text: &str) -> Result<Vec<Value>, Fault>

@@ -15,7 +15,8 @@ const MOST_WORDS: usize = 65_536;
 
 /// The words of the first line, and the files on the lines behind it.
 ///
-/// Faults: E523 where there is no first line, or the input failed within it; E520 where it is no text.
+/// Faults: E523 where there is no first line, or the input failed within it; E520 where it is no
+/// text.
 pub fn read_first_line<'a>(
     alloc: Global,
     input: &'a Input,
@@ -51,8 +52,8 @@ fn is_torn(input: &Input, first: &[u8]) -> bool
     !input.is_whole && first.len() == input.bytes.len()
 }
 
-// The words of a line, split at single spaces. A line of spaces alone has a word for each, so the last
-// word that there may be takes all that is left.
+// The words of a line, split at single spaces. A line of spaces alone has a word for each, so the
+// last word that there may be takes all that is left.
 fn split_words(alloc: Global, line: &str) -> Result<Vec<&str>, AllocError>
     ensures { IfOk result
         (λ words. AreWords 65536 line.now (map (λ word. word.now) (vec_items words))) }

@@ -26,9 +26,9 @@ struct Taken {
     path: String,
 }
 
-/// The words, with the tables' files in place of each folder among the files of the command: for `tables`
-/// all of them, for any other command the DSDT and behind it the SSDTs in the order of their numbers. A
-/// folder without such files stays as it is.
+/// The words, with the tables' files in place of each folder among the files of the command: for
+/// `tables` all of them, for any other command the DSDT and behind it the SSDTs in the order of
+/// their numbers. A folder without such files stays as it is.
 pub fn with_folders<R: Files + Eprint + AllocGlobal + Clone + Drop>(
     rt: &R,
     words: Vec<String>,
@@ -107,7 +107,8 @@ fn push_files<R: Files + Eprint + AllocGlobal + Clone + Drop>(
 ) -> Result<(), AllocError>
     ensures { let before = map string_bytes words.old.items in
         let after = map string_bytes words.new.items in
-        IfOk result (λ _. (added : List (List ℕ)) × (after ≡ before ++ added) × (0 < length added)) }
+        IfOk result (λ _. (added : List (List ℕ)) × (after ≡ before ++ added)
+        × (0 < length added)) }
 {
     let mut taken = files_in(rt, folder.as_str(), wanted)?;
     if taken.is_empty() {
@@ -121,7 +122,8 @@ fn push_files<R: Files + Eprint + AllocGlobal + Clone + Drop>(
     Ok(())
 }
 
-/// The files of a folder that are taken, in any order. Of what is no table's file standard error tells.
+/// The files of a folder that are taken, in any order. Of what is no table's file standard error
+/// tells.
 fn files_in<R: Files + Eprint + AllocGlobal + Clone + Drop>(
     rt: &R,
     folder: &str,
@@ -152,8 +154,8 @@ fn files_in<R: Files + Eprint + AllocGlobal + Clone + Drop>(
     Ok(taken)
 }
 
-/// How a file of that name is ranked, with its number: a table's signature, and behind it digits, an
-/// ending such as `.dat`, or both, in either case. None where it is no name of a table's file.
+/// How a file of that name is ranked, with its number: a table's signature, and behind it digits,
+/// an ending such as `.dat`, or both, in either case. None where it is no name of a table's file.
 fn rank_of(name: &str) -> Option<(u8, u64)> {
     let (stem, _) = name.split_once('.').unwrap_or((name, ""));
     let (signature, digits) = stem.split_at_checked(4)?;

@@ -1,6 +1,6 @@
-//! What is asked of `acpicheck`, and who is told more than what is printed: the words of the command line
-//! and of standard input (`process_words`, `folder`, `first_line`, `words`), the text of `--args`
-//! (`arguments`), and people (`notes`, `line_notes`).
+//! What is asked of `acpicheck`, and who is told more than what is printed: the words of the
+//! command line and of standard input (`process_words`, `folder`, `first_line`, `words`), the text
+//! of `--args` (`arguments`), and people (`notes`, `line_notes`).
 #![tactic(auto)]
 
 mod arguments;

@@ -6,8 +6,8 @@ use acpi_notes::Help;
 use clap::Error;
 use std::alloc::Global;
 
-/// Who is told of a fault more than its line. Nothing of it counts for what is printed; one that has no
-/// way to tell does nothing.
+/// Who is told of a fault more than its line. Nothing of it counts for what is printed; one that
+/// has no way to tell does nothing.
 pub trait Notes {
     /// Tells a line.
     fn tell(&self, _note: &str) {}

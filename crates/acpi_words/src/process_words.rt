@@ -10,8 +10,8 @@ use std::env;
 use std::io::ErrorKind;
 use std::rt::{Env, Files};
 
-/// The words of the command line, behind the program's name; in place of a folder among the files the
-/// tables' files in it.
+/// The words of the command line, behind the program's name; in place of a folder among the files
+/// the tables' files in it.
 ///
 /// Fault: E520 where one is no UTF-8.
 pub fn command_words<R: Env + Files + Eprint + AllocGlobal + Clone + Drop>(

@@ -55,7 +55,8 @@ pub struct EvalRequest<'a> {
     pub regs: Option<&'a str>,
     /// The file whose text tells the kinds of arguments.
     pub kinds: Option<&'a str>,
-    /// The number of steps; without one the method is judged, and takes no more than its verdict says.
+    /// The number of steps; without one the method is judged, and takes no more than its verdict
+    /// says.
     pub steps: Option<u64>,
     /// The text that `_OSI` knows.
     pub osi: Option<&'a str>,
@@ -97,8 +98,8 @@ pub fn read_words<'a, S: AsStr>(alloc: Global, words: &'a [S]) -> Result<Request
     request_of(alloc, &matches)
 }
 
-/// What is wrong with words that are no command line, or the help that they ask for. None where there
-/// is no memory to tell it, or where the words are a command line.
+/// What is wrong with words that are no command line, or the help that they ask for. None where
+/// there is no memory to tell it, or where the words are a command line.
 pub fn words_error<S: AsStr>(alloc: Global, words: &[S]) -> Option<Error>
     ensures { IfSome result (HasKind (fault_of acpicheck_app (map S.text words.now))) }
 {

@@ -2,4 +2,3 @@ pub mod Elsewhere
 pub mod Statements
 pub mod Slept
 pub mod Stored
-pub mod Bodies

@@ -24,7 +24,8 @@ told c path = option_and_then (get nat_cmp c.counts) (path_number (all_paths c) 
 pub record Stays (old new : Counted) : Type 0 where
   pub told_is : (path : Path) → told new path ≡ told old path
   pub named_are : named_paths new ≡ named_paths old
-  pub paths_stay : (i : ℕ) (path : Path) → slice_get (all_paths old) i ≡ Some path → slice_get (all_paths new) i ≡ Some path
+  pub paths_stay : (i : ℕ) (path : Path) → slice_get (all_paths old) i ≡ Some path →
+      slice_get (all_paths new) i ≡ Some path
 
 -- what is told of a path more, where nothing was
 pub record Tells (old new : Counted) (path : Option Path) (args : ℕ) : Type 0 where
@@ -32,6 +33,7 @@ pub record Tells (old new : Counted) (path : Option Path) (args : ℕ) : Type 0 
   pub named_are : named_paths new ≡ named_paths old
 
 -- of the paths that declarations spell, just what the first of each tells
-pub record TellsAll (tables : List (List ℕ)) (paths : List Path) (externals : List External) (c : Counted) : Type 0 where
+pub record TellsAll (tables : List (List ℕ)) (paths : List Path) (externals : List External)
+    (c : Counted) : Type 0 where
   pub named_are : named_paths c ≡ paths
   pub told_is : (path : Path) → told c path ≡ first_told tables paths externals path

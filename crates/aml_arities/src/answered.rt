@@ -13,9 +13,10 @@ use aml_paths::ROOT;
 use std::alloc::{AllocError, Global};
 use std::collections::BTreeMap;
 
-/// What declarations tell of paths, and answers of searches for it. Declarations spell paths of which
-/// nothing is told, and whoever writes them can have one that ends in the same segment at each level of a
-/// deep scope. So that a search need not pass all of them, the first that it meets knows the answer.
+/// What declarations tell of paths, and answers of searches for it. Declarations spell paths of
+/// which nothing is told, and whoever writes them can have one that ends in the same segment at
+/// each level of a deep scope. So that a search need not pass all of them, the first that it meets
+/// knows the answer.
 #[derive(Drop)]
 pub struct Answered {
     counted: Counted,
@@ -25,8 +26,8 @@ pub struct Answered {
 }
 
 impl Answered {
-    /// What declarations tell, with the answer at each path to which a search may come and of which they
-    /// tell nothing.
+    /// What declarations tell, with the answer at each path to which a search may come and of which
+    /// they tell nothing.
     pub fn of(alloc: Global, counted: Counted) -> Result<Answered, AllocError>
         ensures { IfOk result (λ a. a.counted ≡ counted) }
     {
@@ -41,8 +42,8 @@ impl Answered {
         Ok(answered)
     }
 
-    /// Keeps the answer at the path with this number, if nothing is told of it. The search for it ends at
-    /// the next path that ends in the same segment, if that path's answer is kept before.
+    /// Keeps the answer at the path with this number, if nothing is told of it. The search for it
+    /// ends at the next path that ends in the same segment, if that path's answer is kept before.
     fn keep(&mut self, number: usize) -> Result<(), AllocError>
         ensures { self.new.counted ≡ self.old.counted }
     {
@@ -58,8 +59,8 @@ impl Answered {
         Ok(())
     }
 
-    /// What is told of the path of this segment below the longest prefix of the path with this number,
-    /// the path itself among them, of which something is told.
+    /// What is told of the path of this segment below the longest prefix of the path with this
+    /// number, the path itself among them, of which something is told.
     fn nearest_count(&self, at: usize, segment: NameSeg) -> Option<u8>
         requires { at < length (all_paths self.now.counted) }
         ensures { let path = path_at (all_paths self.now.counted) at in

@@ -1,4 +1,5 @@
-// How many arguments names take that tables declare as others' methods (ACPI 6.5, 19.6.46, External).
+// How many arguments names take that tables declare as others' methods (ACPI 6.5, 19.6.46,
+// External).
 
 ghost use Rattle.std.specs.Prelude.{◌≡◌, ◌≤◌, ◌<◌, ◌++◌, ◌∷◌, [], length, map, slice_get, option_and_then, Some, None, OnOk, IfOk, ◌-◌, ◌^◌, min};
 ghost use Rattle.std.specs.BTreeMap.{get};
@@ -20,7 +21,8 @@ use std::collections::{BTreeMap, BTreeSet};
 /// What declarations tell of paths.
 #[derive(Drop)]
 pub struct Counted {
-    /// The paths of the namespace under their numbers, and behind them those that declarations spell.
+    /// The paths of the namespace under their numbers, and behind them those that declarations
+    /// spell.
     pub(crate) paths: Paths,
     /// The number of the namespace's paths, the root's among them.
     named: usize,
@@ -86,7 +88,8 @@ impl Counted {
 
     /// Tells what a declaration does.
     fn declare(&mut self, tables: &[&[u8]], external: External) -> Result<(), AllocError>
-        ensures { let path = declared_path (map (λ t. t.now) tables.now) (named_paths self.old) external in
+        ensures { let bytes = map (λ t. t.now) tables.now in
+            let path = declared_path bytes (named_paths self.old) external in
             OnOk result (Tells self.old self.new path external.args) }
     {
         let scope = number_of_scope(external.name.scope);
@@ -142,9 +145,9 @@ impl Counted {
         Ok(ends)
     }
 
-    /// The numbers of the paths that end as one that is none of the namespace, each behind its depth, in
-    /// the order of the depths. A search for what is told comes to no others: a name that ends as none of
-    /// these is found in the namespace, or nowhere.
+    /// The numbers of the paths that end as one that is none of the namespace, each behind its
+    /// depth, in the order of the depths. A search for what is told comes to no others: a name that
+    /// ends as none of these is found in the namespace, or nowhere.
     pub(crate) fn searched(&self, alloc: Global) -> Result<Vec<(usize, usize)>, AllocError> {
         let ends = self.ends_spelled(alloc)?;
         let mut numbers = Vec::new(alloc);
@@ -169,7 +172,8 @@ impl Counted {
     pub(crate) fn spelled_count(&self, scope: usize, name: &NameRef<'_>) -> Option<u8>
         requires { scope < length (all_paths self.now) }
         ensures { let paths = all_paths self.now in
-            result ≡ option_and_then (told self.now) (spelled (path_at paths scope) (name_of name.now)) }
+            result ≡ option_and_then (told self.now)
+            (spelled (path_at paths scope) (name_of name.now)) }
     {
         self.count_at(self.paths.spelled(scope, name)?)
     }

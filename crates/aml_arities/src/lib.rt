@@ -1,7 +1,8 @@
-//! How many arguments names take that tables declare as others' methods (ACPI 6.5, 19.6.46, External).
+//! How many arguments names take that tables declare as others' methods (ACPI 6.5, 19.6.46,
+//! External).
 //!
-//! Rooms: `external` has a declaration, `counted` what declarations tell of paths, `answered` what searches
-//! find of it.
+//! Rooms: `external` has a declaration, `counted` what declarations tell of paths, `answered` what
+//! searches find of it.
 #![tactic(auto)]
 
 mod answered;

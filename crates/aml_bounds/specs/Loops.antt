@@ -1,4 +1,5 @@
--- How often a loop turns (ACPI 6.5, 19.6, While; the shapes are the project's own): tried in the order Once, Up, Down.
+-- How often a loop turns (ACPI 6.5, 19.6, While; the shapes are the project's own): tried in the
+-- order Once, Up, Down.
 use Rattle.std.specs.Prelude.{ℕ, ◌%◌, ◌^◌, ◌==◌, ◌&&◌, ◌||◌, not, Bool, false, if◌then◌else◌, Option, Some, None}
 use Rattle.aml_operators.specs.Literal.{literal_in}
 use Rattle.aml_operators.specs.Tree.{Tree, Trees, Node, none, more}
@@ -21,12 +22,14 @@ abbrev pub shape_for : Step → ℕ → ℕ → Shape
 shape_for Rises = Up
 shape_for Falls = Down
 
--- just one step stands in a list, the local is no target beside it, and no Continue stands before it
+-- just one step stands in a list, the local is no target beside it, and no Continue stands before
+-- it
 abbrev pub steps : (ℕ → Action → Trees → Bool) → ℕ → Trees → Bool
 steps moves l none = false
 steps moves l (more (Node o at stop parts) ts) =
     if moves l (action o) parts then not (assigns_in (is_local l) ts)
-    else not (assigns (is_local l) (Node o at stop parts)) && (not (continues (Node o at stop parts)) && steps moves l ts)
+    else not (assigns (is_local l) (Node o at stop parts))
+    && (not (continues (Node o at stop parts)) && steps moves l ts)
 
 abbrev pub counted : (ℕ → ℕ → Shape) → (ℕ → Action → Trees → Bool) → ℕ → Option ℕ → Trees → Shape
 counted shape moves l (Some c) body = if steps moves l body then shape l c else Endless
@@ -59,24 +62,29 @@ module _ (width : ℕ) where
   -- a statement that makes a local one more, or one less
   abbrev pub rises : ℕ → Action → Trees → Bool
   rises l (ByOne arithmetic.Add) parts = only (acts (is_local l)) parts
-  rises l (Binary arithmetic.Add) (more a (more b (more g none))) = acts (is_local l) g && ((acts (is_local l) a && is_one b) || (is_one a && acts (is_local l) b))
+  rises l (Binary arithmetic.Add) (more a (more b (more g none))) = acts (is_local l) g
+      && ((acts (is_local l) a && is_one b) || (is_one a && acts (is_local l) b))
   rises l a parts = false
 
   abbrev pub falls : ℕ → Action → Trees → Bool
   falls l (ByOne arithmetic.Subtract) parts = only (acts (is_local l)) parts
-  falls l (Binary arithmetic.Subtract) (more a (more b (more g none))) = acts (is_local l) g && (acts (is_local l) a && is_one b)
+  falls l (Binary arithmetic.Subtract) (more a (more b (more g none))) =
+      acts (is_local l) g && (acts (is_local l) a && is_one b)
   falls l a parts = false
 
   abbrev pub moves_of : Step → ℕ → Action → Trees → Bool
   moves_of Rises = rises
   moves_of Falls = falls
 
-  abbrev pub against : (ℕ → ℕ → Shape) → (ℕ → Action → Trees → Bool) → Action → Trees → Tree → Trees → Shape
+  abbrev pub against : (ℕ → ℕ → Shape) → (ℕ → Action → Trees → Bool) → Action → Trees →
+      Tree → Trees → Shape
   against shape moves (Local l) none c body = counted shape moves l (number_of c) body
   against shape moves a parts c body = Endless
 
-  abbrev pub against_tree : (ℕ → ℕ → Shape) → (ℕ → Action → Trees → Bool) → Tree → Tree → Trees → Shape
-  against_tree shape moves (Node o at stop parts) c body = against shape moves (action o) parts c body
+  abbrev pub against_tree : (ℕ → ℕ → Shape) → (ℕ → Action → Trees → Bool) → Tree →
+      Tree → Trees → Shape
+  against_tree shape moves (Node o at stop parts) c body =
+      against shape moves (action o) parts c body
 
   abbrev pub compared : (ℕ → ℕ → Shape) → (ℕ → Action → Trees → Bool) → Trees → Trees → Shape
   compared shape moves (more test (more c none)) body = against_tree shape moves test c body
@@ -94,7 +102,8 @@ module _ (width : ℕ) where
 
   -- a loop's shape, by its test and its body
   abbrev pub shape_of : Tree → Trees → Shape
-  shape_of (Node o at stop parts) body = if leaves body && not (continues_in body) then Once else shape_by (action o) parts body
+  shape_of (Node o at stop parts) body =
+      if leaves body && not (continues_in body) then Once else shape_by (action o) parts body
 
   abbrev pub loop_turns : Action → Trees → Option Turns
   loop_turns While (more test body) = turns_of (shape_of test body)

@@ -18,7 +18,8 @@ abbrev pub is_operand : Action → Trees → Bool
 is_operand Store (more a (more g none)) = takes_operand (action (operator_of g))
 is_operand a parts = true
 
--- how often a loop turns: once, as often as a local rises to a number or falls to one, or nobody knows
+-- how often a loop turns: once, as often as a local rises to a number or falls to one, or nobody
+-- knows
 pub data Shape : Type 0 where
   Once : Shape
   Up : (local limit : ℕ) → Shape
@@ -36,7 +37,8 @@ is_arg l a = false
 abbrev pub acts : (Action → Bool) → Tree → Bool
 acts is (Node o at stop parts) = is (action o)
 
--- whether the only part, the second of two, the third of three, or one of the last two of four is such
+-- whether the only part, the second of two, the third of three, or one of the last two of four is
+-- such
 abbrev pub only : (Tree → Bool) → Trees → Bool
 only is (more a none) = is a
 only is parts = false

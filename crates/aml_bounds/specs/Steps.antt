@@ -1,5 +1,6 @@
--- How many steps a method takes at most (ACPI 6.5, 19.6; the counting of steps is the project's own): a sum over its terms, by how
--- often each loop turns and what names cost. Whole numbers, without limit.
+-- How many steps a method takes at most (ACPI 6.5, 19.6; the counting of steps is the project's
+-- own): a sum over its terms, by how often each loop turns and what names cost. Whole numbers,
+-- without limit.
 use Rattle.std.specs.Prelude.{ℕ, suc, ◌+◌, ◌*◌, ◌^◌, ◌==◌, max, min, nat_lt, Option, Some, None, if◌then◌else◌}
 use Rattle.aml_operators.specs.declared.op.Op.{Op}
 use Rattle.aml_operators.specs.declared.op.Op.TheVariants as operator
@@ -15,15 +16,17 @@ use Rattle.aml_bounds.specs.declared.role.Roles.{Roles}
 use Rattle.aml_bounds.specs.declared.role.Roles.TheVariants.{All, Evaluated, Read, Written}
 use Rattle.aml_bounds.specs.declared.role.Role.TheVariants.{Changed, Indexed, Operand, Skipped, Target}
 
--- what the steps of a body hang on, by places: how often the loop there turns; how many steps more the name there takes where it is
--- read or called, as the events of a field's read and the bound of the method; and how many where it is stored into
+-- what the steps of a body hang on, by places: how often the loop there turns; how many steps more
+-- the name there takes where it is read or called, as the events of a field's read and the bound of
+-- the method; and how many where it is stored into
 pub record Knows : Type 0 where
   pub turns : ℕ → TurnCount
   pub named : ℕ → ℕ
   pub stored : ℕ → ℕ
 
--- what an operator does with its parts: operands and then targets, or a name and then operands; Increment and Decrement read and
--- write theirs, and a DerefOf reads what an Index leads to; of any other operator no part is evaluated
+-- what an operator does with its parts: operands and then targets, or a name and then operands;
+-- Increment and Decrement read and write theirs, and a DerefOf reads what an Index leads to; of any
+-- other operator no part is evaluated
 abbrev pub operands_first : ℕ → ℕ → Role
 operands_first n i = if nat_lt i n then Operand else Target
 
@@ -81,7 +84,8 @@ first_steps operator.Name = 2
 first_steps o = 1
 
 module _ (here : Knows) where
-  -- what a term takes beside its first step and its parts: a name what it costs, a Notify, a Sleep or a Stall its event
+  -- what a term takes beside its first step and its parts: a name what it costs, a Notify, a Sleep
+  -- or a Stall its event
   abbrev pub extra_steps : Action → ℕ → Trees → ℕ
   extra_steps Name at parts = here.named at
   extra_steps Invoke at parts = here.named (place_of_first parts)
@@ -103,16 +107,22 @@ module _ (here : Knows) where
     pub steps_as : Role → Tree → ℕ
     steps_as Skipped (Node o at stop parts) = 0
     steps_as Operand (Node o at stop parts) = first_steps o + steps_by (action o) at parts
-    steps_as Target (Node o at stop parts) = target_steps (action o) at + steps_from (written_role (action o)) 0 parts
-    steps_as Changed (Node o at stop parts) = (first_steps o + steps_by (action o) at parts) + (target_steps (action o) at + steps_from (written_role (action o)) 0 parts)
-    steps_as Indexed (Node o at stop parts) = index_steps (action o) + steps_from (read_role (action o)) 0 parts
+    steps_as Target (Node o at stop parts) =
+        target_steps (action o) at + steps_from (written_role (action o)) 0 parts
+    steps_as Changed (Node o at stop parts) = (first_steps o + steps_by (action o) at parts)
+        + (target_steps (action o) at + steps_from (written_role (action o)) 0 parts)
+    steps_as Indexed (Node o at stop parts) =
+        index_steps (action o) + steps_from (read_role (action o)) 0 parts
 
     -- an If takes the greater of its blocks
     pub steps_by : Action → ℕ → Trees → ℕ
-    steps_by If at (more t body) = steps_as Operand t + max (steps_of_block body) (steps_of_else body)
-    steps_by While at (more t body) = turned (here.turns at) (steps_as Operand t) (steps_from every_operand 0 body)
+    steps_by If at (more t body) =
+        steps_as Operand t + max (steps_of_block body) (steps_of_else body)
+    steps_by While at (more t body) =
+        turned (here.turns at) (steps_as Operand t) (steps_from every_operand 0 body)
     steps_by a at none = extra_steps a at none
-    steps_by a at (more t ts) = extra_steps a at (more t ts) + (steps_as (role a 0) t + steps_from (role a) 1 ts)
+    steps_by a at (more t ts) =
+        extra_steps a at (more t ts) + (steps_as (role a 0) t + steps_from (role a) 1 ts)
 
     -- those of parts from one of a number on
     pub steps_from : (ℕ → Role) → ℕ → Trees → ℕ
@@ -122,11 +132,13 @@ module _ (here : Knows) where
     -- those of an If's own block, and of its Else
     pub steps_of_block : Trees → ℕ
     steps_of_block none = 0
-    steps_of_block (more (Node o at stop parts) ts) = if is_else o then 0 else (first_steps o + steps_by (action o) at parts) + steps_of_block ts
+    steps_of_block (more (Node o at stop parts) ts) =
+        if is_else o then 0 else (first_steps o + steps_by (action o) at parts) + steps_of_block ts
 
     pub steps_of_else : Trees → ℕ
     steps_of_else none = 0
-    steps_of_else (more (Node o at stop parts) ts) = if is_else o then steps_from every_operand 0 parts else steps_of_else ts
+    steps_of_else (more (Node o at stop parts) ts) =
+        if is_else o then steps_from every_operand 0 parts else steps_of_else ts
 
   -- the steps of a term, and of statements one by one
   abbrev pub steps_of : Tree → ℕ

@@ -278,8 +278,8 @@ fn within_limit(steps: u64) -> Option<u64>
     if steps < LIMIT { Some(steps) } else { None }
 }
 
-/// How many steps a term takes at most, by how often its loops turn and what its names cost. None from
-/// 2 to the power 63 on, which no method may take.
+/// How many steps a term takes at most, by how often its loops turn and what its names cost. None
+/// from 2 to the power 63 on, which no method may take.
 pub fn steps<C: Costs>(term: &Term, costs: &C) -> Option<u64>
     ensures { result ≡ bounded (steps_of (C.knows costs.now) (view term.now)) }
 {

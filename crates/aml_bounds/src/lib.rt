@@ -1,5 +1,5 @@
-//! Bounds on the steps of methods: how often loops turn, and how many steps a body takes at most (ACPI
-//! 6.5, 19.6, While; the shapes of loops and the counting of steps are the project's own).
+//! Bounds on the steps of methods: how often loops turn, and how many steps a body takes at most
+//! (ACPI 6.5, 19.6, While; the shapes of loops and the counting of steps are the project's own).
 #![tactic(auto)]
 
 mod bound;

@@ -20,8 +20,8 @@ use aml_operators::{Op, Term, literal_in};
 pub enum Turns {
     /// Once: its body ends with Break or Return, and no Continue leads around that.
     Once,
-    /// As often as a local, by its number below 8, rises by one before it reaches the limit: at most
-    /// `limit` times.
+    /// As often as a local, by its number below 8, rises by one before it reaches the limit: at
+    /// most `limit` times.
     Up { local: u8, limit: u64 },
     /// As often as a local falls by one before it reaches the limit: as many times at most as its
     /// greatest value before the loop is above the limit.
@@ -264,8 +264,8 @@ fn turns_in(parts: &[Term], width: Width) -> Option<Turns>
     }
 }
 
-/// How often a While turns (ACPI 6.5, 19.6): once, or as a local rises or falls by one; the shapes are
-/// tried in this order. None where it has none of these shapes, and for any other term. Integer
+/// How often a While turns (ACPI 6.5, 19.6): once, or as a local rises or falls by one; the shapes
+/// are tried in this order. None where it has none of these shapes, and for any other term. Integer
 /// literals count modulo 2 to the width.
 #[tactic(auto, using(aml_operators::proofs::Views::view_out))]
 pub fn loop_shape(term: &Term, width: Width) -> Option<Turns>

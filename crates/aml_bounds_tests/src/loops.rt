@@ -30,7 +30,8 @@ fn turns_of_loops(rt: HostRuntime) -> Result<(), Fail> {
             &[0xA2, 0x08, 0x95, 0x60, 0x0A, 0x04, 0x9F, 0x75, 0x60],
             None,
         ),
-        // an inner loop's Continue is its own: .. { While (LLess (Local1, 2)) { Increment (Local1) Continue } Increment (Local0) }
+        // an inner loop's Continue is its own: .. { While (LLess (Local1, 2)) { Increment (Local1)
+        // Continue } Increment (Local0) }
         (
             &[
                 0xA2, 0x10, 0x95, 0x60, 0x0A, 0x04, 0xA2, 0x08, 0x95, 0x61, 0x0A, 0x02, 0x75, 0x61,
@@ -38,7 +39,8 @@ fn turns_of_loops(rt: HostRuntime) -> Result<(), Fail> {
             ],
             up(4),
         ),
-        // .. { Increment (Local0) Increment (Local0) } and { Increment (Local0) Store (One, Local0) }
+        // .. { Increment (Local0) Increment (Local0) } and { Increment (Local0) Store (One, Local0)
+        // }
         (
             &[0xA2, 0x09, 0x95, 0x60, 0x0A, 0x04, 0x75, 0x60, 0x75, 0x60],
             None,
@@ -49,7 +51,8 @@ fn turns_of_loops(rt: HostRuntime) -> Result<(), Fail> {
             ],
             None,
         ),
-        // .. { Increment (Local0) ToHexString (One, Local0) }, but not with Local1, and CopyObject has no target
+        // .. { Increment (Local0) ToHexString (One, Local0) }, but not with Local1, and CopyObject
+        // has no target
         (
             &[
                 0xA2, 0x0A, 0x95, 0x60, 0x0A, 0x04, 0x75, 0x60, 0x98, 0x01, 0x60,
@@ -82,7 +85,8 @@ fn turns_of_loops(rt: HostRuntime) -> Result<(), Fail> {
         ),
         // While (Local0) { Decrement (Local0) }
         (&[0xA2, 0x04, 0x60, 0x76, 0x60], down(0)),
-        // While (LGreater (Local0, 2)) { Subtract (Local0, One, Local0) }, but not One less the local
+        // While (LGreater (Local0, 2)) { Subtract (Local0, One, Local0) }, but not One less the
+        // local
         (
             &[0xA2, 0x09, 0x94, 0x60, 0x0A, 0x02, 0x74, 0x60, 0x01, 0x60],
             down(2),

@@ -1,5 +1,6 @@
--- Which methods a body calls (ACPI 6.5, 5.5.2 and 19.6, Method): those that names name in it which stand as terms, with arguments or
--- none, wherever that is, reached or not. What an Index is of is such a name, too; `_OSI` is no method.
+-- Which methods a body calls (ACPI 6.5, 5.5.2 and 19.6, Method): those that names name in it which
+-- stand as terms, with arguments or none, wherever that is, reached or not. What an Index is of is
+-- such a name, too; `_OSI` is no method.
 use Rattle.std.specs.Prelude.{ℕ, ◌++◌, List, [], ◌∷◌}
 use Rattle.aml_operators.specs.Tree.{Tree, Trees, Node, none, more}
 use Rattle.aml_namespace.specs.declared.link.Link.{Link}

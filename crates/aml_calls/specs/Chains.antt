@@ -1,5 +1,5 @@
--- Chains of methods in which each calls the next, by a function from a method's number to those that it calls (ACPI 6.5, 5.5.2 and
--- 19.6, Method; the limit on chains is the project's own).
+-- Chains of methods in which each calls the next, by a function from a method's number to those
+-- that it calls (ACPI 6.5, 5.5.2 and 19.6, Method; the limit on chains is the project's own).
 use Rattle.std.specs.Prelude.{◌≡◌, ◌==◌, ◌||◌, ◌≤◌, ℕ, zero, suc, length, List, [], ◌∷◌, Bool, true, false}
 use Rattle.std.specs.List.{list_all, list_any}
 
@@ -60,13 +60,16 @@ module _ (calls : ℕ → List ℕ) where
   -- each method stands once and behind all that it calls, where some stand before
   abbrev pub IsBehindCallees : List ℕ → List ℕ → Type 0
   IsBehindCallees done [] = Unit {0}
-  IsBehindCallees done (k ∷ ks) = (list_all (λ j. is_among j done) (calls k) ≡ true) × (is_among k done ≡ false) × IsBehindCallees (k ∷ done) ks
+  IsBehindCallees done (k ∷ ks) = (list_all (λ j. is_among j done) (calls k) ≡ true)
+      × (is_among k done ≡ false) × IsBehindCallees (k ∷ done) ks
 
--- what is short has no longer chain, and what is not has one; from a method that is short no chain has a cycle, and a method from
--- which a chain has one is never short
+-- what is short has no longer chain, and what is not has one; from a method that is short no chain
+-- has a cycle, and a method from which a chain has one is never short
 pub record ShortSays (calls : ℕ → List ℕ) : Type 0 where
-  pub no_longer : (d k : ℕ) (ks : List ℕ) → is_short calls d k ≡ true → IsChain calls (k ∷ ks) → length (k ∷ ks) ≤ d
-  pub longer : (d k : ℕ) → is_short calls d k ≡ false → (ks : List ℕ) × (IsChain calls (k ∷ ks) × (length (k ∷ ks) ≡ suc d))
+  pub no_longer : (d k : ℕ) (ks : List ℕ) → is_short calls d k ≡ true → IsChain calls (k ∷ ks) →
+      length (k ∷ ks) ≤ d
+  pub longer : (d k : ℕ) → is_short calls d k ≡ false →
+      (ks : List ℕ) × (IsChain calls (k ∷ ks) × (length (k ∷ ks) ≡ suc d))
   pub no_cycle : (d k : ℕ) → is_short calls d k ≡ true → NeverCycles calls k
   pub cycle : (d k : ℕ) → Cycles calls k → is_short calls d k ≡ false
 

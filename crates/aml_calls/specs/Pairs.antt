@@ -24,14 +24,17 @@ abbrev pub calls_in : List Pair → ℕ → List ℕ
 calls_in [] k = []
 calls_in (p ∷ ps) k = if p.0.0 == k then numbers p.1.items else calls_in ps k
 
--- of the methods that pairs name, those from which no chain has a cycle, each once and behind all that it calls, and the others, each once
+-- of the methods that pairs name, those from which no chain has a cycle, each once and behind all
+-- that it calls, and the others, each once
 pub record IsCallOrder (pairs : List Pair) (ordered others : List ℕ) : Type 0 where
   pub behind : IsBehindCallees (calls_in pairs) [] ordered
   pub never : (k : ℕ) → is_among k ordered ≡ true → NeverCycles (calls_in pairs) k
   pub cycles : (k : ℕ) → is_among k others ≡ true → Cycles (calls_in pairs) k
   pub once : has_cycle others ≡ false
-  pub all : (k : ℕ) → is_among k (named pairs) ≡ true → (is_among k ordered || is_among k others) ≡ true
-  pub only : (k : ℕ) → (is_among k ordered || is_among k others) ≡ true → is_among k (named pairs) ≡ true
+  pub all : (k : ℕ) → is_among k (named pairs) ≡ true →
+      (is_among k ordered || is_among k others) ≡ true
+  pub only : (k : ℕ) → (is_among k ordered || is_among k others) ≡ true →
+      is_among k (named pairs) ≡ true
 
 -- the answer of asking for a chain
 abbrev pub AnswersReach : List Pair → ℕ → ℕ → Bool → Type 0

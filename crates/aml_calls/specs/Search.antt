@@ -28,15 +28,18 @@ pub record WasLeft (calls : ℕ → List ℕ) (marks : List Mark) (path : List �
   pub begun : mark_at marks next ≡ Begun
   pub away : is_among next path ≡ false
 
--- marks of all methods, how many callees of each are passed, the path from the search's beginning, and the order so far
-pub record IsSearch (calls : ℕ → List ℕ) (all : List ℕ) (marks : List Mark) (passed path ordered : List ℕ) : Type 0 where
+-- marks of all methods, how many callees of each are passed, the path from the search's beginning,
+-- and the order so far
+pub record IsSearch (calls : ℕ → List ℕ) (all : List ℕ) (marks : List Mark)
+    (passed path ordered : List ℕ) : Type 0 where
   pub sized : length passed ≡ length marks
   pub room : (k : ℕ) → is_among k all ≡ true → k < length marks
   pub only : (k : ℕ) → is_new (mark_at marks k) ≡ false → is_among k all ≡ true
   pub on_path : (k : ℕ) → is_among k path ≡ true → mark_at marks k ≡ Begun
   pub once : has_cycle path ≡ false
   pub chain : IsChain calls path
-  pub was_left : (k : ℕ) → mark_at marks k ≡ Begun → is_among k path ≡ false → WasLeft calls marks path k
+  pub was_left : (k : ℕ) → mark_at marks k ≡ Begun → is_among k path ≡ false →
+      WasLeft calls marks path k
   pub behind : IsBehindCallees calls [] ordered
   pub placed : (k : ℕ) → is_placed (mark_at marks k) ≡ is_among k ordered
   pub passes : (k : ℕ) → all_placed marks (take (slice_index_or passed k 0) (calls k)) ≡ true
@@ -56,7 +59,8 @@ is_begun m = false
 
 -- what a search knows, with a path
 abbrev pub SearchesOn : (ℕ → List ℕ) → List ℕ → List ℕ → Search → Type 0
-SearchesOn calls all path s = IsSearch calls all s.marks.items s.passed.items path (numbers s.ordered.items)
+SearchesOn calls all path s =
+    IsSearch calls all s.marks.items s.passed.items path (numbers s.ordered.items)
 
 abbrev pub Searches : (ℕ → List ℕ) → List ℕ → Search → Type 0
 Searches calls all s = SearchesOn calls all (numbers s.path.items) s

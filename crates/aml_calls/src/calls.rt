@@ -14,7 +14,8 @@ pub type Pair = (ObjectId, Vec<ObjectId>);
 #[derive(Clone, Copy)]
 pub struct Calls<'a> {
     pub pairs: &'a [Pair],
-    /// The place of each method's pair by the method's number. Where it has none, no pair stands there.
+    /// The place of each method's pair by the method's number. Where it has none, no pair stands
+    /// there.
     pub places: &'a [usize],
 }
 

@@ -110,8 +110,8 @@ impl Search {
         Ok(())
     }
 
-    /// Goes from a method to the first of its callees that doesn't stand in the order: that is on the
-    /// path now, or the path leads into a cycle, and all on it is left.
+    /// Goes from a method to the first of its callees that doesn't stand in the order: that is on
+    /// the path now, or the path leads into a cycle, and all on it is left.
     fn enter(&mut self, method: ObjectId, passed: usize, callee: ObjectId) -> Result<(), AllocError>
         requires method { method.0 < vec_len self.old.passed }
         requires callee { callee.0 < vec_len self.old.marks }
@@ -274,10 +274,10 @@ fn ordered(
     Ok((search.ordered, others))
 }
 
-/// The methods that pairs of a method and those that it calls name: first those from which no chain of
-/// calls has a cycle, each once and behind all that it calls; then the others, each once. Of several
-/// pairs of one method the first counts, and a method without a pair calls none. Time and memory go
-/// with the number of pairs, the number of callees and the greatest number of a method.
+/// The methods that pairs of a method and those that it calls name: first those from which no chain
+/// of calls has a cycle, each once and behind all that it calls; then the others, each once. Of
+/// several pairs of one method the first counts, and a method without a pair calls none. Time and
+/// memory go with the number of pairs, the number of callees and the greatest number of a method.
 ///
 /// # Errors
 ///

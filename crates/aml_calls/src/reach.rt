@@ -92,9 +92,9 @@ fn reached(
 }
 
 /// Whether a chain of methods, each of which calls the next, begins with one method and ends with
-/// another, by pairs of a method and those that it calls; a method alone is such a chain. Of several
-/// pairs of one method the first counts, and a method without a pair calls none. Time and memory go
-/// with the number of pairs, the number of callees and the greatest number of a method.
+/// another, by pairs of a method and those that it calls; a method alone is such a chain. Of
+/// several pairs of one method the first counts, and a method without a pair calls none. Time and
+/// memory go with the number of pairs, the number of callees and the greatest number of a method.
 ///
 /// # Errors
 ///

@@ -56,8 +56,8 @@ impl Components {
     }
 
     /// Whether chains of calls lead from each of two methods to the other; a method alone is a
-    /// chain. Where one of them calls the other, this is whether that reaches the one. A method that
-    /// no pair names reaches itself alone.
+    /// chain. Where one of them calls the other, this is whether that reaches the one. A method
+    /// that no pair names reaches itself alone.
     #[must_use]
     pub fn reach_each_other(&self, one: ObjectId, other: ObjectId) -> bool
         ensures { result ≡ are_together self.now one.0 other.0 }

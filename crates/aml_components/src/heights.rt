@@ -96,10 +96,10 @@ fn raised(
 }
 
 impl Heights {
-    /// How long chains of calls are that begin with each method. Each of the methods that pairs name
-    /// stands in `ordered` behind all that it calls, or in `others`, where a chain that begins with
-    /// it has a cycle, as `call_order` answers them. Time and memory go with the number of pairs, the
-    /// number of callees and the greatest number of a method.
+    /// How long chains of calls are that begin with each method. Each of the methods that pairs
+    /// name stands in `ordered` behind all that it calls, or in `others`, where a chain that begins
+    /// with it has a cycle, as `call_order` answers them. Time and memory go with the number of
+    /// pairs, the number of callees and the greatest number of a method.
     ///
     /// # Errors
     ///

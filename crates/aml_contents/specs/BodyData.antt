@@ -11,10 +11,12 @@ use Rattle.aml_namespace.specs.Made.{content_in}
 use Rattle.aml_values.specs.Values.{Value}
 use Rattle.aml_contents.specs.FirstContents.{value_of}
 
--- the value of a literal in the body of the method with a number, in a table: what it is told to be as data of a table is, and its names
--- are looked up from the method, where they never mean an own name (own)
+-- the value of a literal in the body of the method with a number, in a table: what it is told to be
+-- as data of a table is, and its names are looked up from the method, where they never mean an own
+-- name (own)
 abbrev pub body_data : Shown → ℕ → ℕ → Op → Trees → Value
-body_data ns table method o parts = value_of ns table (At (record { 0 = method })) (content_in o parts) o parts
+body_data ns table method o parts =
+    value_of ns table (At (record { 0 = method })) (content_in o parts) o parts
 
 -- whether the first of some parts is no integer literal
 abbrev pub begins_computed : Trees → Bool
@@ -31,10 +33,12 @@ is_computed o parts = false
 abbrev pub computed_or : Op → ℕ → Trees → Option ℕ → Option ℕ
 computed_or o at parts inside = if is_computed o parts then Some at else inside
 
--- where in some terms the first buffer or package of computed size begins, in the order of the bytes
+-- where in some terms the first buffer or package of computed size begins, in the order of the
+-- bytes
 abbrev pub first_computed : Trees → Option ℕ
 first_computed none = None
-first_computed (more (Node o at stop parts) ts) = option_or (computed_or o at parts (first_computed parts)) (first_computed ts)
+first_computed (more (Node o at stop parts) ts) =
+    option_or (computed_or o at parts (first_computed parts)) (first_computed ts)
 
 -- and where in a literal; also in an element that a count drops
 abbrev pub computed_size : Op → ℕ → Trees → Option ℕ

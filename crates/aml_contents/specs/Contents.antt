@@ -39,7 +39,8 @@ with_byte v at byte = v
 
 -- the same contents, with this byte there in the content of the name with a number
 abbrev pub changed_byte : Contents → ℕ → ℕ → ℕ → Contents
-changed_byte names i at byte = slice_set names i (option_map (λ v. with_byte v at byte) (content_at names i))
+changed_byte names i at byte =
+    slice_set names i (option_map (λ v. with_byte v at byte) (content_at names i))
 
 -- whether a value is of this kind, where there is one
 abbrev pub fits_kind : Value → Option Kind → Bool
@@ -52,7 +53,8 @@ may_hold kinds i v = fits_kind v (kind_at kinds i)
 
 -- what a name holds is of its kind, so it may hold it
 abbrev pub HoldTheirKinds : Contents → ContentKinds → Type 0
-HoldTheirKinds names kinds = (i : ℕ) (v : Value) → content_at names i ≡ Some v → may_hold kinds i v ≡ true
+HoldTheirKinds names kinds =
+    (i : ℕ) (v : Value) → content_at names i ≡ Some v → may_hold kinds i v ≡ true
 
 -- a content fits its kind, and there is a kind just where there is a content
 abbrev pub is_fitting : Option Value → Option Kind → Bool

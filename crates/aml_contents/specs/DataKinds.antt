@@ -1,4 +1,5 @@
--- The kinds of what data holds, by its term alone: how a name is judged without its first content being made.
+-- The kinds of what data holds, by its term alone: how a name is judged without its first content
+-- being made.
 use Rattle.std.specs.Prelude.{◌%◌, ◌^◌, ◌&&◌, ℕ, zero, suc, List, Option, Some, None, Result, Ok, Err, Bool, true, false}
 use Rattle.aml_operators.specs.declared.op.Op.{Op}
 use Rattle.aml_operators.specs.declared.op.Op.TheVariants as op
@@ -61,7 +62,8 @@ data_shape width t = bare
 
 -- the shape of what a name's first content comes from
 abbrev pub source_shape : Shown → Source → Shape
-source_shape ns (source.Term table span scope) = data_shape ns.width (data_in (bytes_of ns.tables table) span)
+source_shape ns (source.Term table span scope) =
+    data_shape ns.width (data_in (bytes_of ns.tables table) span)
 source_shape ns from = bare
 
 -- the kind of a name of whose first content it is told what it is
@@ -93,9 +95,11 @@ seen f (Err fault) = None
 abbrev pub element_compared : Width → ElementKind → Tree → ℕ × Bool
 element_compared width k t = (stop_of t, same_element_kind k (tree_place width t))
 
--- where the elements of a package end behind their number, and whether so many of them have this shape
+-- where the elements of a package end behind their number, and whether so many of them have this
+-- shape
 abbrev pub elements_compared : Width → ℕ → Shape → List Tree × ℕ → ℕ × Bool
-elements_compared width count s r = (r.1, same_shape s (counted_places count (shape_behind width (trees r.0))))
+elements_compared width count s r =
+    (r.1, same_shape s (counted_places count (shape_behind width (trees r.0))))
 
 -- the place with a number; an unset one where there is none
 abbrev pub place_at : Shape → ℕ → ElementKind

@@ -40,7 +40,8 @@ counted zero es = value.none
 counted (suc n) value.none = value.more Unset (counted n value.none)
 counted (suc n) (value.more e es) = value.more e (counted n es)
 
--- a value of which it is told what it is, made of a number modulo 2 to the width, of bytes or of elements
+-- a value of which it is told what it is, made of a number modulo 2 to the width, of bytes or of
+-- elements
 abbrev pub value_told : Width → Content → ℕ → List ℕ → Elements → Value
 value_told width content.Integer number bytes es = Int (number % 2 ^ bits_of width)
 value_told width (content.Buffer size) number bytes es = Buf (filled size bytes)
@@ -83,9 +84,11 @@ module _ (ns : Shown) (table : ℕ) (scope : Scope) where
   abbrev pub named : ℕ → Option ObjectId
   named at = named_at ns.tables ns.entries (record { table = table; at = at; scope = scope })
 
-  -- the value of a term of which it is told what it is, made of its number, its bytes or these elements
+  -- the value of a term of which it is told what it is, made of its number, its bytes or these
+  -- elements
   abbrev pub value_with : Content → Op → Trees → Elements → Value
-  value_with told o parts es = value_told ns.width told (number_of o parts) (bytes_in (bytes_of ns.tables table) o parts) es
+  value_with told o parts es =
+      value_told ns.width told (number_of o parts) (bytes_in (bytes_of ns.tables table) o parts) es
 
   -- the element that a term is, a package having these elements
   abbrev pub element_with : Op → ℕ → Trees → Elements → Element
@@ -124,13 +127,15 @@ term_or_zero (Err f) = Node op.Zero 0 0 none
 
 -- the data that stands in a part of some bytes, else Zero
 abbrev pub data_in : List ℕ → Span → Tree
-data_in bytes span = if nat_le span.at span.end && nat_le span.end (length bytes) then term_or_zero (data_at (take span.end bytes) span.at) else Node op.Zero 0 0 none
+data_in bytes span = if nat_le span.at span.end && nat_le span.end (length bytes)
+    then term_or_zero (data_at (take span.end bytes) span.at) else Node op.Zero 0 0 none
 
 -- the first content of which it is told what it is, by where it comes from
 abbrev pub value_from : Shown → Content → Source → Value
 value_from ns told source.Revision = value_told ns.width told 2 [] value.none
 value_from ns told source.OsName = value_told ns.width told 0 ns.os value.none
-value_from ns told (source.Term table span scope) = value_in ns table scope told (data_in (bytes_of ns.tables table) span)
+value_from ns told (source.Term table span scope) =
+    value_in ns table scope told (data_in (bytes_of ns.tables table) span)
 
 -- what an object holds first, if it is a data name
 abbrev pub first_content : Shown → Option Object → Option Value

@@ -57,9 +57,9 @@ fn is_computed(op: Op, parts: &[Term]) -> bool
     }
 }
 
-/// Where in a literal of data the first buffer or package of computed size begins, in the order of the
-/// bytes, by the literal's operator, its place and its parts. None where each size is an integer
-/// literal.
+/// Where in a literal of data the first buffer or package of computed size begins, in the order of
+/// the bytes, by the literal's operator, its place and its parts. None where each size is an
+/// integer literal.
 #[cycle(computed)]
 pub fn computed_size(op: Op, at: usize, parts: &[Term]) -> Option<usize>
     ensures { result ≡ computed_size op at (views parts.now) }

@@ -1,5 +1,5 @@
-// Whether what data holds is of a kind, by its bytes alone: no term and no value is made, so that no
-// memory is taken.
+// Whether what data holds is of a kind, by its bytes alone: no term and no value is made, so that
+// no memory is taken.
 
 ghost use Rattle.std.specs.Prelude.{◌≡◌, ◌≤◌, ◌<◌, ◌∷◌, ◌&&◌, ◌||◌, [], IfSome, length, nat_le};
 ghost use Rattle.aml_operators.specs.Tree.{Tree};
@@ -103,8 +103,8 @@ fn is_same_so_far(before: bool, this: bool, count: usize, number: usize) -> bool
     before && (this || count <= number)
 }
 
-/// Where the element at a place ends, and whether it is of just this kind. None where reading it meets a
-/// fault.
+/// Where the element at a place ends, and whether it is of just this kind. None where reading it
+/// meets a fault.
 #[cycle(data_kind)]
 fn element(
     width: Width,
@@ -134,9 +134,9 @@ fn element(
     }
 }
 
-/// Where the elements of a package end, which stand behind its number of them, and whether so many of
-/// them have just these places: unset ones are missing, and further elements are dropped. None where
-/// reading one of them meets a fault, also where it is dropped.
+/// Where the elements of a package end, which stand behind its number of them, and whether so many
+/// of them have just these places: unset ones are missing, and further elements are dropped. None
+/// where reading one of them meets a fault, also where it is dropped.
 #[cycle(data_kind)]
 fn elements(
     width: Width,

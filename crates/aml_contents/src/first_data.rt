@@ -113,8 +113,8 @@ fn package_of(elements: Vec<Element>) -> Result<Value, AllocError>
     }
 }
 
-/// A value of which it is told what it is, made of a number or of bytes; a package has no element that
-/// is set.
+/// A value of which it is told what it is, made of a number or of bytes; a package has no element
+/// that is set.
 #[tactic(auto, using(crate::proofs::FirstValues::unset_counted))]
 pub(crate) fn plain_value(
     alloc: Global,
@@ -192,7 +192,8 @@ fn elements_behind(
     parts: &[Term],
 ) -> Result<Vec<Element>, AllocError>
     ensures { IfOk result (λ es. seen.elements_of es.items ≡
-        counted size (elements_behind (shown namespace.now) site.table site.scope (views parts.now))) }
+        counted size (elements_behind (shown namespace.now) site.table site.scope
+        (views parts.now))) }
 {
     let terms = behind_first(parts);
     let kept = first_terms(terms, size);

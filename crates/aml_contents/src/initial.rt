@@ -14,12 +14,12 @@ use std::alloc::{AllocError, Global};
 impl Names {
     ghost use Rattle.aml_contents.specs.Held.{contents, content_kinds};
 
-    /// What the data names of a namespace hold before any evaluation (ACPI 6.5, 19.6, Name): integers
-    /// modulo 2 to the width; strings; buffers as long as the greater of their size and their
-    /// initialiser, filled with zeros; packages of as many elements as they tell, further ones dropped
-    /// and missing ones unset, in packages too. A package's names are looked up from the scope in which
-    /// the data name stands, when all tables are loaded. `_REV` is 2, and `_OS_` the host's text. The
-    /// names belong to the namespace.
+    /// What the data names of a namespace hold before any evaluation (ACPI 6.5, 19.6, Name):
+    /// integers modulo 2 to the width; strings; buffers as long as the greater of their size and
+    /// their initialiser, filled with zeros; packages of as many elements as they tell, further
+    /// ones dropped and missing ones unset, in packages too. A package's names are looked up from
+    /// the scope in which the data name stands, when all tables are loaded. `_REV` is 2, and `_OS_`
+    /// the host's text. The names belong to the namespace.
     pub fn initial(alloc: Global, namespace: &Namespace<'_>) -> Result<Names, NoMemory>
         ensures contents { let ns = shown namespace.now in
             IfOk result (λ made. contents made ≡ first_contents ns) }

@@ -1,6 +1,7 @@
-//! What data names hold (ACPI 6.5, 19.6, Name), and what literals in bodies do. Rooms: `names`, each
-//! content of its name's kind; first contents `initial`, `first_contents`, `first_data`, `told`; their
-//! kinds `first_kinds`, and by the bytes alone `data_kinds`; `bodies`, literals in bodies.
+//! What data names hold (ACPI 6.5, 19.6, Name), and what literals in bodies do. Rooms: `names`,
+//! each content of its name's kind; first contents `initial`, `first_contents`, `first_data`,
+//! `told`; their kinds `first_kinds`, and by the bytes alone `data_kinds`; `bodies`, literals in
+//! bodies.
 #![tactic(auto)]
 
 mod bodies;

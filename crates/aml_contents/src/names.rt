@@ -26,7 +26,8 @@ pub struct Names {
     contents: Vec<Option<Value>>,
     /// Of each content.
     kinds: Vec<Option<Kind>>,
-    ghost fitting: { are_fitting (contents_of contents.items) (content_kinds_of kinds.items) ≡ true },
+    ghost fitting: { are_fitting (contents_of contents.items)
+        (content_kinds_of kinds.items) ≡ true },
 }
 
 impl Names {
@@ -43,9 +44,9 @@ impl Names {
         }
     }
 
-    /// Adds what the object with the next number holds first, None where it is no data name. An integer
-    /// is taken modulo 2 to the width. The name's kind is from now on that of this content; an integer's
-    /// is that of each integer of the width.
+    /// Adds what the object with the next number holds first, None where it is no data name. An
+    /// integer is taken modulo 2 to the width. The name's kind is from now on that of this content;
+    /// an integer's is that of each integer of the width.
     ///
     /// Where memory is wanted, nothing changes.
     pub fn push(&mut self, alloc: Global, width: Width, held: Option<Value>) -> Result<(), NoMemory>
@@ -108,9 +109,9 @@ impl Names {
         Ok(Names { contents, kinds })
     }
 
-    /// Whether these are the names of a namespace: there are just as many as it has objects, and their
-    /// kinds are those of its names' first contents, also of what stands in packages. The data is read
-    /// in the tables' bytes; no memory is taken.
+    /// Whether these are the names of a namespace: there are just as many as it has objects, and
+    /// their kinds are those of its names' first contents, also of what stands in packages. The
+    /// data is read in the tables' bytes; no memory is taken.
     pub fn belong(&self, namespace: &Namespace<'_>) -> bool
         ensures { IsTrue result ↔ Belong (shown namespace.now) (content_kinds self.now) }
     {
@@ -189,7 +190,8 @@ impl Names {
 /// Sets a byte of the buffer that stands in a place.
 fn put_byte(contents: &mut [Option<Value>], number: usize, at: usize, byte: u8) -> bool
     ensures there { result ≡ has_byte (content_at (contents_of contents.old) number) at }
-    ensures put { contents_of contents.new ≡ changed_byte (contents_of contents.old) number at byte }
+    ensures put { contents_of contents.new ≡
+        changed_byte (contents_of contents.old) number at byte }
 {
     if number >= contents.len() {
         return false;
@@ -276,8 +278,8 @@ fn is_kind_of(namespace: &Namespace<'_>, object: Option<Object>, kind: Option<&K
     }
 }
 
-/// Whether a kind is that of a name of whose first content it is told what it is, and where it comes
-/// from.
+/// Whether a kind is that of a name of whose first content it is told what it is, and where it
+/// comes from.
 fn is_kind_told(namespace: &Namespace<'_>, kind: &Kind, told: Content, source: Source) -> bool
     ensures { result ≡
         same_kind (kind_of kind.now) (name_kind_told (shown namespace.now) told source) }

@@ -1,9 +1,9 @@
-//! How many terms a name takes in a method's body, by what it means where it stands (ACPI 6.5, 20.2.5 and
-//! 5.3).
+//! How many terms a name takes in a method's body, by what it means where it stands (ACPI 6.5,
+//! 20.2.5 and 5.3).
 //!
-//! The grammar counts with the own names that stand at each statement. Who reads terms straight from the
-//! bytes asks what a name means, and has one count for the whole body: `specs/Counts` has it, and the law
-//! that it is the grammar's.
+//! The grammar counts with the own names that stand at each statement. Who reads terms straight
+//! from the bytes asks what a name means, and has one count for the whole body: `specs/Counts` has
+//! it, and the law that it is the grammar's.
 #![tactic(auto)]
 
 ghost use Rattle.std.specs.Prelude.{◌≡◌};
@@ -13,9 +13,9 @@ ghost use Rattle.aml_counts.specs.Counts.{OneCount};
 
 use aml_namespace::{Link, Namespace, Object};
 
-/// The statements of a method's body are terms by one count of what names take, which what they mean
-/// tells: an own name takes none where it stands, a method as many as its arguments, `_OSI` one, all
-/// else none; what means nothing as many as declarations tell.
+/// The statements of a method's body are terms by one count of what names take, which what they
+/// mean tells: an own name takes none where it stands, a method as many as its arguments, `_OSI`
+/// one, all else none; what means nothing as many as declarations tell.
 pub fn links_tell_counts()
     ensures { OneCount }
 {}

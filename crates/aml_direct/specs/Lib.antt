@@ -1,6 +1,5 @@
 pub mod Data
 pub mod Fields
-pub mod Keeps
 pub mod Methods
 pub mod Past
 pub mod Quiet

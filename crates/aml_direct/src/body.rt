@@ -8,18 +8,17 @@ ghost use Rattle.aml_namespace.specs.Names.{IsBodyOf, method_at};
 ghost use Rattle.aml_namespace.specs.Shows.{shown};
 ghost use Rattle.aml_machine.specs.Views.{names_of};
 ghost use Rattle.aml_bodies.specs.Kept.{kept_at};
-ghost use Rattle.aml_direct.specs.Keeps.{AreSound, IsKept};
+ghost use Rattle.aml_quick.specs.Keeps.{AreSound, IsKept};
 ghost use Rattle.aml_direct.specs.Methods.{Evaluates};
 
 use crate::eval::calls::eval_body;
-use crate::here::Here;
-use crate::kept_in::kept_in;
 use aml_bodies::Kept;
 use aml_contents::Names;
 use aml_machine::{Arguments, Frame, Machine};
 use aml_meaning::Outcome;
 use aml_namespace::Namespace;
 use aml_paths::{NoMemory, ObjectId};
+use aml_quick::{Here, kept_in};
 use aml_regions::World;
 use aml_scene::halt::outcome_of;
 use aml_scene::scene::Scene;
@@ -75,6 +74,7 @@ pub fn evaluate_direct<W: World>(
         scene: &scene,
         kept,
         depth: MOST_WITHIN,
+        asks_calls: true,
     };
     let mut machine = Machine {
         frame: Frame::new(alloc, 0, Arguments::of(arguments)),

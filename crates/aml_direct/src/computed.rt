@@ -23,7 +23,8 @@ fn past_literal(bytes: &[u8], at: usize) -> Option<usize>
     requires { SizeLies bytes.now at }
     ensures told { IfSome result (λ stop. (s : SizeLies bytes.now at) →
         (literal_of s.tree ≡ Option.None → ⊥) × (stop_of s.tree ≡ stop)) }
-    ensures computed { IfNone result ((s : SizeLies bytes.now at) → literal_of s.tree ≡ Option.None) }
+    ensures computed { IfNone result
+        ((s : SizeLies bytes.now at) → literal_of s.tree ≡ Option.None) }
 {
     let Some((op, next)) = op_at(bytes, at) else {
         return None;

@@ -5,13 +5,14 @@ ghost use Rattle.aml_operators.specs.Shape.{part_letters};
 ghost use Rattle.aml_meaning.specs.Actions.{action};
 ghost use Rattle.aml_meaning.specs.declared.action.Action.TheVariants as does;
 ghost use Rattle.aml_places.specs.Lies.{StandParts};
-ghost use Rattle.aml_direct.specs.Tells.{Acts, count_of};
+ghost use Rattle.aml_quick.specs.Settings.{count_of};
+ghost use Rattle.aml_direct.specs.Tells.{Acts};
 
 use crate::computed::computed_at;
-use crate::here::Here;
 use aml_literals::data_value;
 use aml_meaning::AmlCause;
 use aml_operators::Op;
+use aml_quick::Here;
 use aml_scene::halt::{Halt, fails};
 use aml_values::Value;
 use std::alloc::Global;

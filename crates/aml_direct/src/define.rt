@@ -9,15 +9,16 @@ ghost use Rattle.aml_meaning.specs.Definitions.{defined};
 ghost use Rattle.aml_machine.specs.Views.{now};
 ghost use Rattle.aml_scene.specs.Letters.{counted_field, sized_field};
 ghost use Rattle.aml_direct.specs.Fields.{IsLiteral, IsSource};
-ghost use Rattle.aml_direct.specs.Tells.{DoesParts, count_of, itself, nothing, setting_of};
+ghost use Rattle.aml_quick.specs.Settings.{count_of, setting_of};
+ghost use Rattle.aml_direct.specs.Tells.{DoesParts, itself, nothing};
 
-use crate::here::Here;
 use aml_acts::define::{counted, make_field};
 use aml_literals::literal_number;
 use aml_machine::Machine;
 use aml_meaning::{Action, AmlCause, action_of};
 use aml_namespace::{CreatedFieldSize, Link};
 use aml_places::name_end;
+use aml_quick::Here;
 use aml_scene::halt::{Halt, fails};
 use aml_scene::own::{link_of, makes_own};
 use aml_scene::steps::take_step;

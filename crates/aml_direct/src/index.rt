@@ -7,11 +7,11 @@ ghost use Rattle.aml_meaning.specs.Meaning.{indexed};
 ghost use Rattle.aml_meaning.specs.Runs.{Runs};
 ghost use Rattle.aml_machine.specs.Views.{now};
 ghost use Rattle.aml_scene.specs.Tells.{itself, told};
-ghost use Rattle.aml_direct.specs.Tells.{count_of, setting_of};
+ghost use Rattle.aml_quick.specs.Settings.{count_of, setting_of};
 
-use crate::here::Here;
 use aml_machine::Machine;
 use aml_meaning::{Action, AmlCause};
+use aml_quick::Here;
 use aml_scene::halt::Halt;
 use aml_scene::index::{bound, refused};
 use aml_tree::op_at;

@@ -2,10 +2,10 @@
 //! steps, errors included. No tree is made.
 //!
 //! Rooms: `body` is an evaluation's beginning and end, `eval` the cycle over terms, each function
-//! one form of the meaning; `here` where a body stands and what may be called; `kept_in` what is
-//! kept of a method's body; what reads terms beside the cycle are `computed`, `data`, `define`,
-//! `index`, `mutex`, `operand`, `past`, `placed`, `quiet` and `standing`. What terms do once their
-//! operands are values is aml_scene and aml_acts.
+//! one form of the meaning; what reads terms beside the cycle are `computed`, `data`, `define`,
+//! `index`, `mutex`, `operand`, `past`, `placed`, `quiet` and `standing`. Where a body stands and
+//! what may be called from it is aml_quick's, what terms do once their operands are values
+//! aml_scene and aml_acts.
 #![tactic(auto)]
 
 mod body;
@@ -13,9 +13,7 @@ mod computed;
 mod data;
 mod define;
 mod eval;
-mod here;
 mod index;
-mod kept_in;
 mod mutex;
 mod operand;
 mod past;

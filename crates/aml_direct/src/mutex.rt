@@ -6,13 +6,14 @@ ghost use Rattle.aml_meaning.specs.declared.action.Action.TheVariants as does;
 ghost use Rattle.aml_machine.specs.Views.{now};
 ghost use Rattle.aml_places.specs.Lies.{StandParts};
 ghost use Rattle.aml_scene.specs.Letters.{name_and_word, one_name};
-ghost use Rattle.aml_direct.specs.Tells.{Acts, count_of};
+ghost use Rattle.aml_quick.specs.Settings.{count_of};
+ghost use Rattle.aml_direct.specs.Tells.{Acts};
 
-use crate::here::Here;
 use aml_acts::mutex::{acquired, released};
 use aml_machine::Machine;
 use aml_meaning::action_of;
 use aml_places::target_at;
+use aml_quick::Here;
 use aml_scene::halt::Halt;
 use aml_values::Value;
 

@@ -9,7 +9,7 @@ ghost use Rattle.aml_operators.specs.Tree.{stop_of};
 ghost use Rattle.aml_tree.specs.OperatorAt.{op_there};
 ghost use Rattle.aml_places.specs.Lies.{Lies, LieArguments, LieParts, StandParts, Stands};
 ghost use Rattle.aml_direct.specs.Past.{PieceLies, StandArguments};
-ghost use Rattle.aml_direct.specs.Tells.{count_of};
+ghost use Rattle.aml_quick.specs.Settings.{count_of};
 
 use aml_counts::count;
 use aml_lex::{pkg_length, string_data};

@@ -1,4 +1,5 @@
--- How far a definition goes, by the letters of its row (ACPI 6.5, 20.2.5): its parts are read no further than their ends, and a package is stepped over.
+-- How far a definition goes, by the letters of its row (ACPI 6.5, 20.2.5): its parts are read no
+-- further than their ends, and a package is stepped over.
 use Rattle.std.specs.Prelude.{◌==◌, slice_get, ℕ, zero, suc, ◌+◌, List, [], ◌∷◌, length, Option, Some, None, Result, Ok, Err, nat_lt, if◌then◌else◌}
 use Rattle.aml_lex.specs.declared.fault.LexFault.{LexFault}
 use Rattle.aml_lex.specs.Reading.{package_end_at, name_string_at, string_data_at}
@@ -52,7 +53,8 @@ long_operator (Some b) next = and_next (op_of (0x5B00 + b)) next
 
 abbrev pub operator_of : List ℕ → ℕ → Option ℕ → Option (Op × ℕ)
 operator_of bytes at None = None
-operator_of bytes at (Some b) = if b == 0x5B then long_operator (slice_get bytes (at + 1)) (at + 2) else and_next (op_of b) (at + 1)
+operator_of bytes at (Some b) = if b == 0x5B then long_operator (slice_get bytes (at + 1)) (at + 2)
+    else and_next (op_of b) (at + 1)
 
 -- the operator whose opcode stands at a place, and the place behind the opcode
 unfoldable pub operator_at : List ℕ → ℕ → Option (Op × ℕ)
@@ -69,7 +71,8 @@ module _ (below : List ℕ → ℕ → Option ℕ) where
   piece_end piece.Bits bytes at = None
   piece_end piece.Connection bytes at = None
 
-  -- the place behind the parts that letters name, of which none goes to an end that no package gives
+  -- the place behind the parts that letters name, of which none goes to an end that no package
+  -- gives
   unfoldable pub letters_end : List Letter → List ℕ → ℕ → Option ℕ
   letters_end [] bytes at = Some at
   letters_end (One p ∷ rest) bytes at = and_then (piece_end p bytes at) (letters_end rest bytes)
@@ -95,8 +98,8 @@ module _ (below : List ℕ → ℕ → Option ℕ) where
   form_end bytes at None = name_end bytes at
   form_end bytes at (Some (o, next)) = letters_end (letters_of o) bytes next
 
--- the place behind a term, an operator with its parts or else a name, with at most so many terms one in another; a target that is none
--- counts for no term
+-- the place behind a term, an operator with its parts or else a name, with at most so many terms
+-- one in another; a target that is none counts for no term
 unfoldable pub term_end : ℕ → List ℕ → ℕ → Option ℕ
 term_end zero bytes at = if has_byte 0x00 bytes at then Some (at + 1) else None
 term_end (suc d) bytes at = form_end (term_end d) bytes at (operator_at bytes at)

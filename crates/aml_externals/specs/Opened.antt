@@ -1,4 +1,5 @@
--- A table whose dead Ifs are made Scopes of no name, which hold the same Externals at the same places.
+-- A table whose dead Ifs are made Scopes of no name, which hold the same Externals at the same
+-- places.
 use Rattle.std.specs.Prelude.{ℕ, zero, suc, ◌+◌, ◌-◌, ◌==◌, Bool, false, List, ◌++◌, length, take, drop, nat_lt, slice_set, if◌then◌else◌}
 use Rattle.aml_externals.specs.declared.step.Step.{Step}
 use Rattle.aml_externals.specs.declared.step.Step.TheVariants.{Dead, Enter, Over, Stop}
@@ -16,7 +17,8 @@ kept bytes = (bytes, 0)
 abbrev pub joined : Opened → Opened → Opened
 joined first second = (first.0 ++ second.0, first.1 + second.1)
 
--- the first byte is a Scope's opcode: what was the test Zero is now its name, the null name (ACPI 6.5, 20.2.2)
+-- the first byte is a Scope's opcode: what was the test Zero is now its name, the null name (ACPI
+-- 6.5, 20.2.2)
 abbrev pub as_scope : List ℕ → Opened
 as_scope bytes = (slice_set bytes 0 0x10, 1)
 
@@ -28,7 +30,8 @@ module _ (below : List ℕ → Opened) where
 
   abbrev pub opened_by : (List ℕ → Opened) → List ℕ → Step → Opened
   opened_by rest bytes (Dead size) = joined (as_scope (take size bytes)) (rest (drop size bytes))
-  opened_by rest bytes (Enter from size) = joined (entered from (take size bytes)) (rest (drop size bytes))
+  opened_by rest bytes (Enter from size) =
+      joined (entered from (take size bytes)) (rest (drop size bytes))
   opened_by rest bytes (Over size) = joined (kept (take size bytes)) (rest (drop size bytes))
   opened_by rest bytes Stop = kept bytes
 
@@ -48,10 +51,13 @@ module _ (below : List ℕ → ℕ → Bool) where
   dead_inside from bytes at = if nat_lt at from then false else below (drop from bytes) (at - from)
 
   abbrev pub dead_by : (List ℕ → ℕ → Bool) → List ℕ → ℕ → Step → Bool
-  dead_by rest bytes at (Dead size) = if nat_lt at size then at == 0 else rest (drop size bytes) (at - size)
+  dead_by rest bytes at (Dead size) =
+      if nat_lt at size then at == 0 else rest (drop size bytes) (at - size)
   dead_by rest bytes at (Enter from size) =
-      if nat_lt at size then dead_inside from (take size bytes) at else rest (drop size bytes) (at - size)
-  dead_by rest bytes at (Over size) = if nat_lt at size then false else rest (drop size bytes) (at - size)
+      if nat_lt at size then dead_inside from (take size bytes) at
+      else rest (drop size bytes) (at - size)
+  dead_by rest bytes at (Over size) =
+      if nat_lt at size then false else rest (drop size bytes) (at - size)
   dead_by rest bytes at Stop = false
 
   abbrev pub dead_until : ℕ → ℕ → List ℕ → ℕ → Bool

@@ -22,7 +22,8 @@ enter size (Some from) = Enter from size
 
 abbrev pub package_step : ℕ → List Letter → List ℕ → Option (ℕ × ℕ) → Step
 package_step d rest bytes None = Stop
-package_step d rest bytes (Some (stop, next)) = enter stop (list_at (term_end d) rest (take stop bytes) next)
+package_step d rest bytes (Some (stop, next)) =
+    enter stop (list_at (term_end d) rest (take stop bytes) next)
 
 -- a definition with these letters, whose parts stand from a place on
 abbrev pub letters_step : ℕ → List Letter → List ℕ → ℕ → Step
@@ -41,7 +42,8 @@ abbrev pub step_behind : ℕ → List ℕ → Option ℕ → Step
 step_behind d bytes (Some size) = Dead size
 step_behind d bytes None = operator_step d bytes (operator_at bytes 0)
 
--- what the bytes of a list begin with: a dead If; a definition that holds a list; another definition; or what is none, at which the list is left
--- as it stands. In a definition stand at most so many terms one in another.
+-- what the bytes of a list begin with: a dead If; a definition that holds a list; another
+-- definition; or what is none, at which the list is left as it stands. In a definition stand at
+-- most so many terms one in another.
 unfoldable pub step_of : ℕ → List ℕ → Step
 step_of d bytes = step_behind d bytes (dead_end bytes)

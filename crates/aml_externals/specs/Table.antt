@@ -3,7 +3,8 @@ use Rattle.std.specs.Prelude.{ℕ, ◌+◌, ◌*◌, ◌%◌, Bool, List, slice_
 use Rattle.aml_tree.specs.Body.{module_start}
 use Rattle.aml_externals.specs.Opened.{Opened, entered, opened, dead_inside, dead_in}
 
--- how many definitions of a module stand one in another, where another may stand in the innermost: a term has depth 64 at most
+-- how many definitions of a module stand one in another, where another may stand in the innermost:
+-- a term has depth 64 at most
 abbrev pub greatest_lists : ℕ
 greatest_lists = 63
 

@@ -59,7 +59,8 @@ fn are_externals(bytes: &[u8], at: usize) -> bool
     at < bytes.len() && externals_until(bytes, at)
 }
 
-/// Whether behind the length of an If's package stands Zero, then Externals alone, and no Else follows.
+/// Whether behind the length of an If's package stands Zero, then Externals alone, and no Else
+/// follows.
 fn holds_externals(bytes: &[u8], stop: usize, next: usize) -> bool
     requires ordered { next ≤ stop }
     requires within { stop ≤ length bytes.now }

@@ -148,8 +148,8 @@ fn no_target_end(bytes: &[u8], at: usize) -> Option<usize>
     }
 }
 
-/// The place behind a term, with at most so many terms one in another; a target that is none counts for
-/// no term.
+/// The place behind a term, with at most so many terms one in another; a target that is none counts
+/// for no term.
 #[cycle(skip)]
 #[tactic(auto, unfolding(crate::specs::Extents::term_end))]
 fn term_end(bytes: &[u8], at: usize, depth: u8) -> Option<usize>

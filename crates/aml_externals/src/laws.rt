@@ -22,13 +22,14 @@ pub fn opening_is_done_once()
     ensures none { NoneIsFoundAgain }
 {}
 
-/// By the grammar a dead If's block holds Externals alone, and is a Scope of no name that has just these,
-/// at the same places, once its opcode is a Scope's.
+/// By the grammar a dead If's block holds Externals alone, and is a Scope of no name that has just
+/// these, at the same places, once its opcode is a Scope's.
 pub fn dead_ifs_are_scopes()
     ensures { DeadIfsAreScopes }
 {}
 
-/// In a table that is opened no dead If stands before the first fault of its module, by the grammar.
+/// In a table that is opened no dead If stands before the first fault of its module, by the
+/// grammar.
 pub fn no_dead_if_is_left()
     ensures { NoneIsLeft }
 {}

@@ -18,10 +18,11 @@ const CHECKSUM: usize = 9;
 /// How much lower a Scope's opcode is than an If's.
 const LOWER: u8 = 0x90;
 
-/// Makes each dead If of a table's module a Scope of no name, in place: an If whose test is Zero, which
-/// holds one External or more and nothing else, and has no Else, in the table's list of definitions or
-/// in that of a definition there. Its opcode A0 becomes 10, the test's byte 00 is then the null name, and
-/// the checksum at place 9 changes to fit. All other bytes stay, so each External keeps its place.
+/// Makes each dead If of a table's module a Scope of no name, in place: an If whose test is Zero,
+/// which holds one External or more and nothing else, and has no Else, in the table's list of
+/// definitions or in that of a definition there. Its opcode A0 becomes 10, the test's byte 00 is
+/// then the null name, and the checksum at place 9 changes to fit. All other bytes stay, so each
+/// External keeps its place.
 ///
 /// Answers how many there were. A table with a fault of its header stays as it is. In a list, what
 /// stands behind the first thing that is no definition stays as it is.
@@ -54,8 +55,8 @@ fn raised(checksum: u8, count: usize) -> u8
     ((checksum as u32 + LOWER as u32 * low) % 256) as u8
 }
 
-/// Whether at such a place of a table begins an If that `open_dead_externals` makes a Scope. None does in
-/// a table with a fault of its header.
+/// Whether at such a place of a table begins an If that `open_dead_externals` makes a Scope. None
+/// does in a table with a fault of its header.
 pub fn is_dead_if(table: &[u8], at: usize) -> bool
     ensures here { IsTable table.now → result ≡ dead_at table.now at }
     ensures none { (IsTable table.now → ⊥) → result ≡ false }

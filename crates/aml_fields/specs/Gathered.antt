@@ -24,7 +24,8 @@ pub record GoesOn (before bit : ℕ → ℕ) (done take part : ℕ) : Type 0 whe
 
 -- all units are read, and then the field's bits make something
 abbrev pub bits_read : {V : Type 0} → UnitPlan → (ℕ → (ℕ → ℕ) → V) → M V
-bits_read p made = read_all_units p.layout p.read (λ answers. made p.layout.bits (field_bit p.layout answers))
+bits_read p made =
+    read_all_units p.layout p.read (λ answers. made p.layout.bits (field_bit p.layout answers))
 
 -- an answer whose value was gathered
 abbrev pub told_gathered : {V : Type 0} → Result Bool NoMemory → V → Result V runs.Halt

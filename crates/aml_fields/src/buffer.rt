@@ -8,8 +8,8 @@ use crate::bytes::{are_bytes, part_of_bytes};
 use crate::kernel::byte_replaced;
 use crate::source::Bits;
 
-/// The integer of a field of a buffer, of at most 64 bits: bit i of the field is bit `(at + i) mod 8`
-/// of the buffer's byte `(at + i) div 8`.
+/// The integer of a field of a buffer, of at most 64 bits: bit i of the field is bit `(at + i) mod
+/// 8` of the buffer's byte `(at + i) div 8`.
 pub fn read_buffer_field(buffer: &[u8], at: u64, bits: u32) -> u64
     requires short { bits ≤ 64 }
     requires inside { at + bits ≤ 8 * length buffer.now }
@@ -19,8 +19,8 @@ pub fn read_buffer_field(buffer: &[u8], at: u64, bits: u32) -> u64
     part_of_bytes(buffer, at, bits)
 }
 
-/// The bytes of a field of a buffer, as many as its bits want: zeros stand behind its last bit. It takes
-/// no memory.
+/// The bytes of a field of a buffer, as many as its bits want: zeros stand behind its last bit. It
+/// takes no memory.
 pub fn read_wide_buffer_field(buffer: &[u8], at: u64, bits: u64, bytes: &mut [u8])
     requires size { length bytes.old ≡ (bits + 7) / 8 }
     requires most { bits < 2 ^ 32 }
@@ -35,8 +35,8 @@ pub fn read_wide_buffer_field(buffer: &[u8], at: u64, bits: u64, bytes: &mut [u8
     }
 }
 
-/// Gives a field of a buffer bits, those of an integer or of bytes: the lowest that it has room for,
-/// with zeros behind them.
+/// Gives a field of a buffer bits, those of an integer or of bytes: the lowest that it has room
+/// for, with zeros behind them.
 pub fn write_buffer_field<B: Bits>(buffer: &mut [u8], at: u64, bits: u64, value: &B)
     requires some { 0 < bits }
     requires inside { at + bits ≤ 8 * length buffer.old }

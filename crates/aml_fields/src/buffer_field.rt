@@ -17,7 +17,8 @@ use aml_paths::{NoMemory, ObjectId};
 use aml_values::{Bytes, Value};
 use std::alloc::Global;
 
-// The byte at an index, which counts bits of a bit field and of one of so many bits, and else bytes.
+// The byte at an index, which counts bits of a bit field and of one of so many bits, and else
+// bytes.
 fn byte_at(size: CreatedFieldSize, index: u64) -> u64
     ensures { result ≡ byte_at size index }
 {
@@ -37,9 +38,9 @@ fn bit_in_byte(size: CreatedFieldSize, index: u64) -> u8
     }
 }
 
-/// The field of a source with this size, at an index that counts bits for CreateBitField and CreateField
-/// and else bytes (ACPI 6.5, 19.6). Integers are taken modulo 2 to the width. Its first bit may lie
-/// past 2^64.
+/// The field of a source with this size, at an index that counts bits for CreateBitField and
+/// CreateField and else bytes (ACPI 6.5, 19.6). Integers are taken modulo 2 to the width. Its first
+/// bit may lie past 2^64.
 pub fn made_buffer_field(
     width: Width,
     source: Link,
@@ -99,8 +100,8 @@ fn buffer_field_in(namespace: &Namespace<'_>, field: &CreatedField) -> Option<Bu
     usable_buffer_field(made_buffer_field(namespace.width(), source, field.size, field.index))
 }
 
-/// The field of a buffer that the object with a number is. None where it is none, or has no bit or more
-/// than 2,048.
+/// The field of a buffer that the object with a number is. None where it is none, or has no bit or
+/// more than 2,048.
 pub fn buffer_field_numbered(namespace: &Namespace<'_>, id: ObjectId) -> Option<BufferField>
     ensures is { result ≡ buffer_field_numbered (shown namespace.now) id.0 }
     ensures laid_out { IfSome result IsLaidOut }
@@ -111,8 +112,8 @@ pub fn buffer_field_numbered(namespace: &Namespace<'_>, id: ObjectId) -> Option<
     }
 }
 
-/// The value of a field of a buffer: an integer, where it has no more bits than integers of this width,
-/// and else a buffer of as many bytes as its bits want. It takes memory for a buffer alone.
+/// The value of a field of a buffer: an integer, where it has no more bits than integers of this
+/// width, and else a buffer of as many bytes as its bits want. It takes memory for a buffer alone.
 pub fn buffer_field_value(
     alloc: Global,
     width: Width,
@@ -137,9 +138,9 @@ pub fn buffer_field_value(
     Ok(Value::Buf(Bytes::new(read)))
 }
 
-/// The byte with a number of a buffer, which was `byte`, behind a store of bits into a field of that
-/// buffer: those of an integer or of bytes, the lowest that the field has room for, with zeros behind
-/// them.
+/// The byte with a number of a buffer, which was `byte`, behind a store of bits into a field of
+/// that buffer: those of an integer or of bytes, the lowest that the field has room for, with zeros
+/// behind them.
 pub fn stored_byte<B: Bits>(field: BufferField, place: u64, byte: u8, value: &B) -> u8
     requires { IsLaidOut field }
     ensures { result ≡ mixed (in_bytes (first_bit field) field.bits) (B.bit value.now) place byte }

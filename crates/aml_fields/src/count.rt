@@ -23,8 +23,8 @@ pub fn read_count(field: &AnyField) -> u64
     units_of(&field.layout()) * unit_events(field).read
 }
 
-/// The events of one write of a field: those of a write of each unit that it touches, and where bits
-/// beside the field are kept, of a read before it.
+/// The events of one write of a field: those of a write of each unit that it touches, and where
+/// bits beside the field are kept, of a read before it.
 #[tactic(auto, using(crate::proofs::Plans::plan_layout), unfolding(aml_meaning::specs::Fields::write_count, aml_meaning::specs::Fields::plan_writes))]
 pub fn write_count(field: &AnyField) -> u64
     requires { IsSoundField field.now }

@@ -10,9 +10,9 @@ pub fn events_are_made()
     ensures not_made { NoEventWithoutStep }
 {}
 
-/// A read or a write of a field makes just as many events as `read_count` and `write_count` tell. With a
-/// limit below that it makes the first of them, as many as the limit: so an answer is there just where
-/// they are within the limit, unless memory was wanted.
+/// A read or a write of a field makes just as many events as `read_count` and `write_count` tell.
+/// With a limit below that it makes the first of them, as many as the limit: so an answer is there
+/// just where they are within the limit, unless memory was wanted.
 pub fn limits_count_events()
     ensures reads { ReadsHaveTheirEvents }
     ensures writes { WritesHaveTheirEvents }

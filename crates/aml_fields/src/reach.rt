@@ -11,11 +11,11 @@ use aml_regions::{
     AnyField, BankedField, FieldLayout, IndexedField, OtherBits, RegionField, UnitWidth,
 };
 
-/// The field that a field of a namespace is. None where it cannot be read and written: its access or its
-/// update rule is reserved, or it stands behind a connection or an extended access in its list; its
-/// region is missing, is no region of the tables' own, or has a computed place or size; its bank value
-/// is computed; its index, data or bank field is no field of a region of which all this holds; or it
-/// is not sound.
+/// The field that a field of a namespace is. None where it cannot be read and written: its access
+/// or its update rule is reserved, or it stands behind a connection or an extended access in its
+/// list; its region is missing, is no region of the tables' own, or has a computed place or size;
+/// its bank value is computed; its index, data or bank field is no field of a region of which all
+/// this holds; or it is not sound.
 pub fn field_in(namespace: &Namespace<'_>, field: &Field) -> Option<AnyField>
     ensures is { result ≡ usable (shown namespace.now) field.now }
     ensures sound { IfSome result IsSoundField }

@@ -13,8 +13,8 @@ use crate::units::{Units, end_of, first_of};
 use aml_paths::NoMemory;
 use aml_regions::{AnyField, World};
 
-/// Gathers the bits of what is read unit by unit, in rising order. False where more events are wanted
-/// than are left.
+/// Gathers the bits of what is read unit by unit, in rising order. False where more events are
+/// wanted than are left.
 pub(crate) fn read_units<W: World, U: Units<W>, G: Gathers>(
     world: &mut W,
     units: &U,
@@ -53,8 +53,8 @@ pub(crate) fn read_units<W: World, U: Units<W>, G: Gathers>(
     Ok(true)
 }
 
-/// The integer of what has at most 64 bits, read unit by unit in rising order. None where more events
-/// are wanted than are left.
+/// The integer of what has at most 64 bits, read unit by unit in rising order. None where more
+/// events are wanted than are left.
 pub(crate) fn read_integer<W: World, U: Units<W>>(
     world: &mut W,
     units: &U,
@@ -78,8 +78,8 @@ pub(crate) fn read_integer<W: World, U: Units<W>>(
     Ok(Some(value))
 }
 
-/// The integer of a field of at most 64 bits, by at most `limit` events. None where more are wanted:
-/// the first `limit` were made. It takes no memory of its own.
+/// The integer of a field of at most 64 bits, by at most `limit` events. None where more are
+/// wanted: the first `limit` were made. It takes no memory of its own.
 pub fn read_integer_field<W: World>(
     world: &mut W,
     field: &AnyField,

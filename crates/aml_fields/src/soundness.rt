@@ -6,11 +6,11 @@ ghost use Rattle.aml_regions.specs.Fields.{IsLaidOut, IsSound, IsSoundField, IsS
 use crate::units::{end_of, place_of};
 use aml_regions::{AnyField, FieldLayout, IndexedField, RegionField};
 
-/// Whether a field can be read and written. A field of a region: it has between 1 and 2,048 bits, its
-/// last bit lies below 2^64, its units lie in the region, each as a whole, the region lies below 2^64,
-/// and its space is known. Behind a bank field: that is so of both. Behind an index field and a data
-/// field: its bits are as many, its last bit lies below 2^64, index and data field are such fields of
-/// regions, and the data field has just as many bits as a unit.
+/// Whether a field can be read and written. A field of a region: it has between 1 and 2,048 bits,
+/// its last bit lies below 2^64, its units lie in the region, each as a whole, the region lies
+/// below 2^64, and its space is known. Behind a bank field: that is so of both. Behind an index
+/// field and a data field: its bits are as many, its last bit lies below 2^64, index and data field
+/// are such fields of regions, and the data field has just as many bits as a unit.
 pub fn sound(field: &AnyField) -> bool
     ensures { IsTrue result ↔ IsSoundField field.now }
 {

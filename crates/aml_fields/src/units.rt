@@ -36,8 +36,8 @@ pub(crate) fn place_of(layout: &FieldLayout, unit: u64) -> u64
     unit * u64::from(layout.width.bits() / 8)
 }
 
-/// What is read and written unit by unit. Each call is given how many events are left, and takes those
-/// that it makes from them.
+/// What is read and written unit by unit. Each call is given how many events are left, and takes
+/// those that it makes from them.
 pub(crate) trait Units<W: World> {
     /// Its units, as the meaning has them.
     ghost plan: { Self → UnitPlan };

@@ -16,10 +16,10 @@ use aml_regions::{AnyField, World};
 use aml_values::{Bytes, Value};
 use std::alloc::Global;
 
-/// A field's value, by at most `limit` events: an integer, where the field has no more bits than integers
-/// of this width, and else a buffer of as many bytes as its bits want, with zeros behind the last one.
-/// None where more events are wanted: the first `limit` were made. It takes memory for a buffer alone,
-/// before its first event.
+/// A field's value, by at most `limit` events: an integer, where the field has no more bits than
+/// integers of this width, and else a buffer of as many bytes as its bits want, with zeros behind
+/// the last one. None where more events are wanted: the first `limit` were made. It takes memory
+/// for a buffer alone, before its first event.
 pub fn read_field<W: World>(
     alloc: Global,
     world: &mut W,

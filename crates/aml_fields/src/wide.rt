@@ -11,9 +11,9 @@ use crate::read::read_units;
 use aml_paths::NoMemory;
 use aml_regions::{AnyField, World};
 
-/// The bytes of a field, as many as its bits want, by at most `limit` events: zeros stand behind its
-/// last bit. False where more events are wanted: the first `limit` were made, and the bytes are not the
-/// field's. It takes no memory of its own.
+/// The bytes of a field, as many as its bits want, by at most `limit` events: zeros stand behind
+/// its last bit. False where more events are wanted: the first `limit` were made, and the bytes are
+/// not the field's. It takes no memory of its own.
 pub fn read_wide_field<W: World>(
     world: &mut W,
     field: &AnyField,

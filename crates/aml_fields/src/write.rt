@@ -12,8 +12,8 @@ use crate::units::{Units, end_of, first_of};
 use aml_paths::NoMemory;
 use aml_regions::{AnyField, OtherBits, World};
 
-// What the bits of a unit that are not the field's are given; none are there where the unit is wholly
-// the field's. None where more events are wanted than are left.
+// What the bits of a unit that are not the field's are given; none are there where the unit is
+// wholly the field's. None where more events are wanted than are left.
 fn others<W: World, U: Units<W>>(
     world: &mut W,
     units: &U,
@@ -47,8 +47,8 @@ fn others<W: World, U: Units<W>>(
     }
 }
 
-/// Gives bits to what is written unit by unit, in rising order: the lowest bits that it has room for,
-/// with zeros behind them. False where more events are wanted than are left.
+/// Gives bits to what is written unit by unit, in rising order: the lowest bits that it has room
+/// for, with zeros behind them. False where more events are wanted than are left.
 pub(crate) fn write_units<W: World, U: Units<W>, B: Bits>(
     world: &mut W,
     units: &U,
@@ -83,9 +83,9 @@ pub(crate) fn write_units<W: World, U: Units<W>, B: Bits>(
     Ok(true)
 }
 
-/// Gives a field bits, those of an integer or of bytes, by at most `limit` events: the lowest bits that
-/// it has room for, with zeros behind them. False where more events are wanted: the first `limit` were
-/// made. It takes no memory of its own.
+/// Gives a field bits, those of an integer or of bytes, by at most `limit` events: the lowest bits
+/// that it has room for, with zeros behind them. False where more events are wanted: the first
+/// `limit` were made. It takes no memory of its own.
 pub fn write_field<W: World, B: Bits>(
     world: &mut W,
     field: &AnyField,

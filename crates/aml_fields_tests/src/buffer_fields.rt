@@ -1,5 +1,6 @@
-// The fields of buffers of a table, by tables written by hand from the grammar (ACPI 6.5, 19.6 and 20.2.5.2),
-// and stored bytes, worked out bit by bit. Values are told by the rows of crates/acpicheck/rows.
+// The fields of buffers of a table, by tables written by hand from the grammar (ACPI 6.5, 19.6 and
+// 20.2.5.2), and stored bytes, worked out bit by bit. Values are told by the rows of
+// crates/acpicheck/rows.
 
 use acpi_samples::{HOST, table_of};
 use aml_fields::{buffer_field_numbered, made_buffer_field, stored_byte, usable_buffer_field};
@@ -14,8 +15,8 @@ const BUFFER: &[u8] = b"\x08BUF0\x11\x03\x0a\x08";
 /// Name (INT0, 1) and Device (DEV0) {}.
 const OTHERS: &[u8] = b"\x08INT0\x01\x5b\x82\x05DEV0";
 
-/// A definition of FLD0; and whether its source is a data name, the byte and the bit there at which it
-/// begins, and its number of bits.
+/// A definition of FLD0; and whether its source is a data name, the byte and the bit there at which
+/// it begins, and its number of bits.
 const ROWS: [(&[u8], Option<(bool, u64, u8, u64)>); 19] = [
     (b"\x8dBUF0\x0a\x05FLD0", Some((true, 0, 5, 1))),
     (b"\x8dBUF0\x0a\x17FLD0", Some((true, 2, 7, 1))),
@@ -107,8 +108,8 @@ fn rows_of_buffer_fields(rt: HostRuntime) -> Result<(), Fail> {
     Ok(())
 }
 
-/// How wide integers are, a size and an index; and the byte, the bit there and the number of bits of
-/// the field that they make.
+/// How wide integers are, a size and an index; and the byte, the bit there and the number of bits
+/// of the field that they make.
 const MADE: [(Width, CreatedFieldSize, u64, u64, u8, u64); 12] = [
     (Width::Bits64, CreatedFieldSize::Bit, 12, 1, 4, 1),
     (Width::Bits64, CreatedFieldSize::Byte, 12, 12, 0, 8),
@@ -188,8 +189,8 @@ fn buffer_fields_of_1_to_2048_bits_can_be_used(rt: HostRuntime) -> Result<(), Fa
 /// The bytes in which the fields lie.
 const BYTES: [u8; 10] = [0xa5, 0x5a, 0xff, 0x00, 0x12, 0x34, 0x56, 0x78, 0x9a, 0xbc];
 
-/// The byte and the bit at which a field of the bytes begins, its number of bits, what is stored, and the
-/// bytes behind that.
+/// The byte and the bit at which a field of the bytes begins, its number of bits, what is stored,
+/// and the bytes behind that.
 const STORED: &[(u64, u8, u64, u64, [u8; 10])] = &[
     (
         0,

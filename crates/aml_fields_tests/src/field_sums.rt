@@ -192,8 +192,8 @@ fn place_sum(alloc: Global, width: UnitWidth, others: OtherBits, at: u64) -> Res
     Ok(sum)
 }
 
-/// Every so many-th of the first bits from 0 to 130 is tried: these stand at each place of a byte. A run over
-/// all of them takes minutes.
+/// Every so many-th of the first bits from 0 to 130 is tried: these stand at each place of a byte.
+/// A run over all of them takes minutes.
 const STEP: u64 = 13;
 
 /// Units' width, the other bits, and the sum of all fields of 1 to 130 bits at these first bits.

@@ -1,5 +1,6 @@
-// A write that ends at its limit, by a row that `bench/fields.py limit` works out bit by bit; which fields are sound; and
-// the bits of a buffer. What fields are given and what is read of them is told by `field_bits.rows` of crates/acpicheck/rows.
+// A write that ends at its limit, by a row that `bench/fields.py limit` works out bit by bit; which
+// fields are sound; and the bits of a buffer. What fields are given and what is read of them is
+// told by `field_bits.rows` of crates/acpicheck/rows.
 
 use crate::logs::{part_of, registers};
 use aml_fields::{

@@ -1,5 +1,6 @@
-// Fields behind others in a world that refuses every call behind the k-th, for each k: the events so far are the first of
-// those that are made otherwise. What the events are is told by `field_events.rows` of crates/acpicheck/rows.
+// Fields behind others in a world that refuses every call behind the k-th, for each k: the events
+// so far are the first of those that are made otherwise. What the events are is told by
+// `field_events.rows` of crates/acpicheck/rows.
 
 use crate::logs::{part_of, registers};
 use UnitWidth::{Byte, Word};
@@ -197,8 +198,8 @@ fn are_first(events: &[Event], all: &[Event]) -> bool {
     events.len() <= all.len()
 }
 
-/// Whether a call in a world that answers so many of its events is refused behind them, and these are
-/// the first of all.
+/// Whether a call in a world that answers so many of its events is refused behind them, and these
+/// are the first of all.
 fn is_refused_behind(
     alloc: Global,
     field: &AnyField,

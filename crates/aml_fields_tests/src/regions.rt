@@ -1,5 +1,5 @@
-// Worlds that answer accesses: the register file, one of ones alone, and one that refuses every call.
-// Expected values were worked out by hand.
+// Worlds that answer accesses: the register file, one of ones alone, and one that refuses every
+// call. Expected values were worked out by hand.
 
 ghost use Rattle.std.specs.Prelude.{◌<◌, ◌^◌};
 ghost use Rattle.aml_regions.specs.Worlds.{IsUnit};

@@ -1,12 +1,10 @@
 -- What the verifier accepted is there, is kept, and ends well.
 use Rattle.std.proofs.Common.{◌≡◌, ℕ, List, Option, Some, None, Ok, refl, sym, ap, ◌∙◌, subst, arith, rules}
 use Rattle.std.specs.Prelude.{IsSome}
-use Rattle.aml_bodies.specs.Kept.{AreAllKept, AreKept, kept_at}
 use Rattle.aml_bodies.specs.Methods.{Around}
-use Rattle.aml_bodies.specs.declared.keeping.Kept.{Kept}
 use Rattle.aml_contents.specs.Contents.{ContentKinds}
 use Rattle.aml_contents.specs.FirstContents.{first_kinds}
-use Rattle.aml_direct.specs.Keeps.{AreSound}
+use Rattle.aml_quick.proofs.Keeps.{are_sound}
 use Rattle.aml_interp.proofs.Bodies.{same_methods}
 use Rattle.aml_interp.proofs.Ends.{allowed, ends_well}
 use Rattle.aml_interp.specs.Answers.{IsReady}
@@ -23,7 +21,6 @@ use Rattle.aml_meaning.specs.Within.{Callee, Methods, call_within, most_within, 
 use Rattle.aml_methods.proofs.Judgings.{callee_there}
 use Rattle.aml_methods.proofs.JudgingsThere.{judgings_are_there}
 use Rattle.aml_methods.specs.Judgings.{IsJudging, Told}
-use Rattle.aml_namespace.specs.Load.{Shown}
 use Rattle.aml_namespace.specs.Names.{IsBodyOf, method_at}
 use Rattle.aml_namespace.specs.Shows.{shown}
 use Rattle.aml_objects.specs.declared.object.Method.{Method}
@@ -39,28 +36,6 @@ use Rattle.aml_verify.specs.Said.{verdict_at}
 use Rattle.aml_verify.specs.Verdicts.{IsChecked}
 use Rattle.aml_verify.specs.declared.checked.Checked.{Checked}
 use Rattle.aml_verify.specs.declared.verdict.Verdict.TheVariants as verdict
-
-never : (o : Option Kept) → IsSome o → o ≡ None → ⊥
-never None some none = absurd cc
-never (Some one) some none = absurd cc
-
--- what the verifier keeps of methods' bodies is what an evaluation from the bytes takes
-pub are_sound : (ns : Shown) (kept : List (Option Kept)) → AreKept ns kept → AreAllKept ns kept → AreSound ns kept
-are_sound ns kept are all = record {
-  are = λ k one is.
-      let i = are k one is in
-      record {
-        table = i.table;
-        opcode = i.opcode;
-        start = i.start;
-        read = λ m there bodies are none.
-            let r = i.read m there in
-            let some : bodies k ≡ Some (trees r.0) = are.all k m there r.0 r.1 in absurd cc;
-        owns = i.owns;
-        links = i.links;
-      };
-  all = λ k m there ts body none. never (kept_at kept k) (all k m there ts body) none;
-}
 
 module _ (told : Told) (c : Checked) (k : ℕ) (a : Accepted) (checked : IsChecked told c) (said : verdict_at c.verdicts.items k ≡ Some (verdict.Accepted a)) where
   method_of : (o : Option Method) → method_at (shown c.namespace.now) k ≡ o → (m : Method) × (method_at (shown c.namespace.now) k ≡ Some m)

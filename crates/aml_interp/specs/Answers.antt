@@ -1,7 +1,7 @@
 -- What an evaluation of an accepted method answers.
 use Rattle.std.specs.Prelude.{◌≡◌, ℕ, List, Option, Some, None, IsSome, Result, Ok, Err}
 use Rattle.aml_bodies.specs.Kept.{kept_at}
-use Rattle.aml_direct.specs.Keeps.{AreSound}
+use Rattle.aml_quick.specs.Keeps.{AreSound}
 use Rattle.aml_direct.specs.Methods.{Evaluates}
 use Rattle.aml_meaning.specs.State.{Names}
 use Rattle.aml_meaning.specs.declared.outcome.Outcome.{Outcome}

@@ -1,4 +1,5 @@
-// Methods that run while another sleeps. What names hold then was worked out by hand (ACPI 6.5, 19.6, Sleep).
+// Methods that run while another sleeps. What names hold then was worked out by hand (ACPI 6.5,
+// 19.6, Sleep).
 
 ghost use Rattle.std.specs.Prelude.{◌≡◌, IfOk, [], ◌∷◌};
 ghost use Rattle.aml_interp.specs.Answers.{WereChecked};
@@ -16,8 +17,8 @@ use std::alloc::{AllocError, Global};
 use std::process::Abort;
 use std::test::Fail;
 
-/// Name (CNT0, 5), Method (M014) {Sleep (One) Return (CNT0)}, Method (INC0) {Increment (CNT0)}: objects 9, 10
-/// and 11.
+/// Name (CNT0, 5), Method (M014) {Sleep (One) Return (CNT0)}, Method (INC0) {Increment (CNT0)}:
+/// objects 9, 10 and 11.
 const COUNTED: &[u8] =
     b"\x08CNT0\x0a\x05\x14\x0eM014\x00\x5b\x22\x01\xa4CNT0\x14\x0bINC0\x00\x75CNT0";
 
@@ -55,7 +56,8 @@ fn is_counted_in(
     }
 }
 
-/// The same by the verdicts on them; or memory is wanted, and CNT0 holds what it held, or what INC0 left.
+/// The same by the verdicts on them; or memory is wanted, and CNT0 holds what it held, or what INC0
+/// left.
 fn is_counted_by(rt: &impl Abort, alloc: Global, checked: &Checked<'_>) -> Result<(), LoadFault>
     requires { WereChecked checked.now }
 {

@@ -19,8 +19,8 @@ const FIRST: Method = Method {
     registers: b"",
 };
 
-/// OperationRegion (GPIO, SystemIO, 0x60, 4), Field (GPIO, ByteAcc, NoLock, Preserve) {, 4, FLD0, 8}, Method
-/// (M001) {Store (0xab, FLD0)}, which is object 11.
+/// OperationRegion (GPIO, SystemIO, 0x60, 4), Field (GPIO, ByteAcc, NoLock, Preserve) {, 4, FLD0,
+/// 8}, Method (M001) {Store (0xab, FLD0)}, which is object 11.
 pub(crate) const PRESERVED: Method = Method {
     revision: 2,
     module: b"\x5b\x80GPIO\x01\x0a\x60\x0a\x04\x5b\x81\x0dGPIO\x01\x00\x04FLD0\x08\
@@ -30,9 +30,9 @@ pub(crate) const PRESERVED: Method = Method {
     registers: b"io 60 1527",
 };
 
-/// OperationRegion (RGN0, SystemIO, 0x70, 2), Field (RGN0, ByteAcc, NoLock, Preserve) {IDX0, 8, DAT0, 8},
-/// IndexField (IDX0, DAT0, ByteAcc, NoLock, Preserve) {, 20, RTC0, 4}, Method (M020) {Store (3, RTC0)}, which
-/// is object 13.
+/// OperationRegion (RGN0, SystemIO, 0x70, 2), Field (RGN0, ByteAcc, NoLock, Preserve) {IDX0, 8,
+/// DAT0, 8}, IndexField (IDX0, DAT0, ByteAcc, NoLock, Preserve) {, 20, RTC0, 4}, Method (M020)
+/// {Store (3, RTC0)}, which is object 13.
 pub(crate) const INDEXED: Method = Method {
     revision: 2,
     module: b"\x5b\x80RGN0\x01\x0a\x70\x0a\x02\x5b\x81\x10RGN0\x01IDX0\x08DAT0\x08\
@@ -42,8 +42,8 @@ pub(crate) const INDEXED: Method = Method {
     registers: b"io 71 5a",
 };
 
-/// Name (BUF0, Buffer (16) {}), Method (M019) {Store (Zero, Local0) While (LLess (Local0, 16)) {Store (Local0,
-/// Index (BUF0, Local0)) Increment (Local0)} Return (BUF0)}, which is object 10.
+/// Name (BUF0, Buffer (16) {}), Method (M019) {Store (Zero, Local0) While (LLess (Local0, 16))
+/// {Store (Local0, Index (BUF0, Local0)) Increment (Local0)} Return (BUF0)}, which is object 10.
 pub(crate) const FILLED: Method = Method {
     revision: 2,
     module: b"\x08BUF0\x11\x03\x0a\x10\x14\x1fM019\x00\x70\x00\x60\xa2\x10\x95\x60\x0a\x10\
@@ -185,8 +185,8 @@ const ROWS: &[Row] = &[
         Wanted::Nothing,
         &[Call::Notified(9, 0x80), Call::Slept(1), Call::Stalled(1)],
     ),
-    // Method (M030, 1) {Return (M031 (Arg0, Zero))}, Method (M031, 2) {Name (OWN0, 5) If (Arg1) {Return (Zero)}
-    // Else {Increment (OWN0)} Return (Add (Arg0, OWN0))}
+    // Method (M030, 1) {Return (M031 (Arg0, Zero))}, Method (M031, 2) {Name (OWN0, 5) If (Arg1)
+    // {Return (Zero)} Else {Increment (OWN0)} Return (Add (Arg0, OWN0))}
     (
         Method {
             arguments: &[7],

@@ -1,5 +1,5 @@
-// Evaluations over a world that refuses behind so many calls, and over one of ones. Accesses were worked
-// out by hand (ACPI 6.5, 5.5.2.4 and 19.6, Field, IndexField).
+// Evaluations over a world that refuses behind so many calls, and over one of ones. Accesses were
+// worked out by hand (ACPI 6.5, 5.5.2.4 and 19.6, Field, IndexField).
 
 use crate::methods::{Call, Method, Wanted, are_calls, evaluated, gives, registers};
 use crate::rows::{FILLED, INDEXED, PRESERVED, SIXTEEN};

@@ -77,7 +77,8 @@ judged_source here at l = stops here cause.OutsideProfile at
 
 -- a field of a buffer is made, where its source is a name, and its index and its size are integer
 -- literals (own)
-abbrev pub judged_field_made : Around → ℕ → Option ℕ → Option ℕ → Option CreatedFieldSize → Rule Made
+abbrev pub judged_field_made : Around → ℕ → Option ℕ → Option ℕ →
+    Option CreatedFieldSize → Rule Made
 judged_field_made here at (Some from) (Some index) (Some counted) = do
   source ← judged_source here at (here.link from)
   goes (Field (made_buffer_field here.width source counted index))

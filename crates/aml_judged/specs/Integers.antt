@@ -55,7 +55,8 @@ module _ (methods : Methods) (m : Callee) (kinds : ContentKinds) (only : ℕ →
   abbrev pub integer_name : Link → Bool
   integer_name (link.Data id) = is_integer (kind_at kinds id.0)
   integer_name (link.Field id) = is_narrow methods.width (methods.field id.0)
-  integer_name (link.BufferField id) = is_narrow_buffer_field methods.width (methods.buffer_field id.0)
+  integer_name (link.BufferField id) =
+      is_narrow_buffer_field methods.width (methods.buffer_field id.0)
   integer_name l = false
 
   -- what a name with arguments is: a method's call, or read as without them

@@ -133,7 +133,8 @@ module _ (here : Around) where
   judged_target (link.Own i) at k = judged_own_stored (field_at here.kinds.fields i) i at k
   judged_target link.Missing at k = stops cause.Unresolved at
   judged_target (link.Field id) at k = judged_field_stored (here.field id.0) at k
-  judged_target (link.BufferField id) at k = judged_buffer_field_stored (here.buffer_field id.0) at k
+  judged_target (link.BufferField id) at k =
+      judged_buffer_field_stored (here.buffer_field id.0) at k
   judged_target l at k = stops cause.WrongKind at
 
   abbrev pub judged_put : Action → ℕ → Kind → Rule (Unit {0})

@@ -17,8 +17,8 @@ use Rattle.aml_judged.specs.Verdicts.{accepted_of, around_for, called_from, Judg
 use Rattle.aml_meaning.specs.State as state
 
 module _ (all : Judging) where
-  -- what the literals of data in methods' bodies hold: integers of the width, bytes, and packages that
-  -- have not too many elements
+  -- what the literals of data in methods' bodies hold: integers of the width, bytes, and packages
+  -- that have not too many elements
   abbrev pub AreSmall : Type 0
   AreSmall =
       (k : ℕ) (m : Callee) → all.methods.callee k ≡ Some m →

@@ -1,5 +1,5 @@
--- Terms whose literals of data hold no more than those of a table may: integers of the width, bytes,
--- and packages that have not too many elements.
+-- Terms whose literals of data hold no more than those of a table may: integers of the width,
+-- bytes, and packages that have not too many elements.
 use Rattle.std.specs.Prelude.{ℕ}
 use Rattle.aml_operators.specs.declared.op.Op.{Op}
 use Rattle.aml_operators.specs.Tree.{Tree, Trees, Node, none, more}

@@ -25,7 +25,8 @@ fn numbered<A: Around>(
     id: ObjectId,
     object: Option<Object>,
 ) -> Result<TakenMutex, Refusal>
-    ensures { Gives (λ m. m) (judged_mutex_numbered (A.around here.now) at from id.0 object) result }
+    ensures { Gives (λ m. m)
+        (judged_mutex_numbered (A.around here.now) at from id.0 object) result }
 {
     match object {
         Some(Object::Mutex { sync_level }) => Ok(TakenMutex {

@@ -66,7 +66,8 @@ fn narrowed_by(action: Action, limit: Option<u64>, mut env: Env) -> Env
 fn narrowed_below<A: Around>(here: &A, what: &Term, limit: &Term, env: Env) -> Env
     ensures { (lists : ℕ → List TakenMutex) → env_of (A.numbered here.now) lists result
         ≡ narrowed_act (A.around here.now) (does.Compare comparison.LLess)
-        (more (view what.now) (more (view limit.now) none)) (env_of (A.numbered here.now) lists env) }
+        (more (view what.now) (more (view limit.now) none))
+        (env_of (A.numbered here.now) lists env) }
 {
     if what.parts.is_empty() {
         narrowed_by(action_of(what.op), number_of(limit, here.width()), env)

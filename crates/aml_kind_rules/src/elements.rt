@@ -16,8 +16,8 @@ use aml_known::{ElementKnown, Known, ShapeNumber, Shapes, Stop};
 use aml_paths::NoMemory;
 use aml_rules::Place;
 
-/// The kind of an element's value. At the operator V3 where it is a name, V4 where it may be unset, V7
-/// where there is none.
+/// The kind of an element's value. At the operator V3 where it is a name, V4 where it may be unset,
+/// V7 where there is none.
 fn element_read_kind(operator: Place, element: Option<ElementKnown>) -> Result<Known, Refusal>
     ensures { (shapes : ℕ → Shape) → told (kind_of shapes) result
         ≡ rule.element_read_kind (place_of operator)
@@ -31,8 +31,8 @@ fn element_read_kind(operator: Place, element: Option<ElementKnown>) -> Result<K
     }
 }
 
-/// The kind of a byte that an Index leads to, of so many. V3 at the index that has no integer kind, V7 at
-/// the operator where it need not be below the length.
+/// The kind of a byte that an Index leads to, of so many. V3 at the index that has no integer kind,
+/// V7 at the operator where it need not be below the length.
 fn byte_led_kind(operator: Place, size: u64, operand: Place, index: Known) -> Result<Known, Refusal>
     ensures { (shapes : ℕ → Shape) → told (kind_of shapes) result
         ≡ then_rule (rule.integer_kind (place_of operand) (kind_of shapes index))
@@ -46,8 +46,8 @@ fn byte_led_kind(operator: Place, size: u64, operand: Place, index: Known) -> Re
     }
 }
 
-/// What stands in a shape at an index, which may be a literal with a number: at that place, else at one
-/// of all.
+/// What stands in a shape at an index, which may be a literal with a number: at that place, else at
+/// one of all.
 fn place_led<S: Shapes>(
     shapes: &S,
     shape: ShapeNumber,
@@ -62,8 +62,8 @@ fn place_led<S: Shapes>(
     }
 }
 
-/// The kind of what stands in a shape at an index. At the operator V7 where it need not be below the
-/// number of places, and what `element_read_kind` says.
+/// The kind of what stands in a shape at an index. At the operator V7 where it need not be below
+/// the number of places, and what `element_read_kind` says.
 fn place_read_kind<S: Shapes>(
     shapes: &S,
     operator: Place,
@@ -83,12 +83,12 @@ fn place_read_kind<S: Shapes>(
     or_stop(element_read_kind(operator, element))
 }
 
-/// What an Index leads to, whose second operand may be a literal with a number: a byte of a buffer or a
-/// string, or an element of a package.
+/// What an Index leads to, whose second operand may be a literal with a number: a byte of a buffer
+/// or a string, or an element of a package.
 ///
 /// V3 at the first operand that is none of these, else at a second that has no integer kind. At the
-/// operator V7 where the index need not be below the length, V3 where the element is a name, V4 where
-/// it may be unset.
+/// operator V7 where the index need not be below the length, V3 where the element is a name, V4
+/// where it may be unset.
 pub fn led_kind<S: Shapes>(
     shapes: &S,
     operator: Place,
@@ -119,9 +119,9 @@ pub fn led_kind<S: Shapes>(
 
 /// Whether a byte may be stored at an index of a name, of which the kind is known of what it holds.
 ///
-/// In this order: V3 at the name that holds no buffer, V3 at an index that has no integer kind, V7 at
-/// the operator where it need not be below the length, V3 at the operator where what is stored has no
-/// integer kind.
+/// In this order: V3 at the name that holds no buffer, V3 at an index that has no integer kind, V7
+/// at the operator where it need not be below the length, V3 at the operator where what is stored
+/// has no integer kind.
 pub fn byte_written_kind(
     operator: Place,
     name: Place,
@@ -130,7 +130,8 @@ pub fn byte_written_kind(
     index: Known,
     stored: Known,
 ) -> Result<(), Refusal>
-    ensures { (shapes : ℕ → Shape) → told (λ u. u) result ≡ rule.byte_written_kind (place_of operator)
+    ensures { (shapes : ℕ → Shape) →
+        told (λ u. u) result ≡ rule.byte_written_kind (place_of operator)
         (place_of name) (option_map (kind_of shapes) content)
         (place_of operand) (kind_of shapes index) (kind_of shapes stored) }
 {

@@ -26,8 +26,8 @@ fn bytes_of(bits: u64) -> u64
     if bits % 8 == 0 { whole } else { whole + 1 }
 }
 
-/// A field of so many bits: an integer where integers have as many, else a buffer (ACPI 6.5, 5.5.2.4; 19.6,
-/// Field).
+/// A field of so many bits: an integer where integers have as many, else a buffer (ACPI 6.5,
+/// 5.5.2.4; 19.6, Field).
 pub fn field_kind(width: Width, bits: u64) -> Known
     ensures { (shapes : ℕ → Shape) → kind_of shapes result ≡ rule.field_kind (bits_of width) bits }
 {
@@ -38,8 +38,8 @@ pub fn field_kind(width: Width, bits: u64) -> Known
     }
 }
 
-/// What a field of so many bits takes: integers, and a wide one a buffer of just its bytes. V3 at the field
-/// of anything else.
+/// What a field of so many bits takes: integers, and a wide one a buffer of just its bytes. V3 at
+/// the field of anything else.
 pub fn given_kind(width: Width, field: Place, bits: u64, kind: Known) -> Result<(), Refusal>
     ensures { (shapes : ℕ → Shape) → told (λ u. u) result
         ≡ rule.given_kind (bits_of width) (place_of field) bits (kind_of shapes kind) }
@@ -59,8 +59,8 @@ pub fn lies_inside(field: BufferField, size: u64) -> bool
     first + u128::from(field.bits) <= u128::from(size) * 8
 }
 
-/// A field of a buffer, by the kind of its source (19.6, CreateField). V3 at the field of what is no buffer,
-/// V7 of one that does not lie inside.
+/// A field of a buffer, by the kind of its source (19.6, CreateField). V3 at the field of what is
+/// no buffer, V7 of one that does not lie inside.
 pub fn source_kind(at: Place, field: BufferField, source: Option<Known>) -> Result<(), Refusal>
     ensures { (shapes : ℕ → Shape) → told (λ u. u) result
         ≡ rule.source_kind (place_of at) field (option_map (kind_of shapes) source) }

@@ -27,7 +27,8 @@ pub fn integer_kind(operand: Place, kind: Known) -> Result<u64, Refusal>
     }
 }
 
-/// The greatest of a divisor's kind, where the divisor is a literal that is not zero. V8 at any other.
+/// The greatest of a divisor's kind, where the divisor is a literal that is not zero. V8 at any
+/// other.
 fn divisor_kind(operand: Place, number: Option<u64>, greatest: u64) -> Result<u64, Refusal>
     ensures { told (λ n. n) result ≡ rule.divisor_kind (place_of operand) number greatest }
 {
@@ -37,8 +38,8 @@ fn divisor_kind(operand: Place, number: Option<u64>, greatest: u64) -> Result<u6
     }
 }
 
-/// The greatest of the kind of a second operand, which of Mod is a divisor. V3 at one that is no integer,
-/// V8 at a divisor that is no literal other than zero.
+/// The greatest of the kind of a second operand, which of Mod is a divisor. V3 at one that is no
+/// integer, V8 at a divisor that is no literal other than zero.
 fn second_kind(
     f: Arithmetic,
     operand: Place,
@@ -55,8 +56,8 @@ fn second_kind(
     }
 }
 
-/// What two integers give (ACPI 6.5, 19.6). V3 at an operand that is none, V8 at a divisor that is no
-/// literal other than zero.
+/// What two integers give (ACPI 6.5, 19.6). V3 at an operand that is none, V8 at a divisor that is
+/// no literal other than zero.
 pub fn combined_kind(
     width: Width,
     f: Arithmetic,
@@ -75,7 +76,8 @@ pub fn combined_kind(
     Ok(Known::Int(applied(width, f, a, b, number)))
 }
 
-/// What one integer gives (19.6, Not, FindSetLeftBit, FindSetRightBit). V3 at the operand that is none.
+/// What one integer gives (19.6, Not, FindSetLeftBit, FindSetRightBit). V3 at the operand that is
+/// none.
 pub fn transformed_kind(
     width: Width,
     f: Bitwise,
@@ -96,8 +98,8 @@ pub struct DivisionKinds {
     pub remainder: Known,
 }
 
-/// What an integer divided by another gives (19.6, Divide). V3 at an operand that is none, V8 at a divisor
-/// that is no literal other than zero.
+/// What an integer divided by another gives (19.6, Divide). V3 at an operand that is none, V8 at a
+/// divisor that is no literal other than zero.
 pub fn divided_kind(
     width: Width,
     first: Place,
@@ -154,8 +156,8 @@ fn equal_kind(first: Place, j: Known, second: Place, k: Known) -> Result<(), Ref
     }
 }
 
-/// What a comparison of two values gives (19.6, LAnd, LOr, LEqual, LGreater, LLess). V3 at an operand of a
-/// wrong kind.
+/// What a comparison of two values gives (19.6, LAnd, LOr, LEqual, LGreater, LLess). V3 at an
+/// operand of a wrong kind.
 pub fn compared_kind(
     width: Width,
     f: Comparison,

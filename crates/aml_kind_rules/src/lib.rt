@@ -1,10 +1,10 @@
-//! The kinds of what operators give, by the kinds of their operands (the kinds are the project's own),
-//! each as its rule in `specs/KindRules` of aml_judged says. A rule asks its operands in the order of
-//! their evaluation, and tells the first cause.
+//! The kinds of what operators give, by the kinds of their operands (the kinds are the project's
+//! own), each as its rule in `specs/KindRules` of aml_judged says. A rule asks its operands in the
+//! order of their evaluation, and tells the first cause.
 //!
-//! Rooms: `integers` has what integers give, `numbers` how great that is, `sizes` what is converted or
-//! put together and what has a size, `elements` what stands at an index, `fields` fields and fields of
-//! buffers, `names` what names take, `refused` a cause at a place.
+//! Rooms: `integers` has what integers give, `numbers` how great that is, `sizes` what is converted
+//! or put together and what has a size, `elements` what stands at an index, `fields` fields and
+//! fields of buffers, `names` what names take, `refused` a cause at a place.
 #![tactic(auto)]
 
 mod elements;

@@ -64,8 +64,8 @@ pub fn ones(count: u64) -> u64
     ((1_u128 << count) - 1) as u64
 }
 
-/// As many bits that are set as the greater of two numbers has, where it is an integer of the width;
-/// else the greatest integer.
+/// As many bits that are set as the greater of two numbers has, where it is an integer of the
+/// width; else the greatest integer.
 fn ones_over(width: Width, a: u64, b: u64) -> u64
     ensures { result ≡ rule.ones_over (bits_of width) (max a b) }
 {
@@ -77,8 +77,8 @@ fn ones_over(width: Width, a: u64, b: u64) -> u64
     }
 }
 
-/// The greatest of what two integers give, by the greatest of each, where the second may be a literal
-/// with a number.
+/// The greatest of what two integers give, by the greatest of each, where the second may be a
+/// literal with a number.
 pub fn applied(width: Width, arithmetic: Arithmetic, a: u64, b: u64, number: Option<u64>) -> u64
     ensures { result ≡ rule.applied (bits_of width) arithmetic a b number }
 {

@@ -22,7 +22,8 @@ const MOST_BYTES: u64 = 65_536;
 /// As many elements as a package may have.
 const MOST_ELEMENTS: u64 = 65_535;
 
-/// The kind of the integer that a buffer of so many bytes becomes. V7 at the operator where it is empty.
+/// The kind of the integer that a buffer of so many bytes becomes. V7 at the operator where it is
+/// empty.
 fn buffer_integer(width: Width, operator: Place, size: u64) -> Result<Known, Refusal>
     ensures { (shapes : ℕ → Shape) → told (kind_of shapes) result
         ≡ rule.buffer_integer (bits_of width) (place_of operator) size }
@@ -33,8 +34,8 @@ fn buffer_integer(width: Width, operator: Place, size: u64) -> Result<Known, Ref
     Ok(Known::Int(buffer_most(width, size)))
 }
 
-/// The kind of what ToBuffer or ToInteger gives of an integer or a buffer. V3 at the operand that is
-/// neither, V7 at the operator where the buffer is empty.
+/// The kind of what ToBuffer or ToInteger gives of an integer or a buffer. V3 at the operand that
+/// is neither, V7 at the operator where the buffer is empty.
 pub fn converted_kind(
     width: Width,
     conversion: Conversion,
@@ -55,7 +56,8 @@ pub fn converted_kind(
     }
 }
 
-/// The size of two that are put together. V2 at the operator where it is more than a buffer may have.
+/// The size of two that are put together. V2 at the operator where it is more than a buffer may
+/// have.
 fn joined_size(operator: Place, a: u64, b: u64) -> Result<u64, Refusal>
     ensures { (sized : ℕ → Kind) → told sized result
         ≡ rule.limited_kind (place_of operator) (a + b) (sized (a + b)) }
@@ -66,8 +68,9 @@ fn joined_size(operator: Place, a: u64, b: u64) -> Result<u64, Refusal>
     }
 }
 
-/// The kind of two buffers or two strings put together. V3 at the first operand that is neither, else
-/// at a second of another kind; V2 at the operator where there are more bytes than a buffer may have.
+/// The kind of two buffers or two strings put together. V3 at the first operand that is neither,
+/// else at a second of another kind; V2 at the operator where there are more bytes than a buffer
+/// may have.
 pub fn concatenated_kind(
     operator: Place,
     first_operand: Place,
@@ -87,7 +90,8 @@ pub fn concatenated_kind(
     }
 }
 
-/// The kind of what SizeOf gives of a buffer, a string or a package. V3 at the operand that is none.
+/// The kind of what SizeOf gives of a buffer, a string or a package. V3 at the operand that is
+/// none.
 pub fn size_kind<S: Shapes>(
     width: Width,
     shapes: &S,

@@ -20,13 +20,16 @@ kind_falls (kind.Pkg shape) = one_deeper (suc (inner_depth shape))
 kind_falls kind.AnyPkg = lit≤ tt
 kind_falls kind.Mixed = lit≤ tt
 
-element_falls : (e : program_element.ElementKind) → deep-ElementKind e ≤ suc (element_kind_depth (element_kind e))
+element_falls : (e : program_element.ElementKind) →
+    deep-ElementKind e ≤ suc (element_kind_depth (element_kind e))
 element_falls (held.Value k) = max-le (kind_falls k) zero-le
 element_falls held.Name = lit≤ tt
 element_falls held.Unset = lit≤ tt
 
 -- no element is as deep as the shape
-pub most_le-shape_depth : (es : List program_element.ElementKind) → max (most deep-ElementKind es) 0 ≤ shape_depth (shape_of es)
+pub most_le-shape_depth : (es : List program_element.ElementKind) →
+    max (most deep-ElementKind es) 0 ≤ shape_depth (shape_of es)
 most_le-shape_depth [] = lit≤ tt
 most_le-shape_depth (e ∷ es) =
-    beside (deep-ElementKind e) (most deep-ElementKind es) (element_kind_depth (element_kind e)) (inner_depth (shape_of es)) (element_falls e) (most_le-shape_depth es)
+    beside (deep-ElementKind e) (most deep-ElementKind es) (element_kind_depth (element_kind e))
+    (inner_depth (shape_of es)) (element_falls e) (most_le-shape_depth es)

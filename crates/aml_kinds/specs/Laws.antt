@@ -19,7 +19,8 @@ abbrev mutual
 
 -- what fits a kind fits each kind that it lies within
 abbrev pub Widens : Type 0
-Widens = (j k : Kind) → IsWithin j k → AreSmall j → (v : Value) → IsTrue (fits v j) → IsTrue (fits v k)
+Widens =
+    (j k : Kind) → IsWithin j k → AreSmall j → (v : Value) → IsTrue (fits v j) → IsTrue (fits v k)
 
 -- the order of two kinds makes no difference to their join
 abbrev pub Commutes : Type 0

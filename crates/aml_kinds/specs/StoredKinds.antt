@@ -59,12 +59,14 @@ mutual
   read-written (with e es) marks =
       read-written_element e (written es marks) ∙ ap (placed e) (read-written es marks)
 
-  pub read-written_element : (e : ElementKind) (marks : List Mark) → read (written_element e marks) ≡ placed e (read marks)
+  pub read-written_element : (e : ElementKind) (marks : List Mark) →
+      read (written_element e marks) ≡ placed e (read marks)
   read-written_element (ValueOf k) marks = read-written_kind k marks
   read-written_element AnyName marks = refl
   read-written_element Anything marks = refl
 
-  pub read-written_kind : (k : Kind) (marks : List Mark) → read (written_kind k marks) ≡ placed (ValueOf k) (read marks)
+  pub read-written_kind : (k : Kind) (marks : List Mark) →
+      read (written_kind k marks) ≡ placed (ValueOf k) (read marks)
   read-written_kind (IntUpTo n) marks = refl
   read-written_kind (BufOf n) marks = refl
   read-written_kind (StrOf n) marks = refl
@@ -78,8 +80,11 @@ first_shape (s ∷ others) = s
 
 abbrev pub mark_code : Coded Mark
 mark_code =
-    coded⊎ (coded⊎ coded_unit (coded⊎ coded_unit (coded⊎ coded_unit (coded⊎ coded_unit (coded⊎ coded_unit coded_unit))))) (coded⊎ coded_ℕ (coded⊎ coded_ℕ coded_ℕ))
+    coded⊎ (coded⊎ coded_unit
+    (coded⊎ coded_unit (coded⊎ coded_unit (coded⊎ coded_unit (coded⊎ coded_unit coded_unit)))))
+    (coded⊎ coded_ℕ (coded⊎ coded_ℕ coded_ℕ))
 
 abbrev pub shape_code : Coded Shape
 shape_code =
-    code_by (List Mark) (coded_list mark_code) (λ s. written s []) (λ marks. first_shape (read marks)) (λ s. ap first_shape (read-written s []))
+    code_by (List Mark) (coded_list mark_code) (λ s. written s [])
+    (λ marks. first_shape (read marks)) (λ s. ap first_shape (read-written s []))

@@ -1,6 +1,6 @@
-//! Kinds by which values are judged before evaluation. Rooms: `kind`; `shape` of packages, no deeper
-//! than they are; `kind_copies`; `same_kinds`; `joins`, and kinds within others; `fitting`, which values
-//! are of a kind; `law`.
+//! Kinds by which values are judged before evaluation. Rooms: `kind`; `shape` of packages, no
+//! deeper than they are; `kind_copies`; `same_kinds`; `joins`, and kinds within others; `fitting`,
+//! which values are of a kind; `law`.
 #![tactic(auto)]
 
 mod fitting;

@@ -1,5 +1,5 @@
--- What the code's kinds, environments and exits say, by a numbering of packages' shapes, and by what is
--- held up to each taking of a mutex.
+-- What the code's kinds, environments and exits say, by a numbering of packages' shapes, and by
+-- what is held up to each taking of a mutex.
 use Rattle.std.specs.Prelude.{◌≡◌, ◌<◌, ◌++◌, ℕ, map, List, [], ◌∷◌, Bool, true, false, Option, Some, None, IfSome, slice_get}
 use Rattle.std.specs.Option.{option_map}
 use Rattle.aml_kinds.specs.Kinds.{Kind, IntUpTo, BufOf, StrOf, PkgOf, AnyPkg, Mixed, Shape, ElementKind, ValueOf, AnyName, Anything}

@@ -12,8 +12,9 @@ use crate::locks::{Held, Locks};
 use crate::slots::{Slot, are_within, join_slots};
 use aml_paths::NoMemory;
 
-/// What is known at a place: of each local and argument a kind, or none where it may be unset; which
-/// mutexes are held; whether the place is reached by a way that counts, and whether it stands in a loop.
+/// What is known at a place: of each local and argument a kind, or none where it may be unset;
+/// which mutexes are held; whether the place is reached by a way that counts, and whether it stands
+/// in a loop.
 #[derive(Clone, Copy, Debug)]
 pub struct Env {
     pub locals: [Slot; 8],
@@ -34,8 +35,8 @@ fn given(kinds: &[Known], number: usize) -> Slot
 }
 
 impl Env {
-    /// What is known where a method begins that has arguments of these kinds; those behind the seventh
-    /// are not looked at.
+    /// What is known where a method begins that has arguments of these kinds; those behind the
+    /// seventh are not looked at.
     pub fn new(args: &[Known]) -> Env
         ensures { (shapes : ℕ → Shape) (lists : ℕ → List TakenMutex) →
             env_of shapes lists result ≡ bodies.entry (kinds_of shapes args.now) }
@@ -57,8 +58,8 @@ impl Env {
         }
     }
 
-    /// What is known where one of two ends is reached: of those that count, or of both where none does;
-    /// then what the first holds is held.
+    /// What is known where one of two ends is reached: of those that count, or of both where none
+    /// does; then what the first holds is held.
     pub fn join(mut self, other: Env, locks: &Locks) -> Result<Env, NoMemory>
         ensures { (shapes : ℕ → Shape) (lists : ℕ → List TakenMutex) → AreApart shapes →
             Says lists locks.now.takings.items → IfOk result (λ both. env_of shapes lists both
@@ -81,7 +82,8 @@ impl Env {
     /// Whether an end that counts is within what a loop began with.
     pub fn is_end_within(&self, start: &Env) -> bool
         ensures { (shapes : ℕ → Shape) (lists : ℕ → List TakenMutex) → AreApart shapes →
-            result ≡ judged.end_within (env_of shapes lists self.now) (env_of shapes lists start.now) }
+            result ≡ judged.end_within (env_of shapes lists self.now)
+            (env_of shapes lists start.now) }
     {
         !self.counts
             || (are_within(&self.locals, &start.locals) && are_within(&self.args, &start.args))

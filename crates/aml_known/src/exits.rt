@@ -13,9 +13,9 @@ use crate::known::Known;
 use crate::locks::Locks;
 use aml_paths::NoMemory;
 
-/// What is known at the exits that count: of all Breaks and of all Continues of the loop around, and the
-/// kind of what the Returns give; and the least level of a mutex that is taken, by a way that counts or by
-/// one that does not.
+/// What is known at the exits that count: of all Breaks and of all Continues of the loop around,
+/// and the kind of what the Returns give; and the least level of a mutex that is taken, by a way
+/// that counts or by one that does not.
 #[derive(Clone, Copy, Debug)]
 pub struct Exits {
     pub broke: Option<Env>,

@@ -6,8 +6,8 @@ ghost use Rattle.aml_kinds.specs.Joins as spec;
 ghost use Rattle.aml_judged.specs.Known as judged;
 ghost use Rattle.aml_known.specs.Views.{AreApart, element_kind_of, kind_of};
 
-/// The number of a package's shape. Two numbers never stand for one shape, so that shapes are compared
-/// by them.
+/// The number of a package's shape. Two numbers never stand for one shape, so that shapes are
+/// compared by them.
 #[derive(Clone, Copy, Debug, PartialEq, Eq, PartialOrd, Ord)]
 pub struct ShapeNumber(pub usize);
 
@@ -81,8 +81,8 @@ impl Known {
 }
 
 impl ElementKnown {
-    /// What is known of an element that is of the one kind or of the other: what may be unset stays so,
-    /// else a name stays a name.
+    /// What is known of an element that is of the one kind or of the other: what may be unset stays
+    /// so, else a name stays a name.
     pub fn join(self, other: ElementKnown) -> ElementKnown
         ensures { (shapes : ℕ → Shape) → AreApart shapes → element_kind_of shapes result
             ≡ spec.join_elements (element_kind_of shapes self) (element_kind_of shapes other) }

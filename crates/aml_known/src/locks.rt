@@ -15,8 +15,8 @@ use aml_meaning::TakenMutex;
 use aml_paths::{NoMemory, ObjectId};
 use std::alloc::Global;
 
-/// The mutexes that a method holds at a place, in the order in which it took them: none, or those up to
-/// one that it took; or different ones, where ways have met that hold different mutexes.
+/// The mutexes that a method holds at a place, in the order in which it took them: none, or those
+/// up to one that it took; or different ones, where ways have met that hold different mutexes.
 #[derive(Clone, Copy, Debug, PartialEq, Eq)]
 pub enum Held {
     Nothing,
@@ -35,8 +35,8 @@ pub struct Taking {
     pub greatest: u8,
 }
 
-/// All takings of mutexes in a body so far. What is held at a place is told by its last taking, so that
-/// it is copied without memory, and compared by what differs.
+/// All takings of mutexes in a body so far. What is held at a place is told by its last taking, so
+/// that it is copied without memory, and compared by what differs.
 #[derive(Drop)]
 pub struct Locks {
     pub takings: Vec<Taking>,
@@ -81,8 +81,8 @@ impl Locks {
         }
     }
 
-    /// The taking with a number. Where there is none, or it does not stand behind the one before it,
-    /// which what these calls answer never leads to, memory is said to be wanted.
+    /// The taking with a number. Where there is none, or it does not stand behind the one before
+    /// it, which what these calls answer never leads to, memory is said to be wanted.
     fn taking(&self, number: usize) -> Result<Taking, NoMemory>
         ensures there { IfOk result (λ t. slice_get self.now.takings.items number ≡ Some t) }
         ensures behind { IfOk result (IsBehind number) }
@@ -102,8 +102,8 @@ impl Locks {
         }
     }
 
-    /// The greatest level of the mutexes that are held; 0 where none is, or where ways hold different
-    /// ones.
+    /// The greatest level of the mutexes that are held; 0 where none is, or where ways hold
+    /// different ones.
     pub fn greatest(&self, held: Held) -> Result<u8, NoMemory>
         ensures level { (lists : ℕ → List TakenMutex) → Says lists self.now.takings.items →
             IfOk result (λ level. level ≡ greatest_level 0 (mutexes_of lists held)) }
@@ -118,7 +118,8 @@ impl Locks {
     /// Whether a method that takes mutexes, the least of which has a level, if it takes any, may be
     /// called where these are held.
     pub fn takes_level(&self, least: Option<u8>, held: Held) -> Result<bool, NoMemory>
-        ensures { (here : Around) (lists : ℕ → List TakenMutex) → Says lists self.now.takings.items →
+        ensures { (here : Around) (lists : ℕ → List TakenMutex) →
+            Says lists self.now.takings.items →
             IfOk result (λ may. may ≡ is_level here least (mutexes_of lists held)) }
     {
         match least {
@@ -148,8 +149,8 @@ impl Locks {
         }
     }
 
-    /// What is held once the mutex with this number is released; none where it is not the last that was
-    /// taken.
+    /// What is held once the mutex with this number is released; none where it is not the last that
+    /// was taken.
     pub fn release(&self, held: Held, object: ObjectId) -> Result<Option<Held>, NoMemory>
         ensures releases { (lists : ℕ → List TakenMutex) → Says lists self.now.takings.items →
             IfOk result (λ left. option_map (mutexes_of lists) left
@@ -225,7 +226,8 @@ impl Locks {
     /// Whether just the same is held at two places; where ways hold different mutexes, never.
     pub fn same(&self, one: Held, other: Held) -> Result<bool, NoMemory>
         ensures { (lists : ℕ → List TakenMutex) → Says lists self.now.takings.items →
-            IfOk result (λ same. same ≡ judged.same_held (held_of lists one) (held_of lists other)) }
+            IfOk result (λ same.
+            same ≡ judged.same_held (held_of lists one) (held_of lists other)) }
     {
         match (one, other) {
             (Held::Nothing, Held::Nothing) => Ok(true),

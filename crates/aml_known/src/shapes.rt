@@ -9,8 +9,8 @@ ghost use Rattle.aml_known.specs.Views.{element_kind_of};
 use crate::known::{ElementKnown, ShapeNumber};
 use aml_paths::NoMemory;
 
-/// Shapes of packages, each under a number of its own. Of a number that is no shape's, which what these
-/// answer never leads to, memory is said to be wanted.
+/// Shapes of packages, each under a number of its own. Of a number that is no shape's, which what
+/// these answer never leads to, memory is said to be wanted.
 pub trait Shapes {
     /// What each number stands for.
     ghost numbered: { Self → (ℕ → kinds.Shape) };

@@ -5,7 +5,8 @@ use Rattle.aml_lex.specs.declared.names.NameRef.{NameRef}
 use Rattle.aml_lex.specs.declared.names.NameSeg.{NameSeg}
 
 abbrev pub name_of : NameRef → NameString
-name_of name = record { rooted = name.is_rooted; parents = name.carets; segs = segments_of name.segments.now }
+name_of name =
+    record { rooted = name.is_rooted; parents = name.carets; segs = segments_of name.segments.now }
 
 abbrev pub seg_bytes : Option NameSeg → Option (List ℕ)
 seg_bytes o = option_map (λ seg. seg.bytes) o

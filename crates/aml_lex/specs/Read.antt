@@ -4,7 +4,8 @@ use Rattle.aml_lex.specs.declared.fault.LexCause.{LexCause}
 use Rattle.aml_lex.specs.declared.fault.LexCause.TheVariants.{Truncated}
 use Rattle.aml_lex.specs.declared.fault.LexFault.{LexFault}
 
--- a value and how many bytes spell it, that the bytes end too early, or the first byte that is wrong
+-- a value and how many bytes spell it, that the bytes end too early, or the first byte that is
+-- wrong
 pub data Read (V : Type 0) : Type 0 where
   Found : (value : V) (len : ℕ) → Read V
   Ends : Read V
@@ -26,7 +27,8 @@ then_read (Wrong place) next bytes = Wrong place
 abbrev pub tested_read : List (ℕ → Bool) → List ℕ → Read (List ℕ)
 tested_read [] bytes = Found [] 0
 tested_read (test ∷ tests) [] = Ends
-tested_read (test ∷ tests) (b ∷ bs) = cond (test b) (behind 1 (λ front. b ∷ front) (tested_read tests bs)) (Wrong 0)
+tested_read (test ∷ tests) (b ∷ bs) =
+    cond (test b) (behind 1 (λ front. b ∷ front) (tested_read tests bs)) (Wrong 0)
 
 -- so many bytes
 abbrev pub bytes_read : ℕ → List ℕ → Read (List ℕ)

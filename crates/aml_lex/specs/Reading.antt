@@ -1,5 +1,6 @@
--- Reading from left to right, as functions of the bytes (ACPI 6.5, 20.2.2 to 20.2.4). Each `.._read` reads
--- from a list's first byte on, and each `.._at` from a place on, with places and faults in the whole bytes.
+-- Reading from left to right, as functions of the bytes (ACPI 6.5, 20.2.2 to 20.2.4). Each
+-- `.._read` reads from a list's first byte on, and each `.._at` from a place on, with places and
+-- faults in the whole bytes.
 use Rattle.std.specs.Prelude.{◌≡◌, ℕ, zero, suc, ◌+◌, ◌/◌, ◌^◌, ◌-◌, ◌==◌, Bool, true, false, List, [], ◌∷◌, length, nat_lt, drop, Option, Some, None, Result, Ok, Err, if◌then◌else◌}
 use Rattle.aml_lex.specs.declared.fault.LexCause.TheVariants.{BadPkgLength, BadName, BadString, Overrun}
 use Rattle.aml_lex.specs.declared.fault.LexFault.{LexFault}
@@ -11,7 +12,8 @@ use Rattle.aml_lex.specs.Read.{Read, Found, Ends, Wrong, behind, then_read, test
 -- a package length: bits 7:6 of the lead byte say how many bytes follow it
 abbrev pub pkg_length_read : List ℕ → Read ℕ
 pkg_length_read [] = Ends
-pkg_length_read (lead ∷ more) = behind 1 (λ bytes. pkg_value lead bytes) (bytes_read (lead / 64) more)
+pkg_length_read (lead ∷ more) =
+    behind 1 (λ bytes. pkg_value lead bytes) (bytes_read (lead / 64) more)
 
 -- no byte is wrong in a package length, so the cause of a wrong byte is never told
 unfoldable pub pkg_length_at : List ℕ → ℕ → Result (ℕ × ℕ) LexFault
@@ -37,12 +39,14 @@ seg_read bytes = tested_read seg_tests bytes
 -- so many name segments
 abbrev pub segs_read : ℕ → List ℕ → Read (List (List ℕ))
 segs_read zero bytes = Found [] 0
-segs_read (suc n) bytes = then_read (seg_read bytes) (λ seg rest. behind 0 (λ segs. seg ∷ segs) (segs_read n rest)) bytes
+segs_read (suc n) bytes =
+    then_read (seg_read bytes) (λ seg rest. behind 0 (λ segs. seg ∷ segs) (segs_read n rest)) bytes
 
 -- a count of at least 1, and so many segments
 abbrev pub counted_read : List ℕ → Read (List (List ℕ))
 counted_read [] = Ends
-counted_read (count ∷ more) = if count == 0 then Wrong 0 else behind 1 (λ segs. segs) (segs_read count more)
+counted_read (count ∷ more) =
+    if count == 0 then Wrong 0 else behind 1 (λ segs. segs) (segs_read count more)
 
 -- what stands behind a name string's prefix
 abbrev pub path_read : List ℕ → Read (List (List ℕ))
@@ -63,7 +67,8 @@ carets (b ∷ more) = if b == 0x5E then carets more + 1 else 0
 
 -- any number of `^`, and what stands behind them
 abbrev pub relative_read : List ℕ → Read NameString
-relative_read bytes = behind (carets bytes) (named false (carets bytes)) (path_read (drop (carets bytes) bytes))
+relative_read bytes =
+    behind (carets bytes) (named false (carets bytes)) (path_read (drop (carets bytes) bytes))
 
 abbrev pub is_rooted : List ℕ → Bool
 is_rooted [] = false
@@ -71,7 +76,8 @@ is_rooted (b ∷ more) = b == 0x5C
 
 -- a name string
 abbrev pub name_string_read : List ℕ → Read NameString
-name_string_read bytes = if is_rooted bytes then behind 1 (named true 0) (path_read (drop 1 bytes)) else relative_read bytes
+name_string_read bytes = if is_rooted bytes then behind 1 (named true 0) (path_read (drop 1 bytes))
+    else relative_read bytes
 
 unfoldable pub name_string_at : List ℕ → ℕ → Result (NameString × ℕ) LexFault
 name_string_at bytes at = placed BadName at (length bytes) (name_string_read (drop at bytes))
@@ -109,7 +115,8 @@ unfoldable pub string_data_at : List ℕ → ℕ → Result (List ℕ × ℕ) Le
 string_data_at bytes at = placed BadString at (length bytes) (string_read (drop at bytes))
 
 -- the program's answer, seen by a view of its value, is that of a definition
-abbrev pub IsSeenAs : {X V : Type 0} → (X → V) → Result (X × ℕ) LexFault → Result (V × ℕ) LexFault → Type 0
+abbrev pub IsSeenAs : {X V : Type 0} → (X → V) → Result (X × ℕ) LexFault →
+    Result (V × ℕ) LexFault → Type 0
 IsSeenAs view (Ok r) answer = answer ≡ Ok (view r.0, r.1)
 IsSeenAs view (Err fault) answer = answer ≡ Err fault
 

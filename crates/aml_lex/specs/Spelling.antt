@@ -1,4 +1,5 @@
--- Spellings of lexical parts: which whole byte lists spell which value (ACPI 6.5, 20.2.2 to 20.2.4).
+-- Spellings of lexical parts: which whole byte lists spell which value (ACPI 6.5, 20.2.2 to
+-- 20.2.4).
 use Rattle.std.specs.Prelude.{◌≡◌, ℕ, ◌-◌, ◌/◌, ◌^◌, ◌≤◌, ◌⊎◌, ◌++◌, List, [], ◌∷◌, length, replicate, IsTrue, true, false}
 use Rattle.std.specs.List.{concat}
 use Rattle.aml_lex.specs.Characters.{is_lead_name_char, is_name_char}
@@ -12,15 +13,16 @@ SpellsPkgLength value (lead ∷ more) = (length more ≡ lead / 64) × (value �
 
 -- a name segment: four bytes, the first no digit
 abbrev pub IsNameSeg : List ℕ → Type 0
-IsNameSeg (a ∷ b ∷ c ∷ d ∷ []) = IsTrue (is_lead_name_char a) × IsTrue (is_name_char b) × IsTrue (is_name_char c) × IsTrue (is_name_char d)
+IsNameSeg (a ∷ b ∷ c ∷ d ∷ []) = IsTrue (is_lead_name_char a) × IsTrue (is_name_char b)
+    × IsTrue (is_name_char c) × IsTrue (is_name_char d)
 IsNameSeg bytes = ⊥
 
 abbrev pub AreNameSegs : List (List ℕ) → Type 0
 AreNameSegs [] = Unit {0}
 AreNameSegs (seg ∷ segs) = IsNameSeg seg × AreNameSegs segs
 
--- what stands behind a name string's prefix: 00 for no segment; one segment; 2E and two; 2F, a count that
--- isn't 0, and so many. The count is one byte, so at most 255.
+-- what stands behind a name string's prefix: 00 for no segment; one segment; 2E and two; 2F, a
+-- count that isn't 0, and so many. The count is one byte, so at most 255.
 abbrev pub SpellsPath : List (List ℕ) → List ℕ → Type 0
 SpellsPath segs path =
     AreNameSegs segs
@@ -36,7 +38,8 @@ SpellsName name bytes =
     × (((name.rooted ≡ true) × (name.parents ≡ 0) × (bytes ≡ 0x5C ∷ path))
     ⊎ ((name.rooted ≡ false) × (bytes ≡ replicate name.parents 0x5E ++ path)))
 
--- integer data: 0, 1 and all ones in one byte, or a byte that announces a number of 1, 2, 4 or 8 bytes
+-- integer data: 0, 1 and all ones in one byte, or a byte that announces a number of 1, 2, 4 or 8
+-- bytes
 abbrev pub SpellsInteger : ℕ → List ℕ → Type 0
 SpellsInteger value [] = ⊥
 SpellsInteger value (b ∷ more) =

@@ -9,8 +9,8 @@ use byteorder::{ByteOrder, LittleEndian};
 
 /// The integer data at a place, and the place behind it; `None` at a byte that begins none.
 ///
-/// The bytes are 00, 01 or FF for 0, 1 and the greatest number, or 0A, 0B, 0C or 0E and a number of 1, 2,
-/// 4 or 8 bytes, the lowest first.
+/// The bytes are 00, 01 or FF for 0, 1 and the greatest number, or 0A, 0B, 0C or 0E and a number of
+/// 1, 2, 4 or 8 bytes, the lowest first.
 ///
 /// Fault: E201 at the end of the bytes, where they end before or inside it.
 pub fn integer_data(bytes: &[u8], at: usize) -> Result<Option<(u64, usize)>, LexFault>

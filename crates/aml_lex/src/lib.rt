@@ -1,5 +1,5 @@
-//! The lexical parts of AML, read from a place on (ACPI 6.5, 20.2.2 to 20.2.4): package lengths, name
-//! strings, integer data and string data.
+//! The lexical parts of AML, read from a place on (ACPI 6.5, 20.2.2 to 20.2.4): package lengths,
+//! name strings, integer data and string data.
 //!
 //! The caller cuts the bytes at the end of the enclosing package. A reader answers Ok just where a
 //! spelling stands at the place, and else the fault that ends it. No call takes memory.

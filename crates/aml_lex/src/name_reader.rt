@@ -21,8 +21,8 @@ pub fn leads_segment(byte: u8) -> bool
     matches!(byte, b'A'..=b'Z' | b'_')
 }
 
-/// Whether a byte may stand in a name segment: `A` to `Z` or `_`, and behind the segment's first also
-/// `0` to `9`.
+/// Whether a byte may stand in a name segment: `A` to `Z` or `_`, and behind the segment's first
+/// also `0` to `9`.
 fn fits_name(leads: bool, byte: u8) -> bool
     ensures { result ≡ fits_name leads byte }
 {
@@ -149,8 +149,8 @@ fn starts_with_root(bytes: &[u8], at: usize) -> bool
 
 /// The name string at a place, and the place behind it.
 ///
-/// Faults: E201 at the end of the bytes, where they end inside it; E203 at the first byte that no name
-/// has there.
+/// Faults: E201 at the end of the bytes, where they end inside it; E203 at the first byte that no
+/// name has there.
 pub fn name_string(bytes: &[u8], at: usize) -> Result<(NameRef<'_>, usize), LexFault>
     requires { at ≤ length bytes.now }
     ensures gives { IsSeenAs name_of result (name_string_at bytes.now at) }

@@ -65,8 +65,8 @@ impl NameRef<'_> {
         }
     }
 
-    /// The segment of a name that is one segment without prefix: the only names that are searched for
-    /// upward.
+    /// The segment of a name that is one segment without prefix: the only names that are searched
+    /// for upward.
     pub fn lone_segment(&self) -> Option<NameSeg>
         ensures { seg_bytes result ≡ lone_segment (name_of self.now) }
     {

@@ -8,8 +8,8 @@ use crate::fault::{LexCause, LexFault, truncated_fault};
 
 /// The package length at a place, and the place behind it.
 ///
-/// Bits 7:6 of the lead byte give the number of further bytes. With none, bits 5:0 are the value; else
-/// bits 3:0 are its lowest four bits and each further byte gives the next eight.
+/// Bits 7:6 of the lead byte give the number of further bytes. With none, bits 5:0 are the value;
+/// else bits 3:0 are its lowest four bits and each further byte gives the next eight.
 ///
 /// Fault: E201 at the end of the bytes, where they end inside it.
 pub fn pkg_length(bytes: &[u8], at: usize) -> Result<(u32, usize), LexFault>
@@ -51,8 +51,8 @@ fn find_pkg_length(bytes: &[u8], at: usize) -> Result<(u32, usize), LexFault>
 /// The end of the package whose package length stands at a place, and the place behind the package
 /// length. The value counts the bytes of the package length itself.
 ///
-/// Faults: that of the package length; E202 at the place where the value is below its own bytes; E207
-/// at the place where the package goes past the end of the bytes.
+/// Faults: that of the package length; E202 at the place where the value is below its own bytes;
+/// E207 at the place where the package goes past the end of the bytes.
 pub fn package_end(bytes: &[u8], at: usize) -> Result<(usize, usize), LexFault>
     requires { at ≤ length bytes.now }
     ensures gives { result ≡ package_end_at bytes.now at }

@@ -11,7 +11,8 @@ use crate::fault::{LexCause, LexFault, truncated_fault};
 
 /// The text of the string data at a place without its closing 00, and the place behind that.
 ///
-/// Faults: E201 at the end of the bytes, where no 00 closes the text; E206 at the first byte above 7F.
+/// Faults: E201 at the end of the bytes, where no 00 closes the text; E206 at the first byte above
+/// 7F.
 pub fn string_data(bytes: &[u8], at: usize) -> Result<(&[u8], usize), LexFault>
     requires { at ≤ length bytes.now }
     ensures gives { IsSeenAs (λ (text : Bor (List ℕ)). text.now) result

@@ -31,7 +31,8 @@ pub fn spellings_are_unique()
     ensures string_data { HasOneFront SpellsString }
 {}
 
-/// Wherever a spelling stands, it is read: with the readers' clauses, an answer Ok is given just there.
+/// Wherever a spelling stands, it is read: with the readers' clauses, an answer Ok is given just
+/// there.
 pub fn spellings_are_read()
     ensures pkg_length { IsRead SpellsPkgLength pkg_length_at }
     ensures name_string { IsRead SpellsName name_string_at }

@@ -19,23 +19,27 @@ use Rattle.aml_meaning.specs.Definitions.{mean_method}
 abbrev pub before : Names → ℕ → List Event → State
 before names n log = record { frame = entered 0 []; names = names; steps = n; log = log }
 
--- a method's evaluation where its body stands, with its arguments, fed with a script of answers, from a state
+-- a method's evaluation where its body stands, with its arguments, fed with a script of answers,
+-- from a state
 abbrev pub evaluated : Setting → Trees → List Value → List Event → State → Out (Option Value)
-evaluated here body values script s = (framed here.table values (mean_method here body)).run script s
+evaluated here body values script s =
+    (framed here.table values (mean_method here body)).run script s
 
 -- what is done with n steps is done with more, and they are left over
 abbrev pub DoneIsStable : Type 0
 DoneIsStable =
-    (here : Setting) (body : Trees) (values : List Value) (script : List Event) (s : State) (more : ℕ) (value : Option Value) (last : State) →
-    evaluated here body values script s ≡ Goes value last →
-    evaluated here body values script (with_steps s (s.steps + more)) ≡ Goes value (with_steps last (last.steps + more))
+    (here : Setting) (body : Trees) (values : List Value) (script : List Event) (s : State)
+    (more : ℕ) (value : Option Value) (last : State) → evaluated here body values script s ≡
+    Goes value last → evaluated here body values script (with_steps s (s.steps + more)) ≡
+    Goes value (with_steps last (last.steps + more))
 
 -- an error with n steps is the same error with more
 abbrev pub ErrorIsStable : Type 0
 ErrorIsStable =
-    (here : Setting) (body : Trees) (values : List Value) (script : List Event) (s : State) (more : ℕ) (e : AmlError) (last : State) →
-    evaluated here body values script s ≡ Halts (Error e) last →
-    evaluated here body values script (with_steps s (s.steps + more)) ≡ Halts (Error e) (with_steps last (last.steps + more))
+    (here : Setting) (body : Trees) (values : List Value) (script : List Event) (s : State)
+    (more : ℕ) (e : AmlError) (last : State) → evaluated here body values script s ≡
+    Halts (Error e) last → evaluated here body values script (with_steps s (s.steps + more)) ≡
+    Halts (Error e) (with_steps last (last.steps + more))
 
 -- a read goes on with the answer that the script has for it, which is then among the events
 abbrev pub ReadIsAnswered : Type 0
@@ -46,8 +50,8 @@ ReadIsAnswered = (access : Access) (value n : ℕ) (script : List Event) (s : St
 -- another unit's answer is none
 abbrev pub OtherAnswerIsNone : Type 0
 OtherAnswerIsNone = (access other : Access) (value n : ℕ) (script : List Event) (s : State) →
-    slice_get script (length s.log) ≡ Some (Read other value) → (access ≡ other → ⊥) → s.steps ≡ suc n →
-    (read_unit access).run script s ≡ NoAnswer (with_steps s n)
+    slice_get script (length s.log) ≡ Some (Read other value) → (access ≡ other → ⊥) →
+    s.steps ≡ suc n → (read_unit access).run script s ≡ NoAnswer (with_steps s n)
 
 -- a Sleep goes on with what the script says that it left, which is then among the events
 abbrev pub SleepIsAnswered : Type 0
@@ -58,16 +62,20 @@ SleepIsAnswered = (n k : ℕ) (left : Option Contents) (script : List Event) (s 
 -- another event is no answer
 abbrev pub OtherIsNoSleep : Type 0
 OtherIsNoSleep = (n k : ℕ) (event : Event) (script : List Event) (s : State) →
-    slice_get script (length s.log) ≡ Some event → ((left : Option Contents) → event ≡ Slept n left → ⊥) → s.steps ≡ suc k →
+    slice_get script (length s.log) ≡ Some event →
+    ((left : Option Contents) → event ≡ Slept n left → ⊥) → s.steps ≡ suc k →
     (sleep n).run script s ≡ NoAnswer (with_steps s k)
 
 -- the highest bit of a number that is not 0: the number has it, and is below the next
 abbrev pub LeftBitIsHighest : Type 0
-LeftBitIsHighest = (n : ℕ) → 0 < n → n < 2 ^ 64 → (j : ℕ) × (transform bitwise.FindSetLeftBit n ≡ suc j) × (2 ^ j ≤ n) × (n < 2 ^ suc j)
+LeftBitIsHighest = (n : ℕ) → 0 < n → n < 2 ^ 64 →
+    (j : ℕ) × (transform bitwise.FindSetLeftBit n ≡ suc j) × (2 ^ j ≤ n) × (n < 2 ^ suc j)
 
 -- its lowest bit is set, and none below is
 abbrev pub RightBitIsLowest : Type 0
-RightBitIsLowest = (n : ℕ) → 0 < n → n < 2 ^ 64 → (j : ℕ) × (transform bitwise.FindSetRightBit n ≡ suc j) × (bit_at n j ≡ 1) × ((i : ℕ) → i < j → bit_at n i ≡ 0)
+RightBitIsLowest =
+    (n : ℕ) → 0 < n → n < 2 ^ 64 → (j : ℕ) × (transform bitwise.FindSetRightBit n ≡ suc j)
+    × (bit_at n j ≡ 1) × ((i : ℕ) → i < j → bit_at n i ≡ 0)
 
 -- 0 has no bit to be found
 abbrev pub ZeroHasNoBit : Type 0

@@ -4,8 +4,8 @@ ghost use Rattle.aml_meaning.specs.Laws.{BodiesAreInOrder, CallsKeepTheFrame, Li
 ghost use Rattle.aml_meaning.specs.Quiet.{QuietTermsKeep};
 ghost use Rattle.aml_meaning.specs.Whole.{DoneIsStable, ErrorIsStable, LeftBitIsHighest, OtherAnswerIsNone, OtherIsNoSleep, ReadIsAnswered, RightBitIsLowest, SleepIsAnswered, ZeroHasNoBit};
 
-/// A body that is done with so many steps is done with more, just so, and they are left; and one that
-/// meets an error meets the same.
+/// A body that is done with so many steps is done with more, just so, and they are left; and one
+/// that meets an error meets the same.
 pub fn done_is_stable()
     ensures done { DoneIsStable }
     ensures error { ErrorIsStable }
@@ -18,8 +18,8 @@ pub fn reads_are_answered()
     ensures other { OtherAnswerIsNone }
 {}
 
-/// A Sleep goes on with the contents that the script has for it, and with those that names hold where
-/// it has none; no other event answers it.
+/// A Sleep goes on with the contents that the script has for it, and with those that names hold
+/// where it has none; no other event answers it.
 pub fn sleeps_are_answered()
     ensures answered { SleepIsAnswered }
     ensures other { OtherIsNoSleep }
@@ -51,8 +51,8 @@ pub fn calls_keep_the_frame()
     ensures { CallsKeepTheFrame }
 {}
 
-/// A term without calls, stores, loops and Sleeps, in which no mutex is taken or released, changes no
-/// name, no local, no argument and no list of mutexes, whatever comes of it.
+/// A term without calls, stores, loops and Sleeps, in which no mutex is taken or released, changes
+/// no name, no local, no argument and no list of mutexes, whatever comes of it.
 pub fn quiet_terms_keep()
     ensures { QuietTermsKeep }
 {}

@@ -2,8 +2,8 @@
 //!
 //! The meaning itself stands in `specs/`: `State` (values, frames, states), `Parts` (what an
 //! evaluation is made of), `Meaning` (what each operator means), `Definitions` (what a Name or a
-//! CreateField form at the top of a body makes), `Whole` (a method's body) and `Runs` (what an evaluator's answer says of it).
-//! `docs/MEANING.md` tells the same in plain words.
+//! CreateField form at the top of a body makes), `Whole` (a method's body) and `Runs` (what an
+//! evaluator's answer says of it). `docs/MEANING.md` tells the same in plain words.
 #![tactic(auto)]
 
 mod action;

@@ -10,4 +10,6 @@ bytes_of tables n = unwrap_or (slice_get tables n) []
 
 -- the body of each method lies within its table
 abbrev pub BodiesWithin : List (List ℕ) → Entries → Type 0
-BodiesWithin tables entries = (i : ℕ) (m : Method) → object_at entries i ≡ Some (object.Method m) → (m.table < length tables) × (m.body.at ≤ m.body.end) × (m.body.end ≤ length (bytes_of tables m.table))
+BodiesWithin tables entries =
+    (i : ℕ) (m : Method) → object_at entries i ≡ Some (object.Method m) → (m.table < length tables)
+    × (m.body.at ≤ m.body.end) × (m.body.end ≤ length (bytes_of tables m.table))

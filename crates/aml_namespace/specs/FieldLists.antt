@@ -30,7 +30,8 @@ update_of n =
     else (if n / 32 % 4 == 2 then update.Zeros else update.Reserved))
 
 abbrev pub rule_of : ℕ → FieldRule
-rule_of flags = record { access = access_of flags; lock = flags / 16 % 2 == 1; update = update_of flags }
+rule_of flags =
+    record { access = access_of flags; lock = flags / 16 % 2 == 1; update = update_of flags }
 
 -- the beginning of a field list
 abbrev pub list_start : ℕ → Cursor
@@ -71,7 +72,16 @@ behind cursor t = cursor
 -- the field that a named item makes, with the place of its name
 abbrev pub field_in : Through → Cursor → Trees → Option (ℕ × Field)
 field_in through cursor (more name (more bits none)) =
-    Some (at_of name, record { through = through; bit = cursor.bit; bits = number_in bits; rule = cursor.rule; is_connected = cursor.is_connected })
+    Some (
+      at_of name,
+      record {
+        through = through;
+        bit = cursor.bit;
+        bits = number_in bits;
+        rule = cursor.rule;
+        is_connected = cursor.is_connected;
+      },
+    )
 field_in through cursor parts = None
 
 abbrev pub field_of : Through → Cursor → Tree → Option (ℕ × Field)

@@ -18,19 +18,26 @@ pub record StandsWithin (tables : List (List ℕ)) (f : LoadRefusal) : Type 0 wh
 
 -- the faults of a load stand within the tables that were handed in
 abbrev pub FaultsWithin : Type 0
-FaultsWithin = (tables : List (List ℕ)) (os : List ℕ) (f : LoadRefusal) → FaultyLoad tables os f → StandsWithin tables f
+FaultsWithin = (tables : List (List ℕ)) (os : List ℕ) (f : LoadRefusal) → FaultyLoad tables os f →
+    StandsWithin tables f
 
--- what the first tables make stays as it is, in its order, when more tables follow: those only add to it
+-- what the first tables make stays as it is, in its order, when more tables follow: those only add
+-- to it
 abbrev pub DefinitionsStay : Type 0
-DefinitionsStay = (tables more : List (List ℕ)) (before after : Entries) → AllMake 0 (tables ++ more) before after
+DefinitionsStay =
+    (tables more : List (List ℕ)) (before after : Entries) → AllMake 0 (tables ++ more) before after
     → (first added : Entries) × AllMake 0 tables before first × (after ≡ first ++ added)
 
 -- of the pairs that a loaded namespace holds, no two have one path: a path has at most one object
 abbrev pub PathsDistinct : Type 0
-PathsDistinct = (tables : List (List ℕ)) (os : List ℕ) (ns : Shown) → IsLoaded tables os ns → AreDistinct (paths_in ns.entries)
+PathsDistinct = (tables : List (List ℕ)) (os : List ℕ) (ns : Shown) → IsLoaded tables os ns →
+    AreDistinct (paths_in ns.entries)
 
 -- a name of a body that means something takes as many terms as that tells
 abbrev pub LinksCount : Type 0
-LinksCount = (ns : Shown) (id : ℕ) (bytes : List ℕ) (owns : List OwnName) (at : ℕ) (name : NameString) → name_there bytes at ≡ Some name
+LinksCount =
+    (ns : Shown) (id : ℕ) (bytes : List ℕ) (owns : List OwnName) (at : ℕ) (name : NameString) →
+    name_there bytes at ≡ Some name
     → (link_with_owns ns.entries id bytes owns at ≡ link.Missing → ⊥)
-    → with_standing (counts ns id) owns name at ≡ link_args ns (link_with_owns ns.entries id bytes owns at)
+    → with_standing (counts ns id) owns name at ≡
+    link_args ns (link_with_owns ns.entries id bytes owns at)

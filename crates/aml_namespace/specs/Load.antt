@@ -38,27 +38,36 @@ pub record Makes (n : ℕ) (bytes : List ℕ) (before after : Entries) : Type 0 
 -- its first fault: of the table, of its module, or of a definition
 abbrev pub Fails : ℕ → List ℕ → Entries → LoadRefusal → Type 0
 Fails n bytes before f =
-    ((fault : TableFault) × (first_fault (table_checks (signature_of n) bytes) ≡ Some fault) × (f ≡ table_refusal n fault))
-    ⊎ ((IsTableOf (signature_of n) bytes × ((g : Refusal) × FaultyModule bytes g × (f ≡ tree_refusal n g)))
-    ⊎ (IsTableOf (signature_of n) bytes × ((ts : List Tree) × IsModule bytes ts × (all_defined (at_root n bytes) before (trees ts) ≡ Err f))))
+    ((fault : TableFault) × (first_fault (table_checks (signature_of n) bytes) ≡ Some fault)
+    × (f ≡ table_refusal n fault))
+    ⊎ ((IsTableOf (signature_of n) bytes
+    × ((g : Refusal) × FaultyModule bytes g × (f ≡ tree_refusal n g)))
+    ⊎ (IsTableOf (signature_of n) bytes × ((ts : List Tree) × IsModule bytes ts
+    × (all_defined (at_root n bytes) before (trees ts) ≡ Err f))))
 
 -- what tables make that are numbered from n on, one behind the other
 abbrev pub AllMake : ℕ → List (List ℕ) → Entries → Entries → Type 0
 AllMake n [] before after = before ≡ after
-AllMake n (bytes ∷ more) before after = (next : Entries) × Makes n bytes before next × AllMake (suc n) more next after
+AllMake n (bytes ∷ more) before after =
+    (next : Entries) × Makes n bytes before next × AllMake (suc n) more next after
 
 -- the first fault of such tables: of the first, or of those behind it
 abbrev pub AllFail : ℕ → List (List ℕ) → Entries → LoadRefusal → Type 0
 AllFail n [] before f = ⊥
-AllFail n (bytes ∷ more) before f = Fails n bytes before f ⊎ ((next : Entries) × Makes n bytes before next × AllFail (suc n) more next f)
+AllFail n (bytes ∷ more) before f = Fails n bytes before f
+    ⊎ ((next : Entries) × Makes n bytes before next × AllFail (suc n) more next f)
 
 -- what such tables declare as others' methods, in the order of the bytes
 abbrev pub AllDeclare : ℕ → List (List ℕ) → Entries → List External → Type 0
 AllDeclare n [] before externals = externals ≡ []
-AllDeclare n (bytes ∷ more) before externals = (next : Entries) × (makes : Makes n bytes before next) × (rest : List External) × AllDeclare (suc n) more next rest × (externals ≡ all_declared (at_root n bytes) before (trees makes.terms) ++ rest)
+AllDeclare n (bytes ∷ more) before externals =
+    (next : Entries) × (makes : Makes n bytes before next)
+    × (rest : List External) × AllDeclare (suc n) more next rest
+    × (externals ≡ all_declared (at_root n bytes) before (trees makes.terms) ++ rest)
 
--- what a namespace shows: its tables' bytes, the text of `_OS_`, the width of integers, its entries in order of definition, what the
--- tables declare as others' methods, and the texts that `_OSI` knows
+-- what a namespace shows: its tables' bytes, the text of `_OS_`, the width of integers, its entries
+-- in order of definition, what the tables declare as others' methods, and the texts that `_OSI`
+-- knows
 pub record Shown : Type 0 where
   pub tables : List (List ℕ)
   pub os : List ℕ
@@ -72,7 +81,8 @@ abbrev pub first_width : List (List ℕ) → Width
 first_width [] = width_by 0
 first_width (bytes ∷ more) = width_by (number_at 8 1 bytes)
 
--- a namespace holds just what these tables make behind the predefined names, with what the objects name
+-- a namespace holds just what these tables make behind the predefined names, with what the objects
+-- name
 pub record IsLoaded (tables : List (List ℕ)) (os : List ℕ) (ns : Shown) : Type 0 where
   pub tables_are : ns.tables ≡ tables
   pub os_is : ns.os ≡ os

@@ -13,17 +13,23 @@ use Rattle.aml_objects.specs.Widths.{width_by}
 
 -- a table was loaded behind what was there: its revision, or its first fault, unless memory ran out
 abbrev pub LoadsTable : ℕ → List ℕ → Entries → Entries → Result ℕ LoadFault → Type 0
-LoadsTable n bytes before after (Ok revision) = Makes n bytes before after × (revision ≡ number_at 8 1 bytes)
+LoadsTable n bytes before after (Ok revision) =
+    Makes n bytes before after × (revision ≡ number_at 8 1 bytes)
 LoadsTable n bytes before after (Err NoMemory) = Unit {0}
 LoadsTable n bytes before after (Err (Refused f)) = Fails n bytes before f
 
 -- what a loaded table declares, behind what others did
-abbrev pub DeclaresTable : ℕ → List ℕ → Entries → Entries → List External → List External → Result ℕ LoadFault → Type 0
-DeclaresTable n bytes before after old new (Ok revision) = (makes : Makes n bytes before after) × (new ≡ old ++ all_declared (at_root n bytes) before (trees makes.terms))
+abbrev pub DeclaresTable : ℕ → List ℕ → Entries → Entries → List External → List External →
+    Result ℕ LoadFault → Type 0
+DeclaresTable n bytes before after old new (Ok revision) = (makes : Makes n bytes before after)
+    × (new ≡ old ++ all_declared (at_root n bytes) before (trees makes.terms))
 DeclaresTable n bytes before after old new (Err fault) = Unit {0}
 
--- tables were loaded behind what was there: the revision of the first and what all declare, or their first fault, unless memory ran out
+-- tables were loaded behind what was there: the revision of the first and what all declare, or
+-- their first fault, unless memory ran out
 abbrev pub LoadsAll : List (List ℕ) → Entries → Entries → Result Loaded LoadFault → Type 0
-LoadsAll tables before after (Ok loaded) = AllMake 0 tables before after × (width_by loaded.revision ≡ first_width tables) × AllDeclare 0 tables before loaded.externals.items
+LoadsAll tables before after (Ok loaded) =
+    AllMake 0 tables before after × (width_by loaded.revision ≡ first_width tables)
+    × AllDeclare 0 tables before loaded.externals.items
 LoadsAll tables before after (Err NoMemory) = Unit {0}
 LoadsAll tables before after (Err (Refused f)) = AllFail 0 tables before f

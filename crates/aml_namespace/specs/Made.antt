@@ -31,15 +31,18 @@ scope_numbered (suc i) = At (record { 0 = i })
 
 -- a name that stands here
 abbrev pub name_place : Here → Tree → NamePlace
-name_place here name = record { table = here.table; at = at_of name; scope = scope_numbered here.scope }
+name_place here name =
+    record { table = here.table; at = at_of name; scope = scope_numbered here.scope }
 
 -- what is named here, and found once all tables are loaded
 abbrev pub reference : Here → Tree → Reference
 reference here name = record { name = name_place here name; object = None }
 
--- the first content of a name: a buffer has the greater of its size and its initialiser's length, a string ends with a 00
+-- the first content of a name: a buffer has the greater of its size and its initialiser's length, a
+-- string ends with a 00
 abbrev pub buffer_content : Trees → Content
-buffer_content (more size (more initialiser none)) = content.Buffer (max (literal size) (size_in initialiser))
+buffer_content (more size (more initialiser none)) =
+    content.Buffer (max (literal size) (size_in initialiser))
 buffer_content parts = content.Buffer 0
 
 abbrev pub string_content : Trees → Content
@@ -65,9 +68,14 @@ abbrev pub content_of : Tree → Content
 content_of (Node o at stop parts) = content_in o parts
 
 abbrev pub data_of : Here → Tree → Object
-data_of here t = object.Data (record { content = content_of t; source = source.Term here.table (record { at = at_of t; end = stop_of t }) (scope_numbered here.scope) })
+data_of here t = object.Data (record {
+  content = content_of t;
+  source =
+      source.Term here.table (record { at = at_of t; end = stop_of t }) (scope_numbered here.scope);
+})
 
--- bits 2:0 of a method's flags are the number of arguments, bit 3 tells whether it is serialized, bits 7:4 are the sync level
+-- bits 2:0 of a method's flags are the number of arguments, bit 3 tells whether it is serialized,
+-- bits 7:4 are the sync level
 abbrev pub method_of : Here → ℕ → ℕ → Tree → Object
 method_of here at flags body = object.Method (record {
   args = flags % 8;
@@ -79,7 +87,8 @@ method_of here at flags body = object.Method (record {
 })
 
 abbrev pub buffer_field : Here → CreatedFieldSize → Tree → Tree → Object
-buffer_field here size buffer index = object.BufferField (record { source = reference here buffer; index = literal index; size = size })
+buffer_field here size buffer index = object.BufferField
+    (record { source = reference here buffer; index = literal index; size = size })
 
 -- an object, with the place of its name
 abbrev pub Named : Type 0
@@ -95,12 +104,20 @@ named_data here (more name (more t none)) = Some (at_of name, data_of here t)
 named_data here parts = None
 
 abbrev pub named_method : Here → ℕ → Trees → Named
-named_method here at (more name (more flags (more body none))) = Some (at_of name, method_of here at (number_in flags) body)
+named_method here at (more name (more flags (more body none))) =
+    Some (at_of name, method_of here at (number_in flags) body)
 named_method here at parts = None
 
 abbrev pub named_region : Trees → Named
 named_region (more name (more space (more place (more length none)))) =
-    Some (at_of name, object.Region (record { space = number_in space; place = literal_of place; length = literal_of length }))
+    Some (
+      at_of name,
+      object.Region (record {
+        space = number_in space;
+        place = literal_of place;
+        length = literal_of length;
+      }),
+    )
 named_region parts = None
 
 -- bits 3:0 of a mutex's flags are its sync level, and bits 7:4 mean nothing
@@ -109,11 +126,13 @@ named_mutex (more name (more flags none)) = Some (at_of name, object.Mutex (numb
 named_mutex parts = None
 
 abbrev pub named_buffer_field : Here → CreatedFieldSize → Trees → Named
-named_buffer_field here size (more buffer (more index (more name none))) = Some (at_of name, buffer_field here size buffer index)
+named_buffer_field here size (more buffer (more index (more name none))) =
+    Some (at_of name, buffer_field here size buffer index)
 named_buffer_field here size parts = None
 
 abbrev pub named_bits : Here → Trees → Named
-named_bits here (more buffer (more index (more bits (more name none)))) = Some (at_of name, buffer_field here (size.Bits (literal bits)) buffer index)
+named_bits here (more buffer (more index (more bits (more name none)))) =
+    Some (at_of name, buffer_field here (size.Bits (literal bits)) buffer index)
 named_bits here parts = None
 
 -- what a definition makes that makes one object

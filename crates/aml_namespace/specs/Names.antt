@@ -48,17 +48,20 @@ args_of o = 0
 abbrev pub named_within : Entries → ℕ → NameString → Option ℕ
 named_within entries id name = looked_up entries (At (record { 0 = id })) name
 
--- how many arguments tables declare of the other's method that a name names within the object with a number
+-- how many arguments tables declare of the other's method that a name names within the object with
+-- a number
 abbrev pub told_within : Shown → ℕ → NameString → Option ℕ
 told_within ns id name = option_and_then
-    (λ scope. resolve (first_told ns.tables (paths_in ns.entries) ns.externals) scope name) (scope_path ns.entries (At (record { 0 = id })))
+    (λ scope. resolve (first_told ns.tables (paths_in ns.entries) ns.externals) scope name)
+    (scope_path ns.entries (At (record { 0 = id })))
 
 -- how many arguments a name takes that names an object, or none
 abbrev pub count_of : Shown → ℕ → NameString → Option ℕ → ℕ
 count_of ns id name None = unwrap_or (told_within ns id name) 0
 count_of ns id name (Some i) = args_of (object_at ns.entries i)
 
--- how many arguments a name takes in a method's body: those of what it names, else those that tables declare
+-- how many arguments a name takes in a method's body: those of what it names, else those that
+-- tables declare
 abbrev pub counts : Shown → ℕ → NameString → ℕ → ℕ
 counts ns id name at = count_of ns id name (named_within ns.entries id name)
 
@@ -79,7 +82,8 @@ abbrev pub linked : Entries → Option ℕ → Link
 linked entries None = link.Missing
 linked entries (Some i) = link_of i (object_at entries i)
 
--- what the name of a package element names at a place of these bytes, in the body of a method with a number: never an own name
+-- what the name of a package element names at a place of these bytes, in the body of a method with
+-- a number: never an own name
 abbrev pub element_at : Entries → ℕ → List ℕ → ℕ → Option ℕ
 element_at entries id bytes at = option_and_then (named_within entries id) (name_there bytes at)
 
@@ -91,12 +95,14 @@ abbrev pub own_or : Option ℕ → Link → Link
 own_or None l = l
 own_or (Some i) l = link.Own i
 
--- what it means in a body with these own names: a lone segment is the own name that stands there, and else what it names in the
--- namespace
+-- what it means in a body with these own names: a lone segment is the own name that stands there,
+-- and else what it names in the namespace
 abbrev pub link_with_owns : Entries → ℕ → List ℕ → List OwnName → ℕ → Link
-link_with_owns entries id bytes owns at = own_or (own_at bytes owns at) (link_at entries id bytes at)
+link_with_owns entries id bytes owns at =
+    own_or (own_at bytes owns at) (link_at entries id bytes at)
 
--- how many terms a name takes by what it means: a method's as many as the method has arguments, `_OSI` one
+-- how many terms a name takes by what it means: a method's as many as the method has arguments,
+-- `_OSI` one
 abbrev pub link_args : Shown → Link → ℕ
 link_args ns (link.Method id) = args_of (object_at ns.entries id.0)
 link_args ns link.OsInterfaces = 1

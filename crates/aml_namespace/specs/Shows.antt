@@ -15,7 +15,14 @@ abbrev pub bytes_in : List (Bor (List ℕ)) → List (List ℕ)
 bytes_in tables = map (λ t. t.now) tables
 
 abbrev pub shown : Namespace → Shown
-shown ns = record { tables = bytes_in ns.tables.items; os = ns.host.os.now; width = ns.width; entries = entries_seen ns.objects; externals = ns.externals.items; interfaces = bytes_in ns.host.osi.now }
+shown ns = record {
+  tables = bytes_in ns.tables.items;
+  os = ns.host.os.now;
+  width = ns.width;
+  entries = entries_seen ns.objects;
+  externals = ns.externals.items;
+  interfaces = bytes_in ns.host.osi.now;
+}
 
 -- what the declarations of a namespace tell of its paths
 abbrev pub IsTold : Shown → Answered → Type 0

@@ -30,7 +30,8 @@ fn enter_object(
     requires { here.scope ≤ length (entries_seen objects.old) }
     ensures made { let entries = entries_seen objects.old in
         Makes result (entries_seen objects.new) (object_entered (here_of here.entry) entries made) }
-    ensures grows { OnOk result (length (entries_seen objects.old) ≤ length (entries_seen objects.new)) }
+    ensures grows { OnOk result
+        (length (entries_seen objects.old) ≤ length (entries_seen objects.new)) }
 {
     let Some((at, object)) = made else {
         return Ok(());
@@ -50,7 +51,8 @@ fn enter_field(
     requires { here.scope ≤ length (entries_seen objects.old) }
     ensures made { let entries = entries_seen objects.old in
         Makes result (entries_seen objects.new) (field_entered (here_of here.entry) entries made) }
-    ensures grows { OnOk result (length (entries_seen objects.old) ≤ length (entries_seen objects.new)) }
+    ensures grows { OnOk result
+        (length (entries_seen objects.old) ≤ length (entries_seen objects.new)) }
 {
     match made {
         Some((at, field)) => enter_object(here, objects, Some((at, Object::Field(field)))),
@@ -72,7 +74,8 @@ fn enter_fields(
     ensures made { let entries = entries_seen objects.old in
         Makes result (entries_seen objects.new)
         (fields_from (here_of here.entry) through (list_start flags) entries (views items.now)) }
-    ensures grows { OnOk result (length (entries_seen objects.old) ≤ length (entries_seen objects.new)) }
+    ensures grows { OnOk result
+        (length (entries_seen objects.old) ≤ length (entries_seen objects.new)) }
 {
     let mut cursor = Cursor::at_start(flags);
     for item in items {
@@ -91,8 +94,10 @@ fn define_alias(
 ) -> Result<(), LoadFault>
     requires { here.scope ≤ length (entries_seen objects.old) }
     ensures made { let entries = entries_seen objects.old in
-        Makes result (entries_seen objects.new) (alias_entered (here_of here.entry) entries source_at at) }
-    ensures grows { OnOk result (length (entries_seen objects.old) ≤ length (entries_seen objects.new)) }
+        Makes result (entries_seen objects.new)
+        (alias_entered (here_of here.entry) entries source_at at) }
+    ensures grows { OnOk result
+        (length (entries_seen objects.old) ≤ length (entries_seen objects.new)) }
 {
     match (
         name_there(here.bytes, source_at),
@@ -109,8 +114,10 @@ fn define_fields(here: Here<'_>, objects: &mut Objects, parts: &[Term]) -> Resul
     requires many { 2 ≤ length parts.now }
     requires shaped { AreShaped code.Module (views parts.now) }
     ensures made { let entries = entries_seen objects.old in
-        Makes result (entries_seen objects.new) (region_fields (here_of here.entry) entries (views parts.now)) }
-    ensures grows { OnOk result (length (entries_seen objects.old) ≤ length (entries_seen objects.new)) }
+        Makes result (entries_seen objects.new)
+        (region_fields (here_of here.entry) entries (views parts.now)) }
+    ensures grows { OnOk result
+        (length (entries_seen objects.old) ≤ length (entries_seen objects.new)) }
 {
     let (region, rest) = first_and_rest(parts);
     let (flags, items) = first_and_rest(rest);
@@ -128,8 +135,10 @@ fn define_index_fields(
     requires many { 3 ≤ length parts.now }
     requires shaped { AreShaped code.Module (views parts.now) }
     ensures made { let entries = entries_seen objects.old in
-        Makes result (entries_seen objects.new) (index_fields (here_of here.entry) entries (views parts.now)) }
-    ensures grows { OnOk result (length (entries_seen objects.old) ≤ length (entries_seen objects.new)) }
+        Makes result (entries_seen objects.new)
+        (index_fields (here_of here.entry) entries (views parts.now)) }
+    ensures grows { OnOk result
+        (length (entries_seen objects.old) ≤ length (entries_seen objects.new)) }
 {
     let (index, rest) = first_and_rest(parts);
     let (source, rest) = first_and_rest(rest);
@@ -151,8 +160,10 @@ fn define_bank_fields(
     requires many { 4 ≤ length parts.now }
     requires shaped { AreShaped code.Module (views parts.now) }
     ensures made { let entries = entries_seen objects.old in
-        Makes result (entries_seen objects.new) (bank_fields (here_of here.entry) entries (views parts.now)) }
-    ensures grows { OnOk result (length (entries_seen objects.old) ≤ length (entries_seen objects.new)) }
+        Makes result (entries_seen objects.new)
+        (bank_fields (here_of here.entry) entries (views parts.now)) }
+    ensures grows { OnOk result
+        (length (entries_seen objects.old) ≤ length (entries_seen objects.new)) }
 {
     let (region, rest) = first_and_rest(parts);
     let (bank, rest) = first_and_rest(rest);
@@ -199,8 +210,10 @@ fn define_flat(
     requires has { HasParts op (views parts.now) }
     requires shaped { AreShaped code.Module (views parts.now) }
     ensures made { let entries = entries_seen objects.old in
-        Makes result (entries_seen objects.new) (flat (here_of here.entry) entries op at (views parts.now)) }
-    ensures grows { OnOk result (length (entries_seen objects.old) ≤ length (entries_seen objects.new)) }
+        Makes result (entries_seen objects.new)
+        (flat (here_of here.entry) entries op at (views parts.now)) }
+    ensures grows { OnOk result
+        (length (entries_seen objects.old) ≤ length (entries_seen objects.new)) }
     ensures declares { let more = declared_flat (here_of here.entry) op (views parts.now) in
         OnOk result (externals.new.items ≡ externals.old.items ++ more) }
 {
@@ -231,11 +244,14 @@ fn define_within(
     requires shaped { AreShaped code.Module (views body.now) }
     ensures made { let entries = entries_seen objects.old in
         Makes result (entries_seen objects.new)
-        (holding (here_of here.entry) entries made (view name.now) (λ inner es. all_defined inner es (views body.now))) }
-    ensures grows { OnOk result (length (entries_seen objects.old) ≤ length (entries_seen objects.new)) }
+        (holding (here_of here.entry) entries made (view name.now)
+        (λ inner es. all_defined inner es (views body.now))) }
+    ensures grows { OnOk result
+        (length (entries_seen objects.old) ≤ length (entries_seen objects.new)) }
     ensures declares { let entries = entries_seen objects.old in
-        OnOk result (externals.new.items ≡ externals.old.items ++ declared_holding (here_of here.entry)
-        entries made (view name.now) (λ inner es. all_declared inner es (views body.now))) }
+        OnOk result (externals.new.items ≡ externals.old.items
+        ++ declared_holding (here_of here.entry) entries made (view name.now)
+        (λ inner es. all_declared inner es (views body.now))) }
 {
     let Some(path) = name_there(here.bytes, name.at) else {
         return Ok(());
@@ -262,11 +278,14 @@ fn define_reopened(
     requires shaped { AreShaped code.Module (views body.now) }
     ensures made { let entries = entries_seen objects.old in
         Makes result (entries_seen objects.new)
-        (reopening (here_of here.entry) entries (view name.now) (λ inner. all_defined inner entries (views body.now))) }
-    ensures grows { OnOk result (length (entries_seen objects.old) ≤ length (entries_seen objects.new)) }
+        (reopening (here_of here.entry) entries (view name.now)
+        (λ inner. all_defined inner entries (views body.now))) }
+    ensures grows { OnOk result
+        (length (entries_seen objects.old) ≤ length (entries_seen objects.new)) }
     ensures declares { let entries = entries_seen objects.old in
-        OnOk result (externals.new.items ≡ externals.old.items ++ declared_reopening (here_of here.entry)
-        entries (view name.now) (λ inner. all_declared inner entries (views body.now))) }
+        OnOk result (externals.new.items ≡ externals.old.items
+        ++ declared_reopening (here_of here.entry) entries (view name.now)
+        (λ inner. all_declared inner entries (views body.now))) }
 {
     let Some(path) = name_there(here.bytes, name.at) else {
         return Ok(());
@@ -292,10 +311,12 @@ fn define(
     requires there { here.scope ≤ length (entries_seen objects.old) }
     requires shaped { IsShaped code.Module (view term.now) }
     ensures made { let entries = entries_seen objects.old in
-        Makes result (entries_seen objects.new) (defined (here_of here.entry) entries (view term.now)) }
-    ensures grows { OnOk result (length (entries_seen objects.old) ≤ length (entries_seen objects.new)) }
-    ensures declares { let more = declared (here_of here.entry) (entries_seen objects.old) (view term.now) in
-        OnOk result (externals.new.items ≡ externals.old.items ++ more) }
+        Makes result (entries_seen objects.new)
+        (defined (here_of here.entry) entries (view term.now)) }
+    ensures grows { OnOk result
+        (length (entries_seen objects.old) ≤ length (entries_seen objects.new)) }
+    ensures declares { OnOk result (externals.new.items ≡ externals.old.items
+        ++ declared (here_of here.entry) (entries_seen objects.old) (view term.now)) }
 {
     let parts = &term.parts[..];
     match term.op {
@@ -340,10 +361,12 @@ pub(crate) fn define_all(
     requires there { here.scope ≤ length (entries_seen objects.old) }
     requires shaped { AreShaped code.Module (views terms.now) }
     ensures made { let entries = entries_seen objects.old in
-        Makes result (entries_seen objects.new) (all_defined (here_of here.entry) entries (views terms.now)) }
-    ensures grows { OnOk result (length (entries_seen objects.old) ≤ length (entries_seen objects.new)) }
-    ensures declares { let more = all_declared (here_of here.entry) (entries_seen objects.old) (views terms.now) in
-        OnOk result (externals.new.items ≡ externals.old.items ++ more) }
+        Makes result (entries_seen objects.new)
+        (all_defined (here_of here.entry) entries (views terms.now)) }
+    ensures grows { OnOk result
+        (length (entries_seen objects.old) ≤ length (entries_seen objects.new)) }
+    ensures declares { OnOk result (externals.new.items ≡ externals.old.items
+        ++ all_declared (here_of here.entry) (entries_seen objects.old) (views terms.now)) }
 {
     for term in terms {
         define(here, objects, externals, term)?;

@@ -2,8 +2,8 @@
 
 ghost use Rattle.aml_namespace.specs.Laws.{DefinitionsStay, FaultsWithin, LinksCount, PathsDistinct};
 
-/// Each fault of a load names one of the tables that were handed in, by its number, and a place of at
-/// most that table's number of bytes.
+/// Each fault of a load names one of the tables that were handed in, by its number, and a place of
+/// at most that table's number of bytes.
 pub fn faults_stand_within()
     ensures { FaultsWithin }
 {}
@@ -18,8 +18,8 @@ pub fn paths_are_distinct()
     ensures { PathsDistinct }
 {}
 
-/// How many terms follow a name of a body that means something is what its link tells: an own name has
-/// none, a method as many as its arguments, `_OSI` one, all else none.
+/// How many terms follow a name of a body that means something is what its link tells: an own name
+/// has none, a method as many as its arguments, `_OSI` one, all else none.
 pub fn links_count()
     ensures { LinksCount }
 {}

@@ -1,7 +1,8 @@
 //! The namespace that tables' definitions make (ACPI 6.5, 5.3).
 //!
-//! Rooms: what definitions make is in `made`, `fields` and `define`; loading in `load` and `namespace`; what names
-//! of a body mean in `link`, and how many terms they take in `inside`. `law` has the laws.
+//! Rooms: what definitions make is in `made`, `fields` and `define`; loading in `load` and
+//! `namespace`; what names of a body mean in `link`, and how many terms they take in `inside`.
+//! `law` has the laws.
 #![tactic(auto)]
 
 mod define;

@@ -32,8 +32,10 @@ fn load_table(
     objects: &mut Objects,
     externals: &mut Vec<External>,
 ) -> Result<u8, LoadFault>
-    ensures loads { LoadsTable table bytes.now (entries_seen objects.old) (entries_seen objects.new) result }
-    ensures declares { let before = entries_seen objects.old in let after = entries_seen objects.new in
+    ensures loads { LoadsTable table bytes.now (entries_seen objects.old)
+        (entries_seen objects.new) result }
+    ensures declares { let before = entries_seen objects.old in
+        let after = entries_seen objects.new in
         DeclaresTable table bytes.now before after externals.old.items externals.new.items result }
 {
     let header = match read_table(bytes, signature_of(table)) {

@@ -62,15 +62,15 @@ impl<'a> Namespace<'a> {
     ghost use Rattle.aml_objects.specs.Settled.{named_at};
     ghost use Rattle.aml_namespace.specs.Shows.{IsTold, Loads, bytes_in, shown};
 
-    /// Loads a DSDT and any number of SSDTs behind it. Of each table: its header, then its whole module,
-    /// then its definitions in the order of the bytes.
+    /// Loads a DSDT and any number of SSDTs behind it. Of each table: its header, then its whole
+    /// module, then its definitions in the order of the bytes.
     ///
-    /// Faults, each with the table's number and a place of at most the table's number of bytes: E101 to
-    /// E104 of the table, at the place that `read_table` tells; E201 to E209 of its module, at the place
-    /// that `read_module` tells; E301 at a name that is defined already; E302 at a name whose parent holds
-    /// no names or is missing, and at the name of a Scope that opens none; E303 at a name behind 65,535
-    /// paths; E304 at the name of an alias's source that names nothing. Want of memory, E524, has
-    /// neither. After a fault there is no namespace.
+    /// Faults, each with the table's number and a place of at most the table's number of bytes:
+    /// E101 to E104 of the table, at the place that `read_table` tells; E201 to E209 of its module,
+    /// at the place that `read_module` tells; E301 at a name that is defined already; E302 at a
+    /// name whose parent holds no names or is missing, and at the name of a Scope that opens none;
+    /// E303 at a name behind 65,535 paths; E304 at the name of an alias's source that names
+    /// nothing. Want of memory, E524, has neither. After a fault there is no namespace.
     #[tactic(auto, using(crate::proofs::Sound::bodies_within))]
     pub fn load(alloc: Global, tables: &[&'a [u8]], host: Host<'a>) -> Result<Self, LoadFault>
         requires { 0 < length tables.now }
@@ -97,9 +97,9 @@ impl<'a> Namespace<'a> {
         })
     }
 
-    /// Counts how many arguments the methods take that tables declare as others', and keeps it, so that
-    /// `tree` need not count anew for each body that it reads. Who reads no body spares the memory, which
-    /// may be many times that of the declarations.
+    /// Counts how many arguments the methods take that tables declare as others', and keeps it, so
+    /// that `tree` need not count anew for each body that it reads. Who reads no body spares the
+    /// memory, which may be many times that of the declarations.
     pub fn count_externals(&mut self, alloc: Global) -> Result<(), NoMemory>
         ensures { shown self.new ≡ shown self.old }
     {
@@ -177,17 +177,19 @@ impl<'a> Namespace<'a> {
         self.objects.path(alloc, id.0)
     }
 
-    /// The number of the object whose path, or an alias's, a text prints: `\` and segments joined by `.`.
+    /// The number of the object whose path, or an alias's, a text prints: `\` and segments joined
+    /// by `.`.
     #[tactic(auto, using(crate::proofs::PrintedObjects::found_printed))]
     pub fn find(&self, text: &[u8]) -> Option<ObjectId>
-        ensures { option_map (λ id. id.0) result ≡ printed_object (shown self.now).entries text.now }
+        ensures { option_map (λ id. id.0) result ≡
+            printed_object (shown self.now).entries text.now }
     {
         let number = self.objects.object_number(self.objects.printed(text)?)?;
         Some(ObjectId(number))
     }
 
-    /// The number of the object that a name names in a scope: a lone segment is searched upward, and
-    /// every other name is exactly one path.
+    /// The number of the object that a name names in a scope: a lone segment is searched upward,
+    /// and every other name is exactly one path.
     pub fn lookup(&self, scope: Scope, name: &NameRef<'_>) -> Option<ObjectId>
         ensures { option_map (λ id. id.0) result
             ≡ looked_up (shown self.now).entries scope (name_of name.now) }
@@ -195,8 +197,8 @@ impl<'a> Namespace<'a> {
         Some(ObjectId(self.objects.look_up(scope, name)?))
     }
 
-    /// The number of the object that the name of a package element names at a place of these bytes, in
-    /// the body of the method with this number. It is never an own name of the body.
+    /// The number of the object that the name of a package element names at a place of these bytes,
+    /// in the body of the method with this number. It is never an own name of the body.
     pub fn element(&self, id: ObjectId, bytes: &[u8], at: usize) -> Option<ObjectId>
         ensures { option_map (λ id. id.0) result
             ≡ element_at (shown self.now).entries id.0 bytes.now at }
@@ -205,8 +207,8 @@ impl<'a> Namespace<'a> {
         self.lookup(Scope::At(id), &name)
     }
 
-    /// What the name at a place of these bytes means in the body of the method with this number, its
-    /// own names apart.
+    /// What the name at a place of these bytes means in the body of the method with this number,
+    /// its own names apart.
     pub fn link(&self, id: ObjectId, bytes: &[u8], at: usize) -> Link
         ensures { result ≡ link_at (shown self.now).entries id.0 bytes.now at }
     {
@@ -216,9 +218,9 @@ impl<'a> Namespace<'a> {
         }
     }
 
-    /// What the name at a place of these bytes, which is no package element, means in the body of the
-    /// method with this number: one segment without prefix is the own name of the body that stands
-    /// there, and any other name what it names in the namespace.
+    /// What the name at a place of these bytes, which is no package element, means in the body of
+    /// the method with this number: one segment without prefix is the own name of the body that
+    /// stands there, and any other name what it names in the namespace.
     pub fn link_with_owns(&self, id: ObjectId, bytes: &[u8], owns: &OwnNames, at: usize) -> Link
         ensures { result
             ≡ link_with_owns (shown self.now).entries id.0 bytes.now (owns_seen owns.now) at }
@@ -267,8 +269,8 @@ impl<'a> Namespace<'a> {
         false
     }
 
-    /// The number of the object that the name at a place of a table names, from the scope in which it
-    /// stands; None where nothing has the name, and where no name stands there.
+    /// The number of the object that the name at a place of a table names, from the scope in which
+    /// it stands; None where nothing has the name, and where no name stands there.
     pub fn named_at(&self, name: NamePlace) -> Option<ObjectId>
         ensures { let ns = shown self.now in result ≡ named_at ns.tables ns.entries name }
     {
@@ -285,8 +287,8 @@ impl<'a> Namespace<'a> {
         &self.table(method.table)[..method.body.end]
     }
 
-    /// The statements of a method's body: a name takes as many terms as the method that it names has
-    /// arguments.
+    /// The statements of a method's body: a name takes as many terms as the method that it names
+    /// has arguments.
     ///
     /// Faults: E201 to E208, each with a place in the method's table, from the body's first byte to
     /// its end; want of memory, E524.

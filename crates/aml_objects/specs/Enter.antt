@@ -34,7 +34,8 @@ parent_of path = take (length path - 1) path
 abbrev pub checked_path : Entries → Path → Result Path LoadCause
 checked_path entries path =
     if is_some (number_of entries path) then Err Duplicate
-    else (if is_none (option_and_then (scope_opened entries) (number_of entries (parent_of path))) then Err ScopeMissing
+    else (if is_none (option_and_then (scope_opened entries) (number_of entries (parent_of path)))
+    then Err ScopeMissing
     else (if nat_le greatest_count (length entries) then Err TooMany else Ok path))
 
 -- the path that a definition's name makes; the root is none, nor is what would be above it
@@ -59,7 +60,8 @@ entered here entries at name entry = do
 
 -- the number of the object that a name names
 abbrev pub named_object : Here → Entries → NameString → Option ℕ
-named_object here entries name = option_and_then (object_number entries) (resolve (number_of entries) (scope_path here entries) name)
+named_object here entries name = option_and_then (object_number entries)
+    (resolve (number_of entries) (scope_path here entries) name)
 
 abbrev pub alias_of : Option ℕ → Result ObjectId LoadCause
 alias_of None = Err AliasMissing
@@ -78,7 +80,8 @@ scope_of (Some number) = Ok number
 
 -- the number of the path that a name opens
 abbrev pub scope_named : Here → Entries → NameString → Option ℕ
-scope_named here entries name = option_and_then (scope_opened entries) (resolve (number_of entries) (scope_path here entries) name)
+scope_named here entries name = option_and_then (scope_opened entries)
+    (resolve (number_of entries) (scope_path here entries) name)
 
 -- the number of the path that a Scope opens
 abbrev pub opened : Here → Entries → ℕ → NameString → Result ℕ LoadRefusal

@@ -1,4 +1,5 @@
--- What a namespace has: pairs of an absolute path and what stands under it, in order of definition (ACPI 6.5, 5.3).
+-- What a namespace has: pairs of an absolute path and what stands under it, in order of definition
+-- (ACPI 6.5, 5.3).
 use Rattle.std.specs.Prelude.{ℕ, zero, suc, List, ◌∷◌, map, slice_get, Option, Some, None, option_and_then, Bool, true, false, if◌then◌else◌}
 use Rattle.std.specs.Option.{option_map}
 use Rattle.aml_objects.specs.declared.object.Entry.{Entry}
@@ -57,8 +58,9 @@ abbrev pub opened_by : ℕ → Option Object → Option ℕ
 opened_by i None = None
 opened_by i (Some o) = if holds_names o then Some (suc i) else None
 
--- the number of the path in which the definitions stand that are made under the path with a number: the root's, or the first one
--- of an object that holds names
+-- the number of the path in which the definitions stand that are made under the path with a number:
+-- the root's, or the first one of an object that holds names
 abbrev pub scope_opened : Entries → ℕ → Option ℕ
 scope_opened entries zero = Some 0
-scope_opened entries (suc i) = option_and_then (λ n. opened_by n (object_at entries n)) (object_number entries (suc i))
+scope_opened entries (suc i) =
+    option_and_then (λ n. opened_by n (object_at entries n)) (object_number entries (suc i))

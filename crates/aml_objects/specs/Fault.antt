@@ -25,6 +25,7 @@ tree_fault table read.NoMemory = NoMemory
 tree_fault table (read.Refused fault) = Refused (tree_refusal table fault)
 
 infixl 10 ◌>>=◌
-abbrev pub ◌>>=◌ : {X Y : Type 0} → Result X LoadRefusal → (X → Result Y LoadRefusal) → Result Y LoadRefusal
+abbrev pub ◌>>=◌ : {X Y : Type 0} → Result X LoadRefusal → (X → Result Y LoadRefusal) →
+    Result Y LoadRefusal
 (Ok x) >>= f = f x
 (Err f) >>= next = Err f

@@ -34,7 +34,9 @@ path_below entries parent segment = path_at (paths_in entries) parent ++ segment
 
 -- a place for a new path: the number of its parent's path, and its segment; or why there is none
 abbrev pub Places : Entries → Result (ℕ × NameSeg) LoadCause → Result Path LoadCause → Type 0
-Places entries (Ok (parent, segment)) answer = (parent ≤ length entries) × (number_of entries (path_below entries parent segment) ≡ None) × (answer ≡ Ok (path_below entries parent segment))
+Places entries (Ok (parent, segment)) answer =
+    (parent ≤ length entries) × (number_of entries (path_below entries parent segment) ≡ None)
+    × (answer ≡ Ok (path_below entries parent segment))
 Places entries (Err cause) answer = answer ≡ Err cause
 
 -- a fault of the program is the definition's, unless memory ran out
@@ -47,7 +49,8 @@ abbrev pub Answers : {X Y : Type 0} → (X → Y) → Result X LoadFault → Res
 Answers view (Ok x) answer = answer ≡ Ok (view x)
 Answers view (Err fault) answer = IsFaultOf fault answer
 
--- what a function left is what a definition makes, or its fault is the definition's, unless memory ran out
+-- what a function left is what a definition makes, or its fault is the definition's, unless memory
+-- ran out
 abbrev pub Makes : {X : Type 0} → Result X LoadFault → Entries → Result Entries LoadRefusal → Type 0
 Makes (Ok x) left answer = answer ≡ Ok left
 Makes (Err fault) left answer = IsFaultOf fault answer

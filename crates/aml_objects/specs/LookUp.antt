@@ -13,7 +13,8 @@ use Rattle.aml_paths.specs.Scopes.{scope_number}
 
 -- the number of the object that a name names in a scope
 abbrev pub named_in : Entries → Path → NameString → Option ℕ
-named_in entries scope name = option_and_then (object_number entries) (resolve (number_of entries) scope name)
+named_in entries scope name =
+    option_and_then (object_number entries) (resolve (number_of entries) scope name)
 
 -- the path of a scope, where it is one
 abbrev pub scope_path : Entries → Scope → Option Path
@@ -21,7 +22,8 @@ scope_path entries scope = slice_get (paths_in entries) (scope_number scope)
 
 -- what a name names in a scope; in what is none, nothing
 abbrev pub looked_up : Entries → Scope → NameString → Option ℕ
-looked_up entries scope name = option_and_then (λ path. named_in entries path name) (scope_path entries scope)
+looked_up entries scope name =
+    option_and_then (λ path. named_in entries path name) (scope_path entries scope)
 
 abbrev pub is_method : Option Object → Bool
 is_method (Some (object.Method m)) = true
@@ -34,7 +36,8 @@ owned_at n (Some e) = (e.0, record { 0 = owner n e.1 }) ∷ []
 -- the numbers of the methods among the first so many entries, in order of definition
 abbrev pub methods_before : Entries → ℕ → List ObjectId
 methods_before entries zero = []
-methods_before entries (suc n) = methods_before entries n ++ (if is_method (object_at entries n) then record { 0 = n } ∷ [] else [])
+methods_before entries (suc n) = methods_before entries n
+    ++ (if is_method (object_at entries n) then record { 0 = n } ∷ [] else [])
 
 -- the numbers of all methods; `_OSI` is none
 abbrev pub methods_in : Entries → List ObjectId

@@ -22,9 +22,11 @@ predefined_objects os_length =
     ∷ predefined (codes "_SB_") object.Scope
     ∷ predefined (codes "_SI_") object.Scope
     ∷ predefined (codes "_TZ_") object.Scope
-    ∷ predefined (codes "_REV") (object.Data (record { content = content.Integer; source = source.Revision }))
+    ∷ predefined (codes "_REV")
+    (object.Data (record { content = content.Integer; source = source.Revision }))
     ∷ predefined (codes "_OSI") object.OsInterfaces
-    ∷ predefined (codes "_OS_") (object.Data (record { content = content.String os_length; source = source.OsName }))
+    ∷ predefined (codes "_OS_")
+    (object.Data (record { content = content.String os_length; source = source.OsName }))
     ∷ predefined (codes "_GL_") object.GlobalLock
     ∷ []
 

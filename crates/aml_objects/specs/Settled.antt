@@ -1,4 +1,5 @@
--- What objects name, found once all tables are loaded (ACPI 6.5, 19.6, Field and its kin, CreateField and its kin).
+-- What objects name, found once all tables are loaded (ACPI 6.5, 19.6, Field and its kin,
+-- CreateField and its kin).
 use Rattle.std.specs.Prelude.{ℕ, List, map, slice_get, Option, option_and_then}
 use Rattle.std.specs.Option.{option_map}
 use Rattle.aml_lex.specs.Standing.{name_there}
@@ -18,7 +19,8 @@ use Rattle.aml_paths.specs.Paths.{Path}
 -- the object that the name at a place names, from the scope in which it stands
 abbrev pub named_at : List (List ℕ) → Entries → NamePlace → Option ObjectId
 named_at tables entries name = option_map (λ i. record { 0 = i })
-    (option_and_then (looked_up entries name.scope) (option_and_then (λ bytes. name_there bytes name.at) (slice_get tables name.table)))
+    (option_and_then (looked_up entries name.scope)
+    (option_and_then (λ bytes. name_there bytes name.at) (slice_get tables name.table)))
 
 module _ (find : NamePlace → Option ObjectId) where
   abbrev pub found : Reference → Reference

@@ -1,4 +1,5 @@
--- How wide integers are (ACPI 6.5, 19.6, DefinitionBlock), and how many bits fields of buffers have.
+-- How wide integers are (ACPI 6.5, 19.6, DefinitionBlock), and how many bits fields of buffers
+-- have.
 use Rattle.std.specs.Prelude.{◌%◌, ◌^◌, ℕ, nat_lt, if◌then◌else◌}
 use Rattle.aml_objects.specs.declared.object.CreatedFieldSize.{CreatedFieldSize}
 use Rattle.aml_objects.specs.declared.object.CreatedFieldSize.TheVariants as size
@@ -14,7 +15,8 @@ bits_of Bits64 = 64
 abbrev pub width_by : ℕ → Width
 width_by revision = if nat_lt revision 2 then Bits32 else Bits64
 
--- how many bits a field of a buffer has, where integers have so many: a CreateField's number is an integer
+-- how many bits a field of a buffer has, where integers have so many: a CreateField's number is an
+-- integer
 abbrev pub size_bits : ℕ → CreatedFieldSize → ℕ
 size_bits width size.Bit = 1
 size_bits width size.Byte = 8

@@ -22,8 +22,10 @@ pub fn enter(
 ) -> Result<(), LoadFault>
     requires { here.scope ≤ length (entries_seen objects.old) }
     ensures made { let entries = entries_seen objects.old in
-        Makes result (entries_seen objects.new) (entered (here_of here.entry) entries at (name_of name.now) entry) }
-    ensures grows { OnOk result (length (entries_seen objects.new) ≡ length (entries_seen objects.old) + 1) }
+        Makes result (entries_seen objects.new)
+        (entered (here_of here.entry) entries at (name_of name.now) entry) }
+    ensures grows { OnOk result
+        (length (entries_seen objects.new) ≡ length (entries_seen objects.old) + 1) }
 {
     match objects.place_for(here.scope, name) {
         Ok((parent, segment)) => Ok(objects.push(parent, segment, entry)?),
@@ -52,8 +54,10 @@ pub fn enter_alias(
     requires { here.scope ≤ length (entries_seen objects.old) }
     ensures made { let entries = entries_seen objects.old in
         Makes result (entries_seen objects.new)
-        (aliased (here_of here.entry) entries source_at (name_of source.now) at (name_of name.now)) }
-    ensures grows { OnOk result (length (entries_seen objects.new) ≡ length (entries_seen objects.old) + 1) }
+        (aliased (here_of here.entry) entries source_at (name_of source.now) at
+        (name_of name.now)) }
+    ensures grows { OnOk result
+        (length (entries_seen objects.new) ≡ length (entries_seen objects.old) + 1) }
 {
     let (parent, segment) = match objects.place_for(here.scope, name) {
         Ok(place) => place,

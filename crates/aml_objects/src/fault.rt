@@ -16,13 +16,13 @@ use thiserror::Error;
 pub enum LoadCause {
     /// The table, E101 to E104; its place is that of the field at fault, or the table's end.
     Table(TableCause),
-    /// The bytes of its module, E201 to E209; its place is that of the byte at fault, or the table's
-    /// end.
+    /// The bytes of its module, E201 to E209; its place is that of the byte at fault, or the
+    /// table's end.
     Tree(TreeCause),
     /// A second definition of a path; its place is that of the defined name.
     Duplicate,
-    /// A defined name whose parent is no scope that is there, or a Scope whose name opens none; its place
-    /// is that of the name.
+    /// A defined name whose parent is no scope that is there, or a Scope whose name opens none; its
+    /// place is that of the name.
     ScopeMissing,
     /// A path more than 65,535, predefined ones counted; its place is that of the defined name.
     TooMany,

@@ -39,7 +39,8 @@ impl Objects {
     fn owned_path(&self, alloc: Global, number: usize) -> Result<OwnedPath, AllocError>
         requires { number < length (entries_seen self.now) }
         ensures { IfOk result
-            (λ owned. owned_at number (slice_get (entries_seen self.now) number) ≡ owned_kept owned ∷ []) }
+            (λ owned. owned_at number (slice_get (entries_seen self.now) number) ≡
+            owned_kept owned ∷ []) }
     {
         let path = self.paths.path(alloc, number + 1)?;
         Ok((path, ObjectId(owner(number, self.entries[number]))))

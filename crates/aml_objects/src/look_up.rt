@@ -17,7 +17,8 @@ impl Objects {
     fn named_in(&self, scope: usize, name: &NameRef<'_>) -> Option<usize>
         requires { scope ≤ length (entries_seen self.now) }
         ensures { let entries = entries_seen self.now in result ≡ option_and_then
-            (λ path. named_in entries path (name_of name.now)) (slice_get (paths_in entries) scope) }
+            (λ path. named_in entries path (name_of name.now))
+            (slice_get (paths_in entries) scope) }
     {
         self.object_number(self.resolve(scope, name)?)
     }

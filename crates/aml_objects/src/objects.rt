@@ -101,7 +101,8 @@ impl Objects {
     /// The number of the path that is one segment below the path with this number.
     #[tactic(auto, using(crate::proofs::Kept::kept_below))]
     fn child(&self, path: usize, segment: NameSeg) -> Option<usize>
-        ensures { result ≡ number_below (paths_in (entries_seen self.now)) path (segment.bytes ∷ []) }
+        ensures { result ≡
+            number_below (paths_in (entries_seen self.now)) path (segment.bytes ∷ []) }
     {
         self.paths.child(path, segment)
     }
@@ -111,7 +112,8 @@ impl Objects {
     pub(crate) fn resolve(&self, scope: usize, name: &NameRef<'_>) -> Option<usize>
         requires { scope ≤ length (entries_seen self.now) }
         ensures { let entries = entries_seen self.now in
-            result ≡ resolve (number_of entries) (path_at (paths_in entries) scope) (name_of name.now) }
+            result ≡ resolve (number_of entries) (path_at (paths_in entries) scope)
+            (name_of name.now) }
     {
         self.paths.resolve(scope, name)
     }
@@ -147,7 +149,8 @@ impl Objects {
         }
     }
 
-    /// Whether a path may be made: it must be new, its parent must hold names, and there must be room.
+    /// Whether a path may be made: it must be new, its parent must hold names, and there must be
+    /// room.
     fn checked(&self, parent: usize, segment: NameSeg) -> Result<(usize, NameSeg), LoadCause>
         requires { parent ≤ length (entries_seen self.now) }
         ensures { let entries = entries_seen self.now in
@@ -173,7 +176,8 @@ impl Objects {
     ) -> Result<(usize, NameSeg), LoadCause>
         requires { scope ≤ length (entries_seen self.now) }
         ensures { let entries = entries_seen self.now in
-            Places entries result (made_path entries (spelled (path_at (paths_in entries) scope) (name_of name.now))) }
+            Places entries result
+            (made_path entries (spelled (path_at (paths_in entries) scope) (name_of name.now))) }
     {
         match self.paths.lead(scope, name) {
             Lead::Nowhere => Err(LoadCause::ScopeMissing),
@@ -201,7 +205,8 @@ impl Objects {
         requires new { let entries = entries_seen self.old in
             number_of entries (path_below entries parent segment) ≡ None }
         ensures ok { let entries = entries_seen self.old in
-            OnOk result (entries_seen self.new ≡ entries ++ (path_below entries parent segment, entry) ∷ []) }
+            OnOk result (entries_seen self.new ≡ entries
+            ++ (path_below entries parent segment, entry) ∷ []) }
         ensures err { OnErr result (entries_seen self.new ≡ entries_seen self.old) }
     {
         self.entries.push(entry)?;

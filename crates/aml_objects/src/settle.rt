@@ -1,5 +1,5 @@
-// What objects name, found once all tables are loaded (ACPI 6.5, 19.6, Field and its kin, CreateField
-// and its kin).
+// What objects name, found once all tables are loaded (ACPI 6.5, 19.6, Field and its kin,
+// CreateField and its kin).
 
 ghost use Rattle.std.specs.Prelude.{◌≡◌, map, OnOk};
 ghost use Rattle.aml_objects.specs.Settled.{found, found_entry, found_object, found_through, named_at, settled};
@@ -22,7 +22,8 @@ impl Objects {
     }
 
     fn found(&self, tables: &[&[u8]], reference: Reference) -> Reference
-        ensures { result ≡ found (named_at (map (λ t. t.now) tables.now) (entries_seen self.now)) reference }
+        ensures { result ≡
+            found (named_at (map (λ t. t.now) tables.now) (entries_seen self.now)) reference }
     {
         Reference {
             name: reference.name,

@@ -21,7 +21,8 @@ fn first_number(parts: &[Term]) -> Option<u64>
     }
 }
 
-/// The number of an integer literal, by its operator and its parts; None where it is no such literal.
+/// The number of an integer literal, by its operator and its parts; None where it is no such
+/// literal.
 pub fn literal_in(op: Op, parts: &[Term]) -> Option<u64>
     ensures { result ≡ literal_in op (views parts.now) }
 {

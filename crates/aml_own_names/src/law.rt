@@ -7,7 +7,8 @@ pub fn own_names_are_the_grammars()
     ensures { OwnNamesAreTheGrammars }
 {}
 
-/// One count of what names take serves all statements of a body: none for an own name where it stands.
+/// One count of what names take serves all statements of a body: none for an own name where it
+/// stands.
 pub fn one_count_serves()
     ensures { OneCountServes }
 {}

@@ -35,7 +35,8 @@ pub struct OwnNames {
 impl OwnNames {
     ghost use Rattle.aml_own_names.specs.OwnNamesSeen.{owns_seen};
 
-    /// The own names that the statements of a body make; `bytes` are the table's, up to the body's end.
+    /// The own names that the statements of a body make; `bytes` are the table's, up to the body's
+    /// end.
     pub fn of(alloc: Global, bytes: &[u8], body: &[Term]) -> Result<OwnNames, NoMemory>
         ensures { IfOk result (λ owns. owns_seen owns ≡ own_names bytes.now (map view body.now)) }
     {

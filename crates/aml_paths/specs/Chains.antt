@@ -20,19 +20,26 @@ number_on_chain spots top depth = position (stands_at top depth) spots
 
 -- the number of the path of a segment below it
 abbrev pub number_below_chain : List Path → List Spot → ℕ → List ℕ → ℕ → Option ℕ
-number_below_chain paths spots top segment depth = option_and_then (λ parent. number_below paths parent (segment ∷ [])) (number_on_chain spots top depth)
+number_below_chain paths spots top segment depth =
+    option_and_then (λ parent. number_below paths parent (segment ∷ []))
+    (number_on_chain spots top depth)
 
 -- on a path's chain stand those that begin it, from the chain's top on
-pub record StandsOnChain (paths : List Path) (spots : List Spot) (number : ℕ) (spot : Spot) : Type 0 where
+pub record StandsOnChain (paths : List Path) (spots : List Spot) (number : ℕ)
+    (spot : Spot) : Type 0 where
   pub depth : spot.depth ≡ length (path_at paths number)
   pub within : spot.depth ≤ number
   pub top : spot.top ≤ number
-  pub top_begins : take (length (path_at paths spot.top)) (path_at paths number) ≡ path_at paths spot.top
-  pub begins : (k : ℕ) → length (path_at paths spot.top) ≤ k → k ≤ spot.depth → number_on_chain spots spot.top k ≡ path_number paths (take k (path_at paths number))
-  pub above : (k : ℕ) → k < length (path_at paths spot.top) → number_on_chain spots spot.top k ≡ None
+  pub top_begins : take (length (path_at paths spot.top))
+      (path_at paths number) ≡ path_at paths spot.top
+  pub begins : (k : ℕ) → length (path_at paths spot.top) ≤ k → k ≤ spot.depth →
+      number_on_chain spots spot.top k ≡ path_number paths (take k (path_at paths number))
+  pub above : (k : ℕ) → k < length (path_at paths spot.top) →
+      number_on_chain spots spot.top k ≡ None
 
 abbrev pub AreChained : List Spot → List Path → Type 0
-AreChained spots paths = (number : ℕ) (spot : Spot) → slice_get spots number ≡ Some spot → StandsOnChain paths spots number spot
+AreChained spots paths = (number : ℕ) (spot : Spot) → slice_get spots number ≡ Some spot →
+    StandsOnChain paths spots number spot
 
 -- no path on the chain is longer than the one at this spot
 abbrev pub EndsAt : List Spot → Spot → Type 0
@@ -40,8 +47,11 @@ EndsAt spots spot = (k : ℕ) → spot.depth < k → number_on_chain spots spot.
 
 -- a path whose number is kept as that of its chain's last is the last
 abbrev pub AreLasts : List ℕ → List Spot → Type 0
-AreLasts lasts spots = (number : ℕ) (spot : Spot) → slice_get spots number ≡ Some spot → slice_get lasts spot.top ≡ Some number → EndsAt spots spot
+AreLasts lasts spots = (number : ℕ) (spot : Spot) → slice_get spots number ≡ Some spot →
+    slice_get lasts spot.top ≡ Some number → EndsAt spots spot
 
--- where a path may stand that is made one segment below another: on a chain of its own, or on the other's if that ends there
+-- where a path may stand that is made one segment below another: on a chain of its own, or on the
+-- other's if that ends there
 abbrev pub CanFollow : List Spot → Spot → Spot → Type 0
-CanFollow spots above spot = (spot.depth ≡ suc above.depth) × ((spot.top ≡ length spots) ⊎ ((spot.top ≡ above.top) × EndsAt spots above))
+CanFollow spots above spot = (spot.depth ≡ suc above.depth)
+    × ((spot.top ≡ length spots) ⊎ ((spot.top ≡ above.top) × EndsAt spots above))

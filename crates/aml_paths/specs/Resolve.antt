@@ -5,7 +5,8 @@ use Rattle.aml_lex.specs.NameStrings.{NameString}
 use Rattle.aml_lex.specs.Names.{lone_segment}
 use Rattle.aml_paths.specs.Paths.{Path, path_above, root}
 
--- the path from which a name's segments lead: the root, or one so many segments above the scope; above the root is none
+-- the path from which a name's segments lead: the root, or one so many segments above the scope;
+-- above the root is none
 abbrev pub base_of : Path → NameString → Option Path
 base_of scope name = if name.rooted then Some root else path_above name.parents scope
 
@@ -18,12 +19,15 @@ abbrev pub greatest : {X : Type 0} → (ℕ → Option X) → ℕ → Option X
 greatest find zero = find zero
 greatest find (suc n) = option_or (find (suc n)) (greatest find n)
 
--- what stands under the longest prefix of a scope, the scope itself among them, that is followed by a segment
+-- what stands under the longest prefix of a scope, the scope itself among them, that is followed by
+-- a segment
 abbrev pub upward_search : {X : Type 0} → (Path → Option X) → Path → List ℕ → Option X
-upward_search find scope segment = greatest (λ n. find (take n scope ++ segment ∷ [])) (length scope)
+upward_search find scope segment =
+    greatest (λ n. find (take n scope ++ segment ∷ [])) (length scope)
 
 -- a lone segment is searched upward, and every other name is exactly one path
-abbrev pub resolve_by : {X : Type 0} → (Path → Option X) → Path → NameString → Option (List ℕ) → Option X
+abbrev pub resolve_by : {X : Type 0} → (Path → Option X) → Path → NameString →
+    Option (List ℕ) → Option X
 resolve_by find scope name None = option_and_then find (spelled scope name)
 resolve_by find scope name (Some segment) = upward_search find scope segment
 

@@ -14,9 +14,11 @@ paths_seen paths = paths_of paths.steps.items
 abbrev pub path_seen : List NameSeg → Path
 path_seen segments = map (λ (segment : NameSeg). segment.bytes) segments
 
--- where a path stands: above the root or below what is missing, under a number, or a segment below the path with a number
+-- where a path stands: above the root or below what is missing, under a number, or a segment below
+-- the path with a number
 abbrev pub LeadsTo : List Path → Lead → Option Path → Type 0
 LeadsTo paths Nowhere None = Unit {0}
 LeadsTo paths Nowhere (Some path) = path_number paths (take (length path - 1) path) ≡ None
 LeadsTo paths (At n) path = (n < length paths) × (path ≡ Some (path_at paths n))
-LeadsTo paths (Below n segment) path = (n < length paths) × (path ≡ Some (path_at paths n ++ segment.bytes ∷ []))
+LeadsTo paths (Below n segment) path =
+    (n < length paths) × (path ≡ Some (path_at paths n ++ segment.bytes ∷ []))

@@ -12,7 +12,8 @@ use Rattle.aml_paths.specs.Paths.{Path, root, path_at, AreDistinct}
 
 -- by the chain, and then by the segment and the depth
 abbrev pub place_order : Place → Place → Ordering
-place_order a b = ordering_then (nat_cmp a.top b.top) (ordering_then (segment_order a.segment b.segment) (nat_cmp a.depth b.depth))
+place_order a b = ordering_then (nat_cmp a.top b.top)
+    (ordering_then (segment_order a.segment b.segment) (nat_cmp a.depth b.depth))
 
 -- the path to which a step leads
 abbrev pub path_of : List Path → Step → Path
@@ -28,14 +29,18 @@ paths_of steps = paths_from (root ∷ []) steps
 
 -- each step leads from a path before it to the path with the step's number
 abbrev pub LeadTo : List Step → List Path → Type 0
-LeadTo steps paths = (i : ℕ) (step : Step) → slice_get steps i ≡ Some step → (step.parent ≤ i) × (slice_get paths (suc i) ≡ Some (path_of paths step))
+LeadTo steps paths = (i : ℕ) (step : Step) → slice_get steps i ≡ Some step →
+    (step.parent ≤ i) × (slice_get paths (suc i) ≡ Some (path_of paths step))
 
 -- the map has the number of each path that is one segment below another, and no other number
 abbrev pub HasPlaceNumbers : BTreeMap Place ℕ → List Step → List Path → Type 0
-HasPlaceNumbers numbers steps paths = (segment : NameSeg) (top depth : ℕ) → get place_order numbers (record { segment = segment; top = top; depth = depth }) ≡ number_below_chain paths (spots_of steps) top segment.bytes depth
+HasPlaceNumbers numbers steps paths = (segment : NameSeg) (top depth : ℕ) →
+    get place_order numbers (record { segment = segment; top = top; depth = depth }) ≡
+    number_below_chain paths (spots_of steps) top segment.bytes depth
 
 -- what the map of numbers and the steps hold of the paths that they make
-pub record IsTrie (numbers : BTreeMap Place ℕ) (steps : List Step) (paths : List Path) : Type 0 where
+pub record IsTrie (numbers : BTreeMap Place ℕ) (steps : List Step)
+    (paths : List Path) : Type 0 where
   pub leads : LeadTo steps paths
   pub distinct : AreDistinct paths
   pub chained : AreChained (spots_of steps) paths

@@ -27,8 +27,8 @@ pub(crate) fn holds(numbers: &[usize], place: usize, number: usize) -> bool
     }
 }
 
-/// Notes of the next path, which will have this number, that it is the last on the chain with this top.
-/// Of no path before it is more said than was, also where this wants memory.
+/// Notes of the next path, which will have this number, that it is the last on the chain with this
+/// top. Of no path before it is more said than was, also where this wants memory.
 pub(crate) fn note_last(lasts: &mut Vec<usize>, top: usize, number: usize) -> Result<(), AllocError>
     ensures kept { (t : ℕ) (i : ℕ) → slice_get lasts.new.items t ≡ Some i → i < number
         → slice_get lasts.old.items t ≡ Some i }
@@ -59,8 +59,8 @@ impl Paths {
         Ok(counts)
     }
 
-    /// Of each path, the number of the path one segment below it that begins the most paths; the root's
-    /// where none is.
+    /// Of each path, the number of the path one segment below it that begins the most paths; the
+    /// root's where none is.
     pub(crate) fn heaviest_below(&self, alloc: Global) -> Result<Vec<usize>, AllocError> {
         let counts = self.counts_begun(alloc)?;
         let mut most = vec![in alloc; 0usize; self.len()]?;

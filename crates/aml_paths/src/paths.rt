@@ -18,8 +18,9 @@ pub const ROOT: usize = 0;
 /// How many changes of chain a path may have above it, however few paths there are.
 const CHANGES: usize = 64;
 
-/// For so many paths a path may have one change more above it. The more paths there are, the more must
-/// then be made until chains are laid anew, so that whoever chooses them gains little by having them so.
+/// For so many paths a path may have one change more above it. The more paths there are, the more
+/// must then be made until chains are laid anew, so that whoever chooses them gains little by
+/// having them so.
 const PATHS_A_CHANGE: usize = 256;
 
 /// So many changes no path has above it on chains that are laid anew, in a namespace of any size.
@@ -34,9 +35,9 @@ pub struct Step {
     pub spot: Spot,
 }
 
-/// A segment below a path. In the order of places, those of one segment below the paths of one chain
-/// stand together by depth, so that one look-up searches a chain. The chain comes first, since two
-/// numbers are compared sooner than two segments.
+/// A segment below a path. In the order of places, those of one segment below the paths of one
+/// chain stand together by depth, so that one look-up searches a chain. The chain comes first,
+/// since two numbers are compared sooner than two segments.
 #[derive(Clone, Copy, Debug, PartialEq, Eq, PartialOrd, Ord)]
 pub(crate) struct Place {
     /// The number of the first path on the chain.
@@ -119,7 +120,8 @@ impl Paths {
     pub(crate) fn below(&self, at: usize, name: &NameRef<'_>, count: usize) -> Option<usize>
         requires there { at < length (paths_seen self.now) }
         requires within { count ≤ length (name_of name.now).segs }
-        ensures { result ≡ number_below (paths_seen self.now) at (take count (name_of name.now).segs) }
+        ensures { result ≡
+            number_below (paths_seen self.now) at (take count (name_of name.now).segs) }
     {
         let mut number = at;
         for i in 0..count {
@@ -157,8 +159,8 @@ impl Paths {
         Some(number)
     }
 
-    /// The number of the path of this segment below the longest path of a chain, of those that are no
-    /// longer than the one at this spot, below which it stands.
+    /// The number of the path of this segment below the longest path of a chain, of those that are
+    /// no longer than the one at this spot, below which it stands.
     fn last_below_chain(&self, spot: Spot, segment: NameSeg) -> Option<usize>
         ensures { let spots = spots_of self.now.steps.items in
             let find = number_below_chain (paths_seen self.now) spots spot.top segment.bytes in
@@ -176,8 +178,8 @@ impl Paths {
         Some(*number)
     }
 
-    /// The number of the path of this segment below the longest prefix of the path with this number,
-    /// the path itself among them, below which it stands.
+    /// The number of the path of this segment below the longest prefix of the path with this
+    /// number, the path itself among them, below which it stands.
     pub fn nearest(&self, at: usize, segment: NameSeg) -> Option<usize>
         requires { at < length (paths_seen self.now) }
         ensures { let paths = paths_seen self.now in
@@ -213,8 +215,9 @@ impl Paths {
         Ok(segments)
     }
 
-    /// Where a path may stand that is made one segment below the path with this number, at this spot:
-    /// on that path's chain, if this is wanted and the chain ends there, and else on a chain of its own.
+    /// Where a path may stand that is made one segment below the path with this number, at this
+    /// spot: on that path's chain, if this is wanted and the chain ends there, and else on a chain
+    /// of its own.
     fn spot_below(&self, at: usize, above: Spot, wants_to_go_on: bool) -> Spot
         requires { slice_get (spots_of self.now.steps.items) at ≡ Some above }
         ensures { CanFollow (spots_of self.now.steps.items) above result }
@@ -235,8 +238,8 @@ impl Paths {
         }
     }
 
-    /// Adds the path that is one segment below the path with this number, on that path's chain if this
-    /// is wanted and the chain ends there, and answers its number.
+    /// Adds the path that is one segment below the path with this number, on that path's chain if
+    /// this is wanted and the chain ends there, and answers its number.
     fn add_below(
         &mut self,
         at: usize,
@@ -274,9 +277,9 @@ impl Paths {
         }
     }
 
-    /// The same paths under the same numbers, on chains that go on below each path to the one that begins
-    /// the most. Each change of chain then leads to half as many paths at most, so that no path has more
-    /// changes above it than the number of paths has binary digits.
+    /// The same paths under the same numbers, on chains that go on below each path to the one that
+    /// begins the most. Each change of chain then leads to half as many paths at most, so that no
+    /// path has more changes above it than the number of paths has binary digits.
     pub fn copy(&self, alloc: Global) -> Result<Paths, AllocError>
         ensures { IfOk result (λ paths. paths_seen paths ≡ paths_seen self.now) }
     {
@@ -298,9 +301,10 @@ impl Paths {
         Ok(())
     }
 
-    /// Lays the chains anew where the path with this number has too many changes of chain above it. A
-    /// search takes a look-up for each, and whoever chooses the paths could have one at each level: the
-    /// first of several below a path goes on its chain, and may be the one that begins the fewest.
+    /// Lays the chains anew where the path with this number has too many changes of chain above it.
+    /// A search takes a look-up for each, and whoever chooses the paths could have one at each
+    /// level: the first of several below a path goes on its chain, and may be the one that begins
+    /// the fewest.
     fn keep_changes_few(&mut self, at: usize) -> Result<(), AllocError>
         requires { at < length (paths_seen self.old) }
         ensures { paths_seen self.new ≡ paths_seen self.old }

@@ -41,7 +41,8 @@ impl Paths {
     pub fn spelled(&self, scope: usize, name: &NameRef<'_>) -> Option<usize>
         requires { scope < length (paths_seen self.now) }
         ensures { let paths = paths_seen self.now in
-            result ≡ option_and_then (path_number paths) (spelled (path_at paths scope) (name_of name.now)) }
+            result ≡ option_and_then (path_number paths)
+            (spelled (path_at paths scope) (name_of name.now)) }
     {
         self.below(self.base(scope, name)?, name, name.segs())
     }

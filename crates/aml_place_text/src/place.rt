@@ -1,4 +1,5 @@
-// What stands at a place of a body, in words: an operator by its word of ASL, or a name as it is spelled.
+// What stands at a place of a body, in words: an operator by its word of ASL, or a name as it is
+// spelled.
 
 ghost use Rattle.std.specs.Prelude.{◌≡◌, ◌++◌, OnOk, replicate};
 ghost use Rattle.aml_lex.specs.Names.{name_of};
@@ -10,8 +11,8 @@ use aml_lex::{NameRef, name_there};
 use aml_tree::op_at;
 use std::alloc::AllocError;
 
-/// Adds what stands at a place, in brackets behind a space; nothing where neither an operator nor a name
-/// begins there.
+/// Adds what stands at a place, in brackets behind a space; nothing where neither an operator nor a
+/// name begins there.
 pub fn push_standing(text: &mut Vec<u8>, bytes: &[u8], at: usize) -> Result<(), AllocError>
     ensures { OnOk result (text.new.items ≡ text.old.items ++ standing_text bytes.now at) }
 {
@@ -36,7 +37,8 @@ fn push_bracketed(text: &mut Vec<u8>, words: &[u8]) -> Result<(), AllocError>
 
 // Adds a name so.
 fn push_bracketed_name(text: &mut Vec<u8>, name: &NameRef<'_>) -> Result<(), AllocError>
-    ensures { OnOk result (text.new.items ≡ text.old.items ++ bracketed (name_text (name_of name.now))) }
+    ensures { OnOk result
+        (text.new.items ≡ text.old.items ++ bracketed (name_text (name_of name.now))) }
 {
     text.extend_from_slice(b" (")?;
     push_name(text, name)?;
@@ -75,7 +77,8 @@ fn push_parents(text: &mut Vec<u8>, count: usize) -> Result<(), AllocError>
 
 // Adds the segments.
 fn push_segments(text: &mut Vec<u8>, name: &NameRef<'_>) -> Result<(), AllocError>
-    ensures { OnOk result (text.new.items ≡ text.old.items ++ segments_text (name_of name.now).segs) }
+    ensures { OnOk result
+        (text.new.items ≡ text.old.items ++ segments_text (name_of name.now).segs) }
 {
     for i in 0..name.segs() {
         if i > 0 {

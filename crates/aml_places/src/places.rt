@@ -32,8 +32,8 @@ pub fn leads(byte: u8) -> bool
     matches!(byte, b'A'..=b'Z' | b'_')
 }
 
-/// The place behind the name at a place. One that begins with a segment has no other, so that nothing
-/// behind its first byte is looked at.
+/// The place behind the name at a place. One that begins with a segment has no other, so that
+/// nothing behind its first byte is looked at.
 pub fn name_end(bytes: &[u8], at: usize) -> usize
     requires { IsOk (name_string_at bytes.now at) }
     ensures is { IfOk (name_string_at bytes.now at) (λ r. r.1 ≡ result) }
@@ -85,8 +85,8 @@ pub fn past_else(bytes: &[u8], at: usize) -> usize
     }
 }
 
-/// The operator of the term in the place of a target, and the place behind its opcode: NullName where
-/// there is no target, and NameString where a name stands, whose place is the one behind it.
+/// The operator of the term in the place of a target, and the place behind its opcode: NullName
+/// where there is no target, and NameString where a name stands, whose place is the one behind it.
 pub fn target_at(bytes: &[u8], at: usize) -> (Op, usize)
     requires { LiesSome spot.Target bytes.now at }
     ensures is { (count : _) (t : _) → LiesTarget count bytes.now at t →

@@ -51,8 +51,8 @@ fn are_in_last(names: &Names, states: &[State], last: usize) -> bool {
     }
 }
 
-/// Whether an outcome is the wanted one and names are in the last state then; or memory is wanted, and
-/// they are in one of the states.
+/// Whether an outcome is the wanted one and names are in the last state then; or memory is wanted,
+/// and they are in one of the states.
 fn is_right(found: &Result<Outcome, LoadFault>, names: &Names, row: Row) -> bool {
     let (_, _, _, wanted, states, last) = row;
     match found {

@@ -1,4 +1,5 @@
-// Methods from the terms and from the bytes of their tables. What bodies give is told by the rows of crates/acpicheck/rows.
+// Methods from the terms and from the bytes of their tables. What bodies give is told by the rows
+// of crates/acpicheck/rows.
 
 ghost use Rattle.std.specs.Prelude.{IsSome};
 ghost use Rattle.aml_namespace.specs.Names.{method_at};
@@ -194,8 +195,8 @@ fn arguments_that_are_not_given(rt: HostRuntime) -> Result<(), Fail> {
     Ok(())
 }
 
-/// Also for a run in which an allocation fails: the evaluation is then refused for want of memory, and
-/// the next one has its outcome.
+/// Also for a run in which an allocation fails: the evaluation is then refused for want of memory,
+/// and the next one has its outcome.
 #[test]
 fn want_of_memory(rt: HostRuntime) -> Result<(), Fail> {
     let outcome = match outcome_of(&rt, rt.alloc(), &DSDT, &[41], 1000) {

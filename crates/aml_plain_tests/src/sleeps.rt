@@ -1,5 +1,5 @@
-// What names hold behind a Sleep at which others put other contents in place (ACPI 6.5, 19.6, Sleep). Rows
-// were worked out by hand.
+// What names hold behind a Sleep at which others put other contents in place (ACPI 6.5, 19.6,
+// Sleep). Rows were worked out by hand.
 
 ghost use Rattle.std.specs.Prelude.{◌≡◌, IfOk};
 ghost use Rattle.aml_contents.specs.Held.{content_kinds};
@@ -141,9 +141,9 @@ fn sleeps(events: &[Event]) -> usize {
     found
 }
 
-/// Behind the method MAIN, which is object 9: Name (INT0, 5), Name (BUF0, Buffer (2) {1, 2}), Name (STR0,
-/// "ab"), Name (PKG0, Package (1) {One}), CreateByteField (BUF0, 0, FLD0), Method (SLP0) {Sleep (One) Return
-/// (INT0)}, Method (SLP1) {Sleep (One) Return (BUF0)}.
+/// Behind the method MAIN, which is object 9: Name (INT0, 5), Name (BUF0, Buffer (2) {1, 2}), Name
+/// (STR0, "ab"), Name (PKG0, Package (1) {One}), CreateByteField (BUF0, 0, FLD0), Method (SLP0)
+/// {Sleep (One) Return (INT0)}, Method (SLP1) {Sleep (One) Return (BUF0)}.
 const DEFINITIONS: &[u8] = b"\x08INT0\x0a\x05\x08BUF0\x11\x05\x0a\x02\x01\x02\x08STR0\x0dab\x00\
     \x08PKG0\x12\x03\x01\x01\x8cBUF0\x00FLD0\x14\x0eSLP0\x00\x5b\x22\x01\xa4INT0\
     \x14\x0eSLP1\x00\x5b\x22\x01\xa4BUF0";
@@ -158,13 +158,15 @@ const ALL: Left = &[
 
 const ONE: Left = &[(10, Content::Int(7))];
 
-/// MAIN's body, what names hold behind a Sleep, the steps, how MAIN ends, and how many Sleeps it makes.
+/// MAIN's body, what names hold behind a Sleep, the steps, how MAIN ends, and how many Sleeps it
+/// makes.
 type Row = (&'static [u8], Left, u64, Wanted, usize);
 
 const ROWS: &[Row] = &[
     // Return (INT0) Sleep (One)
     (b"\xa4INT0\x5b\x22\x01", ALL, 2, Wanted::Int(5), 0),
-    // Sleep (One) Return (INT0), (STR0), (DerefOf (Index (BUF0, One))), (DerefOf (Index (PKG0, Zero))), (FLD0)
+    // Sleep (One) Return (INT0), (STR0), (DerefOf (Index (BUF0, One))), (DerefOf (Index (PKG0,
+    // Zero))), (FLD0)
     (b"\x5b\x22\x01\xa4INT0", ALL, 5, Wanted::Int(7), 1),
     (b"\x5b\x22\x01\xa4STR0", ALL, 5, Wanted::Str(b"cd"), 1),
     (
@@ -242,8 +244,8 @@ fn table_with(alloc: Global, body: &[u8]) -> Result<Vec<u8>, AllocError> {
     table_of(alloc, *b"DSDT", 2, &module)
 }
 
-/// Whether an evaluation ends as it is wanted to; or memory is wanted, and BUF0 holds what it held before the
-/// Sleep, where there was none.
+/// Whether an evaluation ends as it is wanted to; or memory is wanted, and BUF0 holds what it held
+/// before the Sleep, where there was none.
 fn is_right(
     ended: &Result<Outcome, LoadFault>,
     names: &Names,

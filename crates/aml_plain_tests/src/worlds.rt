@@ -1,5 +1,5 @@
-// Evaluations over a world that refuses behind so many calls, and over one of ones. Accesses were worked
-// out by hand (ACPI 6.5, 5.5.2.4 and 19.6, Field, IndexField).
+// Evaluations over a world that refuses behind so many calls, and over one of ones. Accesses were
+// worked out by hand (ACPI 6.5, 5.5.2.4 and 19.6, Field, IndexField).
 
 use crate::outcomes::{Wanted, ends, first_names, outcome_in};
 use acpi_samples::{HOST, table_of};
@@ -48,18 +48,19 @@ fn are_ports(events: &[Event], ports: &[Port]) -> bool {
     true
 }
 
-/// OperationRegion (GPIO, SystemIO, 0x60, 4), Field (GPIO, ByteAcc, NoLock, Preserve) {, 4, FLD0, 8}, Method
-/// (MAIN) {Store (0xab, FLD0)}, which is object 11.
+/// OperationRegion (GPIO, SystemIO, 0x60, 4), Field (GPIO, ByteAcc, NoLock, Preserve) {, 4, FLD0,
+/// 8}, Method (MAIN) {Store (0xab, FLD0)}, which is object 11.
 const PRESERVED: &[u8] = b"\x5b\x80GPIO\x01\x0a\x60\x0a\x04\x5b\x81\x0dGPIO\x01\x00\x04FLD0\x08\
     \x14\x0dMAIN\x00\x70\x0a\xabFLD0";
 
-/// OperationRegion (RTCR, SystemIO, 0x70, 2), Field (RTCR, ByteAcc, NoLock, Preserve) {IDX0, 8, DAT0, 8},
-/// IndexField (IDX0, DAT0, ByteAcc, NoLock, Preserve) {, 20, RTC0, 4}, Method (MAIN) {Store (3, RTC0)}, which
-/// is object 13.
+/// OperationRegion (RTCR, SystemIO, 0x70, 2), Field (RTCR, ByteAcc, NoLock, Preserve) {IDX0, 8,
+/// DAT0, 8}, IndexField (IDX0, DAT0, ByteAcc, NoLock, Preserve) {, 20, RTC0, 4}, Method (MAIN)
+/// {Store (3, RTC0)}, which is object 13.
 const INDEXED: &[u8] = b"\x5b\x80RTCR\x01\x0a\x70\x0a\x02\x5b\x81\x10RTCR\x01IDX0\x08DAT0\x08\
     \x5b\x86\x11IDX0DAT0\x01\x00\x14RTC0\x04\x14\x0dMAIN\x00\x70\x0a\x03RTC0";
 
-/// A module, the number of its method, registers, and the accesses of its evaluation, which takes 7 steps.
+/// A module, the number of its method, registers, and the accesses of its evaluation, which takes 7
+/// steps.
 type Row = (&'static [u8], usize, &'static [u8], &'static [Port]);
 
 const ROWS: &[Row] = &[
@@ -111,8 +112,8 @@ fn registers(alloc: Global, text: &[u8]) -> Result<RegisterFile, LoadFault> {
     }
 }
 
-/// Whether an evaluation in a world that answers so many calls makes just these accesses: wants memory behind
-/// them, and one refusal is counted, or makes all.
+/// Whether an evaluation in a world that answers so many calls makes just these accesses: wants
+/// memory behind them, and one refusal is counted, or makes all.
 fn is_right(
     ended: &Result<Outcome, LoadFault>,
     events: &[Event],

@@ -1,5 +1,5 @@
-// What is there at once, and what is not (ACPI 6.5, 19.6 and 20.2). A term takes a step, and so does each in it;
-// where there is no target, that takes none.
+// What is there at once, and what is not (ACPI 6.5, 19.6 and 20.2). A term takes a step, and so
+// does each in it; where there is no target, that takes none.
 
 use crate::scenes::{Asked, answer};
 use aml_namespace::LoadFault;
@@ -7,8 +7,8 @@ use aml_quick::Made;
 use std::process::Abort;
 use std::test::Fail;
 
-/// Bytes, what is asked of them, the steps that are given, and the integer, the place behind it and the steps
-/// that are left, if there is an answer.
+/// Bytes, what is asked of them, the steps that are given, and the integer, the place behind it and
+/// the steps that are left, if there is an answer.
 type Row = (&'static [u8], Asked, u64, Option<(u64, usize, u64)>);
 
 const ROWS: &[Row] = &[
@@ -90,7 +90,8 @@ const ROWS: &[Row] = &[
         99,
         None,
     ),
-    // Store (Arg0, Local0), Increment (Arg0), Decrement (Arg0), Add (Arg0, One, Local7), Not (Arg0, Local1)
+    // Store (Arg0, Local0), Increment (Arg0), Decrement (Arg0), Add (Arg0, One, Local7), Not (Arg0,
+    // Local1)
     (b"\x70\x68\x60", Asked::Statement, 9, Some((41, 2, 7))),
     (b"\x75\x68", Asked::Statement, 9, Some((42, 1, 7))),
     (b"\x76\x68", Asked::Statement, 9, Some((40, 1, 7))),
@@ -99,6 +100,21 @@ const ROWS: &[Row] = &[
     // Store (Arg1, Local0), whose source is no integer, and Noop
     (b"\x70\x69\x60", Asked::Statement, 9, None),
     (b"\xA3", Asked::Statement, 9, None),
+    // ONE1 (Arg0), whose call takes six steps, with six and with five, and with another argument;
+    // and in the last method that may be active
+    (b"ONE1\x68", Asked::Term, 6, Some((42, 5, 0))),
+    (b"ONE1\x68", Asked::Term, 5, None),
+    (b"ONE1\x69", Asked::Term, 9, None),
+    (b"ONE1\x68", Asked::Deepest, 9, None),
+    // TWO2 (Arg0, One), NEST (Arg0), HELD ()
+    (b"TWO2\x68\x01", Asked::Term, 9, Some((40, 6, 2))),
+    (b"NEST\x68", Asked::Term, 20, Some((43, 5, 6))),
+    (b"HELD", Asked::Term, 9, Some((7, 4, 6))),
+    // Store (ONE1 (Arg0), Local0), and calls of a method that begins with a Noop, and of one that
+    // reads a local of its own
+    (b"\x70ONE1\x68\x60", Asked::Statement, 9, Some((42, 6, 2))),
+    (b"LATE", Asked::Term, 9, None),
+    (b"FREE", Asked::Term, 9, None),
     // 7 into Local0 and into Local7, which are read then; without a step, and into Arg0
     (b"\x60\x60", Asked::Put, 9, Some((7, 2, 7))),
     (b"\x67\x72\x67\x01\x00", Asked::Put, 9, Some((8, 5, 5))),

@@ -11,10 +11,13 @@ use Rattle.aml_regions.specs.declared.field.UnitWidth.TheVariants.{Byte}
 abbrev pub in_bytes : ℕ → ℕ → FieldLayout
 in_bytes at bits = record { at = at; bits = bits; width = Byte; others = Preserve }
 
--- the buffer with these bits in the field: each byte has the field's bits there and keeps the others
+-- the buffer with these bits in the field: each byte has the field's bits there and keeps the
+-- others
 unfoldable pub stored : ℕ → ℕ → (ℕ → ℕ) → List ℕ → List ℕ
-stored at bits bit buffer = map (λ j. mixed (in_bytes at bits) bit j (slice_index buffer j)) (range_with_len 0 (length buffer))
+stored at bits bit buffer = map (λ j. mixed (in_bytes at bits) bit j (slice_index buffer j))
+    (range_with_len 0 (length buffer))
 
 -- n bits as bytes, zeros behind them in the last one
 unfoldable pub bytes_of : ℕ → ℕ → (ℕ → ℕ) → List ℕ
-bytes_of size n bit = map (λ m. number 8 (λ i. if nat_lt (m * 8 + i) n then bit (m * 8 + i) else 0)) (range_with_len 0 size)
+bytes_of size n bit = map (λ m. number 8 (λ i. if nat_lt (m * 8 + i) n then bit (m * 8 + i) else 0))
+    (range_with_len 0 size)

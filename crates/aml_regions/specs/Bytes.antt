@@ -33,7 +33,8 @@ with_run old space at count run s a =
 
 -- the bytes, with a unit's, of which the lowest stands first
 abbrev pub with_unit : (ℕ → ℕ → ℕ) → Access → ℕ → ℕ → ℕ → ℕ
-with_unit old access value = with_run old access.space access.address (access.width / 8) (λ i. byte_at i value)
+with_unit old access value =
+    with_run old access.space access.address (access.width / 8) (λ i. byte_at i value)
 
 -- the number of so many bytes from an address on, the lowest first
 unfoldable pub number_from : ℕ → (ℕ → ℕ) → ℕ → ℕ

@@ -35,7 +35,8 @@ unit_place f u = u * (bits_of f.width / 8)
 
 -- bit i of a field is bit (at + i) mod a of what unit (at + i) div a answers, a being the width
 unfoldable pub field_bit : FieldLayout → List ℕ → ℕ → ℕ
-field_bit f answers i = bit_at (slice_index answers ((f.at + i) / bits_of f.width - first f)) ((f.at + i) % bits_of f.width)
+field_bit f answers i = bit_at (slice_index answers ((f.at + i) / bits_of f.width - first f))
+    ((f.at + i) % bits_of f.width)
 
 -- a field's bits as a number
 abbrev pub integer_of : FieldLayout → List ℕ → ℕ
@@ -48,11 +49,13 @@ has f p = if nat_le f.at p then nat_lt p (f.at + f.bits) else false
 -- what unit u is given: the field's bits there, and in the others those of another number
 unfoldable pub mixed : FieldLayout → (ℕ → ℕ) → ℕ → ℕ → ℕ
 mixed f bit u other =
-    number (bits_of f.width) (λ j. if has f (u * bits_of f.width + j) then bit (u * bits_of f.width + j - f.at) else bit_at other j)
+    number (bits_of f.width) (λ j. if has f (u * bits_of f.width + j)
+    then bit (u * bits_of f.width + j - f.at) else bit_at other j)
 
 -- whether a unit is wholly the field's
 abbrev pub covers : FieldLayout → ℕ → Bool
-covers f u = if nat_le f.at (u * bits_of f.width) then nat_le (u * bits_of f.width + bits_of f.width) (f.at + f.bits) else false
+covers f u = if nat_le f.at (u * bits_of f.width)
+    then nat_le (u * bits_of f.width + bits_of f.width) (f.at + f.bits) else false
 
 -- a field has a bit, at most 2,048 of them, and its last one lies below 2 ^ 64
 pub record IsLaidOut (f : FieldLayout) : Type 0 where
@@ -62,9 +65,11 @@ pub record IsLaidOut (f : FieldLayout) : Type 0 where
 
 -- a region's unit, by its number
 unfoldable pub access : RegionField → ℕ → Access
-access r u = record { space = r.space; address = r.place + unit_place r.layout u; width = bits_of r.layout.width }
+access r u = record
+    { space = r.space; address = r.place + unit_place r.layout u; width = bits_of r.layout.width }
 
--- the spaces whose regions can be accessed: memory, I/O, PCI configuration, the embedded controller and CMOS
+-- the spaces whose regions can be accessed: memory, I/O, PCI configuration, the embedded controller
+-- and CMOS
 abbrev pub is_known_space : ℕ → Bool
 is_known_space space = nat_le space 3 || (space == 5)
 
@@ -80,7 +85,8 @@ pub record IsSoundBanked (b : BankedField) : Type 0 where
   pub field : IsSound b.field
   pub bank : IsSound b.bank
 
--- a field behind an index field and a data field: both are sound, and the data field is just as wide as a unit
+-- a field behind an index field and a data field: both are sound, and the data field is just as
+-- wide as a unit
 pub record IsSoundIndexed (x : IndexedField) : Type 0 where
   pub layout : IsLaidOut x.layout
   pub index_field : IsSound x.index_field

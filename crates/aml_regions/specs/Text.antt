@@ -46,7 +46,8 @@ pub record Setting : Type 0 where
   pub address : ℕ
   pub run : List ℕ
 
--- the words of a line set bytes: a space, an address in hex, and at least one byte in hex, none past the last address
+-- the words of a line set bytes: a space, an address in hex, and at least one byte in hex, none
+-- past the last address
 abbrev pub AreSetting : List (List ℕ) → Setting → Type 0
 AreSetting (name ∷ place ∷ bytes ∷ []) s =
     (space_of name ≡ Some s.space) × IsNumeral 16 place × (s.address ≡ digits_value 16 place)
@@ -63,7 +64,8 @@ abbrev pub LinesSet : List (List ℕ) → List Setting → Type 0
 LinesSet [] settings = settings ≡ []
 LinesSet (line ∷ more) settings =
     ((counts_nothing line ≡ true) × LinesSet more settings)
-    ⊎ ((s : Setting) × (rest : List Setting) × (settings ≡ s ∷ rest) × AreSetting (words_of line) s × LinesSet more rest)
+    ⊎ ((s : Setting) × (rest : List Setting) × (settings ≡ s ∷ rest) × AreSetting (words_of line) s
+    × LinesSet more rest)
 
 -- bytes, with those of a setting
 abbrev pub with_setting : (ℕ → ℕ → ℕ) → Setting → ℕ → ℕ → ℕ
@@ -77,7 +79,8 @@ with_settings old (s ∷ rest) = with_settings (with_setting old s) rest
 -- the bytes that a text sets, others being 0
 abbrev pub TextSets : List ℕ → (ℕ → ℕ → ℕ) → Type 0
 TextSets text bytes =
-    (settings : List Setting) × LinesSet (lines_of text) settings × SameBytes (with_settings (λ _ _. 0) settings) bytes
+    (settings : List Setting) × LinesSet (lines_of text) settings
+    × SameBytes (with_settings (λ _ _. 0) settings) bytes
 
 -- a line that counts and sets nothing
 abbrev pub IsBad : List ℕ → Type 0

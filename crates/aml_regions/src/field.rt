@@ -12,8 +12,8 @@ pub enum UnitWidth {
     QWord,
 }
 
-/// What a write gives the bits of a unit that are not the field's (ACPI 6.5, 19.6, Field: the update
-/// rule).
+/// What a write gives the bits of a unit that are not the field's (ACPI 6.5, 19.6, Field: the
+/// update rule).
 #[derive(Clone, Copy, Debug, PartialEq, Eq)]
 pub enum OtherBits {
     /// What a read just before answers.
@@ -45,8 +45,8 @@ pub struct RegionField {
     pub layout: FieldLayout,
 }
 
-/// A field behind a bank field (ACPI 6.5, 19.6, BankField): before each access of a unit the bank field
-/// is given a value.
+/// A field behind a bank field (ACPI 6.5, 19.6, BankField): before each access of a unit the bank
+/// field is given a value.
 #[derive(Clone, Copy, Debug, PartialEq, Eq)]
 pub struct BankedField {
     pub field: RegionField,
@@ -55,9 +55,9 @@ pub struct BankedField {
     pub value: u64,
 }
 
-/// A field behind an index field and a data field (ACPI 6.5, 19.6, IndexField): before each access of a
-/// unit the index field is given the number of the byte at which the unit begins, and then the data
-/// field is the unit.
+/// A field behind an index field and a data field (ACPI 6.5, 19.6, IndexField): before each access
+/// of a unit the index field is given the number of the byte at which the unit begins, and then the
+/// data field is the unit.
 #[derive(Clone, Copy, Debug, PartialEq, Eq)]
 pub struct IndexedField {
     pub layout: FieldLayout,

@@ -68,12 +68,12 @@ impl RegisterFile {
         self.refusals
     }
 
-    /// The register file that a text sets. A line `SPACE ADDRESS BYTES` sets bytes from an address of
-    /// a space on: a space is `mem`, `io`, `pci`, `ec` or `cmos`, the others are hex without prefix.
-    /// Empty lines and lines from `#` on count for nothing, and a later line wins.
+    /// The register file that a text sets. A line `SPACE ADDRESS BYTES` sets bytes from an address
+    /// of a space on: a space is `mem`, `io`, `pci`, `ec` or `cmos`, the others are hex without
+    /// prefix. Empty lines and lines from `#` on count for nothing, and a later line wins.
     ///
-    /// Faults: E511 at the first line that has another form, or bytes past the last address; want of
-    /// memory.
+    /// Faults: E511 at the first line that has another form, or bytes past the last address; want
+    /// of memory.
     pub fn read_text(alloc: Global, text: &[u8]) -> Result<RegisterFile, RegistersFault>
         ensures bytes { IfOk result (λ file. TextSets text.now (contents file)) }
         ensures log { IfOk result (λ file. file.events.items ≡ []) }
@@ -108,7 +108,8 @@ impl RegisterFile {
 
     // Sets what the words of a line set.
     fn set_line(&mut self, alloc: Global, line: &[u8], number: usize) -> Result<(), RegistersFault>
-        ensures set { OnOk result (WordsSet (words_of line.now) (contents self.old) (contents self.new)) }
+        ensures set { OnOk result
+            (WordsSet (words_of line.now) (contents self.old) (contents self.new)) }
         ensures log { self.new.events ≡ self.old.events }
         ensures refusals { self.new.refusals ≡ self.old.refusals }
         ensures fault { IfErr result (WordsFail (words_of line.now) number) }

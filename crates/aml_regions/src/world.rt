@@ -38,8 +38,8 @@ pub trait World {
             (log self.old) (log self.new) }
         ensures refusal { CountsRefusal result (refusals self.old) (refusals self.new) };
 
-    /// Tells of a Sleep. Others run meanwhile, and may put other contents into the data names, each of
-    /// its name's kind.
+    /// Tells of a Sleep. Others run meanwhile, and may put other contents into the data names, each
+    /// of its name's kind.
     fn sleep(&mut self, milliseconds: u64, names: &mut Names) -> Result<(), NoMemory>
         ensures event { MakesSleep result milliseconds (contents names.old) (contents names.new)
             (log self.old) (log self.new) }

@@ -28,7 +28,8 @@ AnswerByText text events = (bytes : ℕ → ℕ → ℕ) → TextSets text bytes
 
 -- the registers hold what the events left of the bytes that a text sets
 abbrev pub HoldByText : List ℕ → List Event → (ℕ → ℕ → ℕ) → Type 0
-HoldByText text events held = (bytes : ℕ → ℕ → ℕ) → TextSets text bytes → SameBytes (left_by bytes events) held
+HoldByText text events held =
+    (bytes : ℕ → ℕ → ℕ) → TextSets text bytes → SameBytes (left_by bytes events) held
 
 -- what stands in the log before the events: the text itself, as what a name holds
 abbrev pub start_of : List ℕ → Event

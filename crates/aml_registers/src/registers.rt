@@ -16,8 +16,8 @@ use aml_paths::{NoMemory, ObjectId};
 use aml_regions::{Access, Event, RegisterFile, RegistersFault, World};
 use std::alloc::Global;
 
-/// Registers as a text sets them. Each read is answered with what the text and the writes before it left
-/// there; the log says so of itself, since it begins with the text.
+/// Registers as a text sets them. Each read is answered with what the text and the writes before it
+/// left there; the log says so of itself, since it begins with the text.
 #[derive(Drop)]
 pub struct Registers {
     text: Vec<u8>,

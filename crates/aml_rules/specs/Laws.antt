@@ -8,4 +8,5 @@ use Rattle.aml_objects.specs.declared.width.Width.{Width}
 
 -- of the buffer that an integer becomes, the integer is given back
 abbrev pub IsGivenBack : Type 0
-IsGivenBack = (width : Width) (op p : Place) (n : ℕ) → n < 2 ^ bits_of width → (to_buffer (bits_of width) p (Int n) >>= to_integer (bits_of width) op p) ≡ Ok (Int n)
+IsGivenBack = (width : Width) (op p : Place) (n : ℕ) → n < 2 ^ bits_of width →
+    (to_buffer (bits_of width) p (Int n) >>= to_integer (bits_of width) op p) ≡ Ok (Int n)

@@ -36,7 +36,8 @@ Obeys see (Ok x) rule = rule ≡ Ok (see x)
 Obeys see (Err (fault.Error e)) rule = rule ≡ Err e
 Obeys see (Err fault.NoMemory) rule = Unit {0}
 
--- what becomes of a value that a rule makes another of where it stands: it stays where the rule has an error, and for want of memory
+-- what becomes of a value that a rule makes another of where it stands: it stays where the rule has
+-- an error, and for want of memory
 abbrev pub GrowsBy : {V : Type 0} → Result (Unit {0}) RuleFault → Result V AmlError → V → V → Type 0
 GrowsBy (Ok u) rule old new = rule ≡ Ok new
 GrowsBy (Err (fault.Error e)) rule old new = (rule ≡ Err e) × (new ≡ old)

@@ -105,8 +105,8 @@ pub fn transformed(
     Ok(transformed_bits(width, operation, number))
 }
 
-/// What is said of two values, Ones or Zero (ACPI 6.5, 19.6, LEqual and its kin): LEqual takes two of
-/// one kind, every other two integers. A2 at the first operand that is of no kind that it takes.
+/// What is said of two values, Ones or Zero (ACPI 6.5, 19.6, LEqual and its kin): LEqual takes two
+/// of one kind, every other two integers. A2 at the first operand that is of no kind that it takes.
 pub fn compared(
     width: Width,
     comparison: Comparison,

@@ -46,8 +46,8 @@ pub fn concatenated(
     }
 }
 
-/// The same, made of the first where it stands. It stays as it was where there is an error, and where
-/// memory is wanted.
+/// The same, made of the first where it stands. It stays as it was where there is an error, and
+/// where memory is wanted.
 pub fn append(
     alloc: Global,
     operator: Place,

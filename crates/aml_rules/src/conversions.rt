@@ -14,8 +14,8 @@ use aml_namespace::Width;
 use aml_values::{Bytes, Value};
 use std::alloc::{AllocError, Global};
 
-/// A value as a buffer: of an integer its bytes, 4 or 8, the lowest first; a buffer stays (ACPI 6.5,
-/// 19.6, ToBuffer). A2 at the operand that is neither.
+/// A value as a buffer: of an integer its bytes, 4 or 8, the lowest first; a buffer stays (ACPI
+/// 6.5, 19.6, ToBuffer). A2 at the operand that is neither.
 pub fn to_buffer(
     alloc: Global,
     width: Width,
@@ -46,8 +46,8 @@ fn integer_bytes(alloc: Global, width: Width, number: u64) -> Result<Vec<u8>, Al
 }
 
 /// A value as an integer: an integer stays, and of a buffer it is that of the first 4 or 8 bytes,
-/// the lowest first, with zeros behind a shorter one (ACPI 6.5, 19.6, ToInteger). A4 at the operator
-/// where the buffer is empty; A2 at the operand that is neither.
+/// the lowest first, with zeros behind a shorter one (ACPI 6.5, 19.6, ToInteger). A4 at the
+/// operator where the buffer is empty; A2 at the operand that is neither.
 pub fn to_integer(
     width: Width,
     operator: Place,

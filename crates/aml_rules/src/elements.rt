@@ -100,8 +100,8 @@ fn element_value(alloc: Global, operator: Place, each: &Element) -> Result<Value
     }
 }
 
-/// What a store into an Index of a buffer's name writes: the lowest eight bits of an integer, at the
-/// index (ACPI 6.5, 19.6, Index).
+/// What a store into an Index of a buffer's name writes: the lowest eight bits of an integer, at
+/// the index (ACPI 6.5, 19.6, Index).
 ///
 /// In this order: A2 at the name whose content is no buffer, A2 at an index that is no integer, A4
 /// at the operator past the end, A2 at the operator where what is stored is no integer.

@@ -1,9 +1,9 @@
-//! What operators make of values (ACPI 6.5, 19.6), each as its rule says. The rules stand in `specs/` of
-//! aml_meaning.
+//! What operators make of values (ACPI 6.5, 19.6), each as its rule says. The rules stand in
+//! `specs/` of aml_meaning.
 //!
-//! Rooms: `arithmetic` and `integers` have integers and comparisons, `equality` LEqual, `conversions`,
-//! `buffers` and `elements` what is made of buffers, strings and packages, `place` where an operand
-//! stands and why a rule gives no value, `law` the law.
+//! Rooms: `arithmetic` and `integers` have integers and comparisons, `equality` LEqual,
+//! `conversions`, `buffers` and `elements` what is made of buffers, strings and packages, `place`
+//! where an operand stands and why a rule gives no value, `law` the law.
 #![tactic(auto)]
 
 mod arithmetic;

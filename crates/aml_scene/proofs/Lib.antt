@@ -1,3 +1,4 @@
+pub mod Bodies
 pub mod Letters
 pub mod Outcomes
 pub mod Ruled

@@ -1,4 +1,5 @@
--- What shapes of data are found by: how many places they have, and what stands at the first of them.
+-- What shapes of data are found by: how many places they have, and what stands at the first of
+-- them.
 use Rattle.std.specs.Prelude.{◌≡◌, ◌<◌, ◌≤◌, ℕ, List, [], ◌∷◌, map, length, Option}
 use Rattle.std.specs.Option.{option_map}
 use Rattle.std.specs.declared.cmp.Ordering.{Ordering}
@@ -50,4 +51,5 @@ key_order = (key_ord.ghosts).cmp
 
 -- what all places of a key's shape are joined to, for every numbering
 abbrev pub JoinsPlaces : Option ElementKnown → ShapeKey → Type 0
-JoinsPlaces joined k = (shapes : ℕ → Shape) → AreApart shapes → option_map (element_kind_of shapes) joined ≡ joined_places (key_shape shapes k)
+JoinsPlaces joined k = (shapes : ℕ → Shape) → AreApart shapes →
+    option_map (element_kind_of shapes) joined ≡ joined_places (key_shape shapes k)

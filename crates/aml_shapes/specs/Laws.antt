@@ -7,8 +7,10 @@ use Rattle.aml_shapes.specs.Numbers.{IsKnown, Keeps, numbered}
 
 -- the kind that is known by the numbers of a table stays
 abbrev pub KindsStay : Type 0
-KindsStay = (old new : List Shape) (k : Known) → Keeps old new → IsKnown (length old) k → kind_of (numbered new) k ≡ kind_of (numbered old) k
+KindsStay = (old new : List Shape) (k : Known) → Keeps old new → IsKnown (length old) k →
+    kind_of (numbered new) k ≡ kind_of (numbered old) k
 
 -- what is kept twice is kept
 abbrev pub KeepOn : Type 0
-KeepOn = (first second third : List Shape) → Keeps first second → Keeps second third → Keeps first third
+KeepOn =
+    (first second third : List Shape) → Keeps first second → Keeps second third → Keeps first third

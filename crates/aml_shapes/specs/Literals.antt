@@ -16,9 +16,12 @@ use Rattle.aml_shapes.specs.Numbers.{IsKnown, numbered}
 
 -- the kind of a literal, by its operator and its parts
 abbrev pub literal_kind : Width → Op → Trees → Kind
-literal_kind width o parts = kind_told width (content_in o parts) (number_of o parts) (shape_behind width parts)
+literal_kind width o parts =
+    kind_told width (content_in o parts) (number_of o parts) (shape_behind width parts)
 
 -- what is known of a literal: the kind of what it holds, in whatever body it stands
-pub record IsLiteral (shapes : List Shape) (width : Width) (o : Op) (parts : Trees) (k : Known) : Type 0 where
+pub record IsLiteral (shapes : List Shape) (width : Width) (o : Op) (parts : Trees)
+    (k : Known) : Type 0 where
   pub known : IsKnown (length shapes) k
-  pub kind : (ns : Shown) (table method : ℕ) → ns.width ≡ width → kind_of (numbered shapes) k ≡ kind_by (body_data ns table method o parts)
+  pub kind : (ns : Shown) (table method : ℕ) → ns.width ≡ width →
+      kind_of (numbered shapes) k ≡ kind_by (body_data ns table method o parts)

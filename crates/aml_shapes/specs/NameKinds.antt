@@ -12,4 +12,5 @@ use Rattle.aml_shapes.specs.Numbers.{IsKnown, numbered}
 -- what is known of a data name: the kind that it has by what it holds first
 pub record IsName (ns : Shown) (shapes : List Shape) (d : DataName) (k : Known) : Type 0 where
   pub known : IsKnown (length shapes) k
-  pub kind : kind_of (numbered shapes) k ≡ name_kind (greatest_of ns.width) (value_from ns d.content d.source)
+  pub kind : kind_of (numbered shapes) k ≡ name_kind (greatest_of ns.width)
+      (value_from ns d.content d.source)

@@ -47,4 +47,5 @@ abbrev pub Tells : List Shape → Known → Kind → Type 0
 Tells shapes k kind = IsKnown (length shapes) k × (kind_of (numbered shapes) k ≡ kind)
 
 abbrev pub TellsHeld : List Shape → Option Known → Option Kind → Type 0
-TellsHeld shapes k kind = IsKnownHeld (length shapes) k × (option_map (kind_of (numbered shapes)) k ≡ kind)
+TellsHeld shapes k kind =
+    IsKnownHeld (length shapes) k × (option_map (kind_of (numbered shapes)) k ≡ kind)

@@ -30,7 +30,8 @@ pub record IsTable (ks : List Kept) (numbers : BTreeMap ShapeKey ℕ) : Type 0 w
   pub kept : (i : ℕ) (k : Kept) → slice_get ks i ≡ Some k → IsKept i k
   pub apart : AreApart (numbered (shapes_kept ks))
   pub found : (i : ℕ) (k : Kept) → slice_get ks i ≡ Some k → get key_order numbers k.key ≡ Some i
-  pub known : (key : ShapeKey) (i : ℕ) → get key_order numbers key ≡ Some i → (k : Kept) × (slice_get ks i ≡ Some k) × IsSameKey k.key key
+  pub known : (key : ShapeKey) (i : ℕ) → get key_order numbers key ≡ Some i →
+      (k : Kept) × (slice_get ks i ≡ Some k) × IsSameKey k.key key
 
 -- a shape with a key is kept behind the others
 pub record IsPut (old new : List Kept) (key : ShapeKey) : Type 0 where
@@ -42,4 +43,5 @@ pub record IsPut (old new : List Kept) (key : ShapeKey) : Type 0 where
 pub record Stands (shapes : List Shape) (n : ℕ) (k : Kept) : Type 0 where
   pub room : HasRoom k.key
   pub shape : numbered shapes n ≡ key_shape (numbered shapes) k.key
-  pub joined : option_map (element_kind_of (numbered shapes)) k.joined ≡ joined_places (numbered shapes n)
+  pub joined : option_map (element_kind_of (numbered shapes)) k.joined ≡
+      joined_places (numbered shapes n)

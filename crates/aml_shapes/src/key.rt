@@ -25,8 +25,8 @@ pub(crate) enum Part {
     Pkg(usize),
 }
 
-/// A shape, by how many places it has, and what stands at the first of them. Those behind are unset:
-/// they take no memory, since a package may count far more places than it has bytes.
+/// A shape, by how many places it has, and what stands at the first of them. Those behind are
+/// unset: they take no memory, since a package may count far more places than it has bytes.
 #[derive(PartialEq, Eq, PartialOrd, Ord, Drop)]
 pub(crate) struct ShapeKey {
     pub places: u64,

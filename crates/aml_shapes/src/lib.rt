@@ -1,6 +1,7 @@
-//! The shapes of packages, each kept once under a number of its own. Rooms: `table`, with `key` by which
-//! a shape is found, `kept`, and `joined`, the join of all its places; `numbering`, a table that grows or
-//! one that stays; `walk` over the terms of data; `literals` in bodies, data `names`; `law`.
+//! The shapes of packages, each kept once under a number of its own. Rooms: `table`, with `key` by
+//! which a shape is found, `kept`, and `joined`, the join of all its places; `numbering`, a table
+//! that grows or one that stays; `walk` over the terms of data; `literals` in bodies, data `names`;
+//! `law`.
 #![tactic(auto)]
 
 mod joined;

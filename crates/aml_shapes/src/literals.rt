@@ -15,8 +15,8 @@ use aml_paths::NoMemory;
 use std::alloc::Global;
 
 impl ShapeTable {
-    /// The kind of what a literal of data in a body holds, by the literal's operator and its parts. The
-    /// shapes of its packages are added where the table does not have them.
+    /// The kind of what a literal of data in a body holds, by the literal's operator and its parts.
+    /// The shapes of its packages are added where the table does not have them.
     pub fn intern(
         &mut self,
         alloc: Global,

@@ -148,8 +148,9 @@ fn object_kinds(
     Ok(kinds)
 }
 
-/// The kinds of what the data names of a namespace hold first, by the numbers of their objects: none
-/// where an object is no data name. The shapes of packages are added where a table does not have them.
+/// The kinds of what the data names of a namespace hold first, by the numbers of their objects:
+/// none where an object is no data name. The shapes of packages are added where a table does not
+/// have them.
 pub fn shared_kinds(
     alloc: Global,
     namespace: &Namespace<'_>,
@@ -167,8 +168,8 @@ pub fn shared_kinds(
 }
 
 impl ShapeTable {
-    /// The kind of what a data name of a namespace holds first. The shapes of its packages are added
-    /// where the table does not have them.
+    /// The kind of what a data name of a namespace holds first. The shapes of its packages are
+    /// added where the table does not have them.
     pub fn intern_name(
         &mut self,
         alloc: Global,

@@ -17,8 +17,8 @@ pub(crate) trait Numbering {
     /// That none is added.
     ghost stays: { Type 0 };
 
-    /// The number of a shape, whose inner shapes have numbers. Where it has none, memory is said to be
-    /// wanted.
+    /// The number of a shape, whose inner shapes have numbers. Where it has none, memory is said to
+    /// be wanted.
     fn number_of(&mut self, alloc: Global, key: ShapeKey) -> Result<usize, AllocError>
         requires room { HasRoom key }
         requires below { AreBelow (length (shapes self.old)) key.parts.items }

@@ -72,7 +72,8 @@ impl ShapeTable {
     pub(crate) fn add(&mut self, alloc: Global, key: ShapeKey) -> Result<usize, AllocError>
         requires room { HasRoom key }
         requires below { AreBelow (length self.old) key.parts.items }
-        ensures number { IfOk result (λ n. IsNumber self.new n (key_shape (numbered self.new) key)) }
+        ensures number { IfOk result
+            (λ n. IsNumber self.new n (key_shape (numbered self.new) key)) }
         ensures keeps { Keeps self.old self.new }
     {
         if let Some(number) = looked_up(&self.numbers, &key) {

@@ -1,4 +1,5 @@
-// The kinds of data by its terms: no value is made, and of packages only the numbers of their shapes.
+// The kinds of data by its terms: no value is made, and of packages only the numbers of their
+// shapes.
 
 ghost use Rattle.std.specs.Prelude.{◌≡◌, IfOk, map, take};
 ghost use Rattle.aml_operators.specs.Tree.{view, views};
@@ -68,7 +69,8 @@ fn parts_in<N: Numbering>(
     terms: &[Term],
 ) -> Result<Vec<Part>, AllocError>
     ensures parts { IfOk result (λ ps.
-        TellParts (N.shapes numbers.new) ps.items (map (λ t. tree_place width (view t)) terms.now)) }
+        TellParts (N.shapes numbers.new) ps.items
+        (map (λ t. tree_place width (view t)) terms.now)) }
     ensures keeps { Keeps (N.shapes numbers.old) (N.shapes numbers.new) }
     ensures stays { N.stays → N.shapes numbers.new ≡ N.shapes numbers.old }
 {

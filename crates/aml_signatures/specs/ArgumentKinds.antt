@@ -1,4 +1,5 @@
--- The kinds of a method's arguments (the kinds and what stands for a missing one are the project's own; `_DSM`: ACPI 6.5, 9.1.1).
+-- The kinds of a method's arguments (the kinds and what stands for a missing one are the project's
+-- own; `_DSM`: ACPI 6.5, 9.1.1).
 use Rattle.std.specs.Prelude.{◌==◌, ◌-◌, ◌^◌, ◌&&◌, ℕ, zero, suc, List, [], ◌∷◌, Option, Some, None, codes, map, min, nat_eq, if◌then◌else◌}
 use Rattle.std.specs.List.{ends_with}
 use Rattle.aml_kinds.specs.Kinds as kind
@@ -30,8 +31,9 @@ filled zero kinds = []
 filled (suc count) [] = Int ∷ filled count []
 filled (suc count) (kind ∷ kinds) = kind ∷ filled count kinds
 
--- the kinds of a method of which nothing is told: those of a `_DSM`, which takes four arguments, or none.
--- A segment has four characters, so a printed path that ends with `_DSM` ends with that segment
+-- the kinds of a method of which nothing is told: those of a `_DSM`, which takes four arguments, or
+-- none. A segment has four characters, so a printed path that ends with `_DSM` ends with that
+-- segment
 abbrev pub kinds_untold : List ℕ → ℕ → List ArgumentKind
 kinds_untold path count =
     if count == 4 && ends_with nat_eq path (codes "_DSM") then Buf 16 ∷ Int ∷ Int ∷ Pkg ∷ [] else []
@@ -44,7 +46,9 @@ kinds_or_untold None path count = kinds_untold path count
 abbrev pub kinds_named : (List ℕ → Option (List ArgumentKind)) → List ℕ → ℕ → List ArgumentKind
 kinds_named told path count = kinds_or_untold (told path) path count
 
--- the kinds of the arguments of the method with this path, which has so many of them: as many as it has, of those
--- that are named, each cut to the width
-abbrev pub argument_kinds : (List ℕ → Option (List ArgumentKind)) → List ℕ → ℕ → Width → List ArgumentKind
-argument_kinds told path count width = map (cut_to width) (filled count (kinds_named told path count))
+-- the kinds of the arguments of the method with this path, which has so many of them: as many as it
+-- has, of those that are named, each cut to the width
+abbrev pub argument_kinds : (List ℕ → Option (List ArgumentKind)) → List ℕ → ℕ →
+    Width → List ArgumentKind
+argument_kinds told path count width =
+    map (cut_to width) (filled count (kinds_named told path count))

@@ -9,4 +9,5 @@ use Rattle.aml_signatures.specs.declared.signatures.Signatures.{Signatures}
 
 -- the kinds that they tell of the method with this printed path
 abbrev pub kinds_told : Signatures → List ℕ → Option (List ArgumentKind)
-kinds_told signatures path = option_map vec_items (get_by (λ k. slice_cmp nat_cmp path (vec_items k)) signatures.kinds)
+kinds_told signatures path =
+    option_map vec_items (get_by (λ k. slice_cmp nat_cmp path (vec_items k)) signatures.kinds)

@@ -23,7 +23,8 @@ IsDecimal digits n = (n < 2 ^ 64) × IsNumeral 10 digits × (n ≡ digits_value 
 
 -- a word begins so, and goes on with a number
 abbrev pub IsNumberBehind : List ℕ → List ℕ → ℕ → Type 0
-IsNumberBehind beginning word n = (digits : List ℕ) × (word ≡ beginning ++ digits) × IsDecimal digits n
+IsNumberBehind beginning word n =
+    (digits : List ℕ) × (word ≡ beginning ++ digits) × IsDecimal digits n
 
 -- a word names a kind
 abbrev pub Names : List ℕ → ArgumentKind → Type 0
@@ -44,7 +45,8 @@ pub record Signature : Type 0 where
   pub path : List ℕ
   pub kinds : List ArgumentKind
 
--- the words of a line tell a signature: a path, which is any word that is not empty, and names of kinds
+-- the words of a line tell a signature: a path, which is any word that is not empty, and names of
+-- kinds
 abbrev pub AreSignature : List (List ℕ) → Signature → Type 0
 AreSignature [] s = ⊥
 AreSignature (path ∷ words) s = (s.path ≡ path) × (0 < length path) × AreNames words s.kinds
@@ -54,20 +56,26 @@ abbrev pub counts_nothing : List ℕ → Bool
 counts_nothing line = (length line == 0) || starts_with nat_eq line (codes "#")
 
 -- the words of a line add a signature to what is told of methods, where nothing is told of its path
-abbrev pub WordsSign : List (List ℕ) → (List ℕ → Option (List ArgumentKind)) → (List ℕ → Option (List ArgumentKind)) → Type 0
+abbrev pub WordsSign : List (List ℕ) → (List ℕ → Option (List ArgumentKind)) →
+    (List ℕ → Option (List ArgumentKind)) → Type 0
 WordsSign words old new =
-    (s : Signature) × AreSignature words s × (old s.path ≡ None) × ((path : List ℕ) → new path ≡ update bytes_eq old s.path (Some s.kinds) path)
+    (s : Signature) × AreSignature words s × (old s.path ≡ None)
+    × ((path : List ℕ) → new path ≡ update bytes_eq old s.path (Some s.kinds) path)
 
 -- a line adds its signature, or does not count
-abbrev pub LineSigns : List ℕ → (List ℕ → Option (List ArgumentKind)) → (List ℕ → Option (List ArgumentKind)) → Type 0
+abbrev pub LineSigns : List ℕ → (List ℕ → Option (List ArgumentKind)) →
+    (List ℕ → Option (List ArgumentKind)) → Type 0
 LineSigns line old new =
-    ((counts_nothing line ≡ true) × ((path : List ℕ) → new path ≡ old path)) ⊎ ((counts_nothing line ≡ false) × WordsSign (words_of line) old new)
+    ((counts_nothing line ≡ true) × ((path : List ℕ) → new path ≡ old path))
+    ⊎ ((counts_nothing line ≡ false) × WordsSign (words_of line) old new)
 
 -- lines do so, one after the other
-abbrev pub LinesSign : List (List ℕ) → (List ℕ → Option (List ArgumentKind)) → (List ℕ → Option (List ArgumentKind)) → Type 0
+abbrev pub LinesSign : List (List ℕ) → (List ℕ → Option (List ArgumentKind)) →
+    (List ℕ → Option (List ArgumentKind)) → Type 0
 LinesSign [] old new = (path : List ℕ) → new path ≡ old path
 LinesSign (line ∷ more) old new =
-    (between : List ℕ → Option (List ArgumentKind)) × LineSigns line old between × LinesSign more between new
+    (between : List ℕ → Option (List ArgumentKind)) × LineSigns line old between
+    × LinesSign more between new
 
 -- before the first line nothing is told of any method
 abbrev pub nothing_told : List ℕ → Option (List ArgumentKind)
@@ -80,13 +88,15 @@ TextSigns text told = LinesSign (lines_of text) nothing_told told
 -- a line that counts and tells no signature, or one of a path of which something is told
 abbrev pub IsBad : List ℕ → (List ℕ → Option (List ArgumentKind)) → Type 0
 IsBad line told =
-    (counts_nothing line ≡ false) × ((s : Signature) → AreSignature (words_of line) s → IsSome (told s.path))
+    (counts_nothing line ≡ false)
+    × ((s : Signature) → AreSignature (words_of line) s → IsSome (told s.path))
 
 -- the number, from 1 on, of the first bad line
 abbrev pub FirstBad : List (List ℕ) → ℕ → Type 0
 FirstBad lines n =
     (before behind : List (List ℕ)) × (line : List ℕ) × (told : List ℕ → Option (List ArgumentKind))
-    × (lines ≡ before ++ (line ∷ behind)) × LinesSign before nothing_told told × IsBad line told × (n ≡ length before + 1)
+    × (lines ≡ before ++ (line ∷ behind)) × LinesSign before nothing_told told × IsBad line told
+    × (n ≡ length before + 1)
 
 -- why a text tells nothing: want of memory, or its first bad line
 abbrev pub FailsToSign : List ℕ → SignatureFault → Type 0

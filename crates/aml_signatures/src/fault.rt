@@ -13,7 +13,8 @@ pub enum SignatureFault {
     /// An allocation failed; the text may be read again.
     #[error("E524 NoMemory")]
     NoMemory,
-    /// The first line that is no signature, or whose path a line before it has, by its number, from 1.
+    /// The first line that is no signature, or whose path a line before it has, by its number, from
+    /// 1.
     #[error("E501 BadKinds {line}")]
     BadKinds { line: usize },
 }

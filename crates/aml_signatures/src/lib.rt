@@ -1,5 +1,6 @@
-//! The kinds of methods' arguments, as a text tells them. Rooms: `argument_kind`; `words`, what the words of
-//! a line tell; `signatures`, what a text tells by paths; `fault`, why a text tells nothing.
+//! The kinds of methods' arguments, as a text tells them. Rooms: `argument_kind`; `words`, what the
+//! words of a line tell; `signatures`, what a text tells by paths; `fault`, why a text tells
+//! nothing.
 #![tactic(auto)]
 
 mod argument_kind;

@@ -13,8 +13,8 @@ use aml_paths::NoMemory;
 use std::alloc::{AllocError, Global};
 use std::collections::BTreeMap;
 
-/// The kinds of the arguments of a `_DSM` (ACPI 6.5, 9.1.1): an identifier of 16 bytes, the revision and
-/// the number of a function, and the function's own arguments.
+/// The kinds of the arguments of a `_DSM` (ACPI 6.5, 9.1.1): an identifier of 16 bytes, the
+/// revision and the number of a function, and the function's own arguments.
 const DSM_KINDS: [ArgumentKind; 4] = [
     ArgumentKind::Buf(16),
     ArgumentKind::Int,
@@ -39,11 +39,11 @@ impl Signatures {
     }
 
     /// What a text tells. A line has the path of a method, as it is printed, and the kinds of its
-    /// arguments from the first on, with single spaces between: `int`, `int:MAX`, `buf:N`, `str:N` or
-    /// `pkg`, numbers in decimal. Empty lines and lines from `#` on count for nothing.
+    /// arguments from the first on, with single spaces between: `int`, `int:MAX`, `buf:N`, `str:N`
+    /// or `pkg`, numbers in decimal. Empty lines and lines from `#` on count for nothing.
     ///
-    /// Faults: E501 at the first line that has another form, a number of 2^64 or more, or the path of a
-    /// line before it; want of memory.
+    /// Faults: E501 at the first line that has another form, a number of 2^64 or more, or the path
+    /// of a line before it; want of memory.
     pub fn read(alloc: Global, text: &[u8]) -> Result<Signatures, SignatureFault>
         ensures signs { IfOk result (λ signatures. TextSigns text.now (kinds_told signatures)) }
         ensures fault { IfErr result (FailsToSign text.now) }
@@ -59,7 +59,8 @@ impl Signatures {
 
     // Keeps what a line tells, if it counts.
     fn read_line(&mut self, alloc: Global, line: &[u8], number: usize) -> Result<(), SignatureFault>
-        ensures told { OnOk result (LineSigns line.now (kinds_told self.old) (kinds_told self.new)) }
+        ensures told { OnOk result
+            (LineSigns line.now (kinds_told self.old) (kinds_told self.new)) }
         ensures fault { IfErr result (LineFails line.now (kinds_told self.old) number) }
     {
         if line.is_empty() || line.starts_with(b"#") {
@@ -74,10 +75,10 @@ impl Signatures {
         }
     }
 
-    /// The kinds of the arguments of the method with this printed path, which has `count` of them, where
-    /// integers have this width. They are those that its line tells; further ones have no effect, and
-    /// missing ones are of every integer. Without a line, a `_DSM` of four arguments has
-    /// `buf:16 int int pkg`.
+    /// The kinds of the arguments of the method with this printed path, which has `count` of them,
+    /// where integers have this width. They are those that its line tells; further ones have no
+    /// effect, and missing ones are of every integer. Without a line, a `_DSM` of four arguments
+    /// has `buf:16 int int pkg`.
     pub fn kinds(
         &self,
         alloc: Global,

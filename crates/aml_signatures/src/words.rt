@@ -15,7 +15,8 @@ pub(crate) fn signature_in(
 ) -> Result<Option<(&[u8], Vec<ArgumentKind>)>, AllocError>
     ensures { IfOk result (λ found. MatchOption found
         ((s : Signature) → AreSignature (words_of line.now) s → ⊥)
-        (λ s. AreSignature (words_of line.now) (record { path = s.0.now; kinds = vec_items s.1 }))) }
+        (λ s. AreSignature (words_of line.now)
+        (record { path = s.0.now; kinds = vec_items s.1 }))) }
 {
     let words = words_in(alloc, line)?;
     match words.as_slice() {

@@ -64,7 +64,8 @@ fn rows_of_kinds_that_are_told(rt: HostRuntime) -> Result<(), Fail> {
             &[Pkg],
         ),
         (b"\\M000.M000 pkg", b"\\M000", 1, &[Int]),
-        // `_DSM` of four arguments without a line, of another number, with a line, and as a first segment
+        // `_DSM` of four arguments without a line, of another number, with a line, and as a first
+        // segment
         (b"", b"\\_SB_.PCI0._DSM", 4, &[Buf(16), Int, Int, Pkg]),
         (b"\\_DSM", b"\\_SB_.PCI0._DSM", 4, &[Buf(16), Int, Int, Pkg]),
         (b"", b"\\_DSM", 4, &[Buf(16), Int, Int, Pkg]),

@@ -14,7 +14,8 @@ use Rattle.aml_meaning.specs.Within.{Methods, call_within}
 
 -- an evaluation's part leaves the kinds of names as they were, however it ends
 abbrev pub KeepsKinds : {V : Type 0} → M V → Type 0
-KeepsKinds m = (script : List Event) (s : State) → (state_of (m.run script s)).names.kinds ≡ s.names.kinds
+KeepsKinds m =
+    (script : List Event) (s : State) → (state_of (m.run script s)).names.kinds ≡ s.names.kinds
 
 -- whatever is called, from whatever place, with whatever arguments
 abbrev pub CallsKeepKinds : (Place → ℕ → List Value → M (Option Value)) → Type 0
@@ -31,27 +32,33 @@ pub record ValuesKeepKinds : Type 0 where
 
 -- a list of statements
 abbrev pub ListsKeepKinds : Type 0
-ListsKeepKinds = (here : Setting) → CallsKeepKinds here.call → (ts : Trees) → KeepsKinds (mean_all here ts)
+ListsKeepKinds =
+    (here : Setting) → CallsKeepKinds here.call → (ts : Trees) → KeepsKinds (mean_all here ts)
 
 -- a value stored into a target
 abbrev pub StoresKeepKinds : Type 0
-StoresKeepKinds = (here : Setting) → CallsKeepKinds here.call → (target : Tree) (v : Value) → KeepsKinds (store here target v)
+StoresKeepKinds = (here : Setting) → CallsKeepKinds here.call → (target : Tree) (v : Value) →
+    KeepsKinds (store here target v)
 
 -- a statement at the top of a body
 abbrev pub StatementsKeepKinds : Type 0
-StatementsKeepKinds = (here : Setting) → CallsKeepKinds here.call → (t : Tree) → KeepsKinds (statement here t)
+StatementsKeepKinds =
+    (here : Setting) → CallsKeepKinds here.call → (t : Tree) → KeepsKinds (statement here t)
 
 -- the statements of a body
 abbrev pub BodiesKeepKinds : Type 0
-BodiesKeepKinds = (here : Setting) → CallsKeepKinds here.call → (ts : Trees) → KeepsKinds (mean_body here ts)
+BodiesKeepKinds =
+    (here : Setting) → CallsKeepKinds here.call → (ts : Trees) → KeepsKinds (mean_body here ts)
 
 -- a method, with the end of its body
 abbrev pub MethodsKeepKinds : Type 0
-MethodsKeepKinds = (here : Setting) → CallsKeepKinds here.call → (body : Trees) → KeepsKinds (mean_method here body)
+MethodsKeepKinds = (here : Setting) → CallsKeepKinds here.call → (body : Trees) →
+    KeepsKinds (mean_method here body)
 
 -- in a frame of its own a body keeps what it keeps by itself
 abbrev pub FramesKeepKinds : Type 0
-FramesKeepKinds = (table : ℕ) (values : List Value) (body : M (Unit {0})) → KeepsKinds body → KeepsKinds (framed table values body)
+FramesKeepKinds = (table : ℕ) (values : List Value) (body : M (Unit {0})) → KeepsKinds body →
+    KeepsKinds (framed table values body)
 
 -- a call of any methods, however many more may be active
 abbrev pub CallsWithinKeepKinds : Type 0
@@ -59,4 +66,5 @@ CallsWithinKeepKinds = (methods : Methods) (more : ℕ) → CallsKeepKinds (call
 
 -- what an evaluator answers of a part that gives a value or none, as a term and a call are
 abbrev pub RunsKeepKinds : Type 0
-RunsKeepKinds = (result : Result (Option Value) Halt) (m : M (Option Value)) (old new : State) → KeepsKinds m → Runs result m old new → new.names.kinds ≡ old.names.kinds
+RunsKeepKinds = (result : Result (Option Value) Halt) (m : M (Option Value)) (old new : State) →
+    KeepsKinds m → Runs result m old new → new.names.kinds ≡ old.names.kinds

@@ -1,8 +1,9 @@
 //! That the kinds of data names never change: a law over the definitions of `aml_meaning` alone
 //! (ACPI 6.5, 5.5.2 and 19.6).
 //!
-//! What data names hold changes, by stores and at Sleeps; of which kinds that is does not. So what is
-//! known of a name's kind before an evaluation holds behind it too. `specs/Steady` has the statements.
+//! What data names hold changes, by stores and at Sleeps; of which kinds that is does not. So what
+//! is known of a name's kind before an evaluation holds behind it too. `specs/Steady` has the
+//! statements.
 #![tactic(auto)]
 
 ghost use Rattle.aml_steady.specs.Steady.{BodiesKeepKinds, CallsWithinKeepKinds, FramesKeepKinds, ListsKeepKinds, MethodsKeepKinds, RunsKeepKinds, StatementsKeepKinds, StoresKeepKinds, TermsKeepKinds, ValuesKeepKinds};
@@ -29,7 +30,8 @@ pub fn calls_keep_kinds()
     ensures { CallsWithinKeepKinds }
 {}
 
-/// What an evaluator answers of a call has the kinds of names as they were, also where memory ended.
+/// What an evaluator answers of a call has the kinds of names as they were, also where memory
+/// ended.
 pub fn runs_keep_kinds()
     ensures { RunsKeepKinds }
 {}

@@ -10,7 +10,8 @@ is_marked marks i = unwrap_or (slice_get marks i) false
 
 -- just those are marked that were, and those that are found
 pub record Adds (found : (Action → Bool) → Bool) (old new : Targets) : Type 0 where
-  pub locals : (i : ℕ) → i < 8 → is_marked new.locals i ≡ (is_marked old.locals i || found (is_local i))
+  pub locals : (i : ℕ) → i < 8 →
+      is_marked new.locals i ≡ (is_marked old.locals i || found (is_local i))
   pub args : (i : ℕ) → i < 7 → is_marked new.args i ≡ (is_marked old.args i || found (is_arg i))
 
 -- just those are marked that are found

@@ -58,7 +58,8 @@ impl Targets {
 
     /// Marks the targets of an operator that has no meaning.
     fn mark_outside(&mut self, op: Op, parts: &[Term])
-        ensures { Adds (λ is. outside_targets is (action op) op (views parts.now)) self.old self.new }
+        ensures { Adds (λ is. outside_targets is (action op) op (views parts.now))
+            self.old self.new }
     {
         match action_of(op) {
             Action::Unwritten => self.mark_lettered(row_of(op).letters, parts),

@@ -1,4 +1,5 @@
--- How data in a module begins, up to the terms that stand in it (ACPI 6.5, 20.2.5.1): read from the bytes alone.
+-- How data in a module begins, up to the terms that stand in it (ACPI 6.5, 20.2.5.1): read from the
+-- bytes alone.
 use Rattle.std.specs.Prelude.{◌≡◌, ◌<◌, ◌≤◌, ℕ, zero, suc, ◌-◌, ◌^◌, max, List, [], ◌∷◌, length, take, Option, Some, None, unwrap_or, Result, Ok, Err, if◌then◌else◌}
 use Rattle.aml_operators.specs.declared.op.Op.{Op}
 use Rattle.aml_operators.specs.declared.op.Op.TheVariants as op
@@ -53,7 +54,9 @@ unfoldable pub buffer_at : ℕ → ℕ → List ℕ → ℕ → Result (Head × 
 buffer_at d own bytes at = do
   p ← end_at bytes at
   r ← size_at d own (take p.0 bytes) p.1
-  if is_above limit.Buffer (Some r.0) (length (take p.0 bytes) - r.1) then Err (refusal TooLarge own) else Ok (head.Buffer (max r.0 (length (take p.0 bytes) - r.1)), length (take p.0 bytes))
+  if is_above limit.Buffer (Some r.0) (length (take p.0 bytes) - r.1)
+      then Err (refusal TooLarge own)
+      else Ok (head.Buffer (max r.0 (length (take p.0 bytes) - r.1)), length (take p.0 bytes))
 
 -- a package behind its opcode: the number of its elements, and where they stand
 unfoldable pub package_at : List ℕ → ℕ → Result (Head × ℕ) Refusal
@@ -67,7 +70,8 @@ unfoldable pub sized_package_at : ℕ → ℕ → List ℕ → ℕ → Result (H
 sized_package_at d own bytes at = do
   p ← end_at bytes at
   r ← size_at d own (take p.0 bytes) p.1
-  if is_above limit.Package (Some r.0) (length (take p.0 bytes) - r.1) then Err (refusal TooLarge own) else Ok (head.Package r.0 r.1, p.0)
+  if is_above limit.Package (Some r.0) (length (take p.0 bytes) - r.1)
+      then Err (refusal TooLarge own) else Ok (head.Package r.0 r.1, p.0)
 
 -- data behind its opcode
 unfoldable pub operator_head : ℕ → Op → ℕ → List ℕ → ℕ → Result (Head × ℕ) Refusal
@@ -103,7 +107,8 @@ IsElements at stop h = Unit {0}
 
 -- how long a buffer is by its parts: the greater of its size and its initialiser
 abbrev pub buffer_length : Trees → ℕ
-buffer_length (more size (more (Node o at stop parts) none)) = max (unwrap_or (literal_of size) 0) (stop - at)
+buffer_length (more size (more (Node o at stop parts) none)) =
+    max (unwrap_or (literal_of size) 0) (stop - at)
 buffer_length parts = 0
 
 -- how many characters a string has by its parts
@@ -132,15 +137,20 @@ told_count op.Package (Node (op.Number n) at stop parts) = n
 told_count op.VarPackage t = unwrap_or (literal_of t) 0
 told_count o t = 0
 
--- how a term begins that is read to be this one, by how terms below are read: it has no terms in it, or its elements are read next
-abbrev pub IsHead : (ℕ → Spot → List ℕ → ℕ → Result Tree Refusal) → Result Tree Refusal → List ℕ → ℕ → Head → ℕ → Type 0
+-- how a term begins that is read to be this one, by how terms below are read: it has no terms in
+-- it, or its elements are read next
+abbrev pub IsHead : (ℕ → Spot → List ℕ → ℕ → Result Tree Refusal) → Result Tree Refusal → List ℕ →
+    ℕ → Head → ℕ → Type 0
 IsHead below term bytes at (head.Package count start) stop =
     (o : Op) × (first : Tree) × IsPackage o × (told_count o first ≡ count)
-    × (term ≡ (terms_until no_arguments below at spot.Element (take stop bytes) (length (take stop bytes)) (first ∷ []) start >>= (λ r. Ok (Node o at r.1 (trees r.0)))))
+    × (term ≡ (terms_until no_arguments below at spot.Element (take stop bytes)
+    (length (take stop bytes)) (first ∷ []) start >>= (λ r. Ok (Node o at r.1 (trees r.0)))))
 IsHead below term bytes at h stop =
     (o : Op) × (parts : Trees) × (leaf_head o parts ≡ Some h) × (term ≡ Ok (Node o at stop parts))
 
 -- the answer of a reader of heads: none just where what is read has a fault there
 abbrev pub ReadsHead : ℕ → ℕ → Spot → List ℕ → ℕ → Option (Head × ℕ) → Type 0
-ReadsHead d asker s bytes at (Some r) = IsHead (term_at code.Module no_arguments (d - 1)) (term_at code.Module no_arguments d asker s bytes at) bytes at r.0 r.1
-ReadsHead d asker s bytes at None = (f : Refusal) × (term_at code.Module no_arguments d asker s bytes at ≡ Err f)
+ReadsHead d asker s bytes at (Some r) = IsHead (term_at code.Module no_arguments (d - 1))
+    (term_at code.Module no_arguments d asker s bytes at) bytes at r.0 r.1
+ReadsHead d asker s bytes at None =
+    (f : Refusal) × (term_at code.Module no_arguments d asker s bytes at ≡ Err f)

@@ -1,4 +1,5 @@
--- Parts without parts, read at a place (ACPI 6.5, 20.2.2 to 20.2.4): what the lexical layer reads, and numbers.
+-- Parts without parts, read at a place (ACPI 6.5, 20.2.2 to 20.2.4): what the lexical layer reads,
+-- and numbers.
 use Rattle.std.specs.Prelude.{ℕ, ◌+◌, List, length, drop, Option, Some, None, Result, Ok, Err, nat_lt, slice_get, if◌then◌else◌}
 use Rattle.byteorder.specs.Endian.{little_number}
 use Rattle.aml_lex.specs.NameStrings.{NameString}

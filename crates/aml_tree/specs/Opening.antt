@@ -36,7 +36,8 @@ abbrev pub may_be_none : Spot → Bool
 may_be_none spot.Target = true
 may_be_none s = false
 
--- where a module's fault is told: at a statement itself, else at the operator that asks for something else
+-- where a module's fault is told: at a statement itself, else at the operator that asks for
+-- something else
 abbrev pub asking : Spot → ℕ → ℕ → ℕ
 asking spot.Statement asker at = at
 asking s asker at = asker
@@ -54,7 +55,8 @@ ruled_opening ruled.Outside op told at next = Err (refusal ModuleCode told)
 
 abbrev pub row_opening : Code → Spot → Option Op → ℕ → ℕ → ℕ → Result Opening Refusal
 row_opening code s None told at next = Err (refusal UnknownOpcode at)
-row_opening code s (Some op) told at next = ruled_opening (ruling code s (class_of op)) op told at next
+row_opening code s (Some op) told at next =
+    ruled_opening (ruling code s (class_of op)) op told at next
 
 -- where the first byte is b
 abbrev pub coded_opening : Code → ℕ → Spot → List ℕ → ℕ → ℕ → Result Opening Refusal

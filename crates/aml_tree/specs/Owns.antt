@@ -19,4 +19,5 @@ with_kept arity kept name at = if is_kept kept (lone_segment name) then 0 else a
 
 -- a set has just these own names
 abbrev pub Keeps : BTreeSet NameSeg → List NameSeg → Type 0
-Keeps kept owns = (segment : NameSeg) → contains segment_order kept segment ≡ list_any (same_segment segment) owns
+Keeps kept owns =
+    (segment : NameSeg) → contains segment_order kept segment ≡ list_any (same_segment segment) owns

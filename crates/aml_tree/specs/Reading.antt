@@ -26,12 +26,14 @@ use Rattle.aml_tree.specs.Fault.{refusal, Fails, ◌>>=◌}
 use Rattle.aml_tree.specs.Leaf.{byte_at, end_at, name_at, bits_at, text_at, little_endian_at}
 use Rattle.aml_tree.specs.Opening.{Opening, NoTarget, PlainName, InvokedName, Operator, opening_at, may_be_none}
 
--- the place that the program returns and the parts that it leaves are a definition's, unless memory ran out
+-- the place that the program returns and the parts that it leaves are a definition's, unless memory
+-- ran out
 abbrev pub Adds : Result ℕ TreeFault → List Tree → Result (List Tree × ℕ) Refusal → Type 0
 Adds (Ok next) parts answer = answer ≡ Ok (parts, next)
 Adds (Err fault) parts answer = Fails fault answer
 
--- a literal size above its limit; a buffer's length is the greater of its size and the bytes that are left
+-- a literal size above its limit; a buffer's length is the greater of its size and the bytes that
+-- are left
 abbrev pub is_above : Limit → Option ℕ → ℕ → Bool
 is_above l None left = false
 is_above limit.Buffer (Some n) left = nat_lt 65536 n || nat_lt 65536 left
@@ -60,9 +62,10 @@ module _ (arity : NameString → ℕ → ℕ) (below : ℕ → Spot → List ℕ
 
   -- what a field list connects to: a buffer, or the name of one
   unfoldable pub connection_at : ℕ → List ℕ → ℕ → Result Tree Refusal
-  connection_at own bytes at = if has_byte 0x11 bytes at then below own spot.Connection bytes at else (do
-    r ← name_at bytes at
-    Ok (Node op.NameString at r.1 none))
+  connection_at own bytes at =
+      if has_byte 0x11 bytes at then below own spot.Connection bytes at else (do
+        r ← name_at bytes at
+        Ok (Node op.NameString at r.1 none))
 
   -- one part of the operator at a place
   unfoldable pub piece_at : Piece → ℕ → List ℕ → ℕ → Result Tree Refusal
@@ -82,7 +85,8 @@ module _ (arity : NameString → ℕ → ℕ) (below : ℕ → Spot → List ℕ
   piece_at piece.Connection own bytes at = connection_at own bytes at
 
   -- the parts of an item of a field list
-  unfoldable pub pieces_at : List Piece → ℕ → List ℕ → List Tree → ℕ → Result (List Tree × ℕ) Refusal
+  unfoldable pub pieces_at : List Piece → ℕ → List ℕ → List Tree → ℕ →
+      Result (List Tree × ℕ) Refusal
   pieces_at [] own bytes front at = Ok (front, at)
   pieces_at (p ∷ rest) own bytes front at = do
     t ← piece_at p own bytes at
@@ -115,14 +119,16 @@ module _ (arity : NameString → ℕ → ℕ) (below : ℕ → Spot → List ℕ
     Ok (front ++ Node op.Else at p.0 (trees r.0) ∷ [], p.0)) else Ok (front, at)
 
   -- the parts that letters name, of the operator at a place
-  unfoldable pub parts_at : List Letter → ℕ → List ℕ → List Tree → ℕ → Result (List Tree × ℕ) Refusal
+  unfoldable pub parts_at : List Letter → ℕ → List ℕ → List Tree → ℕ →
+      Result (List Tree × ℕ) Refusal
   parts_at [] own bytes front at = Ok (front, at)
   parts_at (One p ∷ rest) own bytes front at = do
     t ← piece_at p own bytes at
     parts_at rest own bytes (front ++ t ∷ []) (stop_of t)
   parts_at (Sized l ∷ rest) own bytes front at = do
     t ← below own spot.Size bytes at
-    if is_above l (literal_of t) (length bytes - stop_of t) then Err (refusal TooLarge own) else parts_at rest own bytes (front ++ t ∷ []) (stop_of t)
+    if is_above l (literal_of t) (length bytes - stop_of t) then Err (refusal TooLarge own)
+        else parts_at rest own bytes (front ++ t ∷ []) (stop_of t)
   parts_at (Package ∷ rest) own bytes front at = do
     p ← end_at bytes at
     parts_at rest own (take p.0 bytes) front p.1
@@ -132,7 +138,8 @@ module _ (arity : NameString → ℕ → ℕ) (below : ℕ → Spot → List ℕ
     else_at own r.0 bytes r.1
   parts_at (Terms s ∷ rest) own bytes front at = terms_until own s bytes (length bytes) front at
   parts_at (Fields ∷ rest) own bytes front at = items_until own bytes (length bytes) front at
-  parts_at (Bytes ∷ rest) own bytes front at = Ok (front ++ Node op.ByteList at (length bytes) none ∷ [], length bytes)
+  parts_at (Bytes ∷ rest) own bytes front at =
+      Ok (front ++ Node op.ByteList at (length bytes) none ∷ [], length bytes)
 
   -- what follows the beginning
   unfoldable pub form_at : Opening → List ℕ → ℕ → Result Tree Refusal
@@ -152,10 +159,12 @@ module _ (arity : NameString → ℕ → ℕ) (below : ℕ → Spot → List ℕ
 unfoldable pub deepest_at : Spot → List ℕ → ℕ → Result Tree Refusal
 deepest_at s bytes at = do
   b ← byte_at bytes at
-  if may_be_none s && (b == 0) then Ok (Node op.NullName at (at + 1) none) else Err (refusal TooDeep at)
+  if may_be_none s && (b == 0) then Ok (Node op.NullName at (at + 1) none)
+      else Err (refusal TooDeep at)
 
 -- a term with at most so many terms one in another
-unfoldable pub term_at : Code → (NameString → ℕ → ℕ) → ℕ → ℕ → Spot → List ℕ → ℕ → Result Tree Refusal
+unfoldable pub term_at : Code → (NameString → ℕ → ℕ) → ℕ → ℕ → Spot → List ℕ → ℕ →
+    Result Tree Refusal
 term_at code arity zero asker s bytes at = deepest_at s bytes at
 term_at code arity (suc d) asker s bytes at = do
   o ← opening_at code asker s bytes at

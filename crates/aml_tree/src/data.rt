@@ -13,8 +13,8 @@ use crate::walk::Reader;
 use aml_operators::{Code, Spot, Term};
 use std::alloc::Global;
 
-/// Reads the data of a module's Name, whose span the Name's term gave. Its last byte is the last that
-/// is looked at.
+/// Reads the data of a module's Name, whose span the Name's term gave. Its last byte is the last
+/// that is looked at.
 ///
 /// Faults: E201 to E209, each with its place in the table, the first in the order of the bytes.
 pub fn read_data(alloc: Global, bytes: &[u8], span: Span) -> Result<Term, TreeFault>

@@ -212,8 +212,8 @@ fn read_head(
     opened_head(opening, bytes, at, depth - 1)
 }
 
-/// How the data of a module's Name begins, and where it ends. None where reading it meets a fault in
-/// what is looked at here.
+/// How the data of a module's Name begins, and where it ends. None where reading it meets a fault
+/// in what is looked at here.
 pub fn data_head(bytes: &[u8], at: usize) -> Option<(Head, usize)>
     ensures is { ReadsHead greatest_depth at spot.Data bytes.now at result }
     ensures ahead { IfSome result (λ r. at < r.1) }
@@ -226,8 +226,8 @@ pub fn data_head(bytes: &[u8], at: usize) -> Option<(Head, usize)>
     }
 }
 
-/// The same of an element of the package at `own`, where no more than so many terms may stand one in
-/// another.
+/// The same of an element of the package at `own`, where no more than so many terms may stand one
+/// in another.
 pub fn element_head(own: usize, bytes: &[u8], at: usize, depth: u8) -> Option<(Head, usize)>
     ensures is { ReadsHead depth own spot.Element bytes.now at result }
     ensures ahead { IfSome result (λ r. at < r.1) }

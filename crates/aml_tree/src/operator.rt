@@ -17,9 +17,9 @@ fn op_with(opcode: u16, next: usize) -> Option<(Op, usize)>
     }
 }
 
-/// The operator whose opcode stands at a place of a body, and the place behind that opcode (ACPI 6.5,
-/// 20.3); none where a name stands, where the bytes end, and where no operator has such an opcode.
-/// It takes no memory.
+/// The operator whose opcode stands at a place of a body, and the place behind that opcode (ACPI
+/// 6.5, 20.3); none where a name stands, where the bytes end, and where no operator has such an
+/// opcode. It takes no memory.
 pub fn op_at(bytes: &[u8], at: usize) -> Option<(Op, usize)>
     ensures is { result ≡ op_there bytes.now at }
     ensures within { IfSome result (λ p. (at < p.1) × (p.1 ≤ length bytes.now)) }
@@ -34,8 +34,8 @@ pub fn op_at(bytes: &[u8], at: usize) -> Option<(Op, usize)>
     }
 }
 
-/// What stands at a place decides the form of the term there: the operator's, with its parts behind the
-/// opcode by the letters of its row, or a name's.
+/// What stands at a place decides the form of the term there: the operator's, with its parts behind
+/// the opcode by the letters of its row, or a name's.
 pub fn opcodes_decide()
     ensures operators { OpcodesDecide }
     ensures names { OthersAreNames }

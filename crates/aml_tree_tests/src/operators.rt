@@ -36,7 +36,8 @@ fn rows(rt: HostRuntime) {
     }
 }
 
-/// The operator at a place and the place behind its opcode; a name, the end and a lone 5B have none.
+/// The operator at a place and the place behind its opcode; a name, the end and a lone 5B have
+/// none.
 #[test]
 fn operators_at_places(rt: HostRuntime) {
     let bytes: &[u8] = &[0x70, 0x5B, 0x30, 0x5C, 0x4D, 0xA1, 0x5B];

@@ -18,7 +18,8 @@ one_deeper m = max-le (subst (λ n. n ≤ suc m) (sym (add-one m)) (le_refl (suc
 -- a part beside others is no deeper than the deepest of both
 pub beside : (a b c d : ℕ) → a ≤ suc c → max b 0 ≤ suc d → max (max a b) 0 ≤ suc (max c d)
 beside a b c d first rest =
-    max-le (max-le (le_trans first (suc-le-suc (le-max_left c d))) (le_trans (le-max_left b 0) (le_trans rest (suc-le-suc (le-max_right c d))))) zero-le
+    max-le (max-le (le_trans first (suc-le-suc (le-max_left c d)))
+    (le_trans (le-max_left b 0) (le_trans rest (suc-le-suc (le-max_right c d))))) zero-le
 
 value_falls : (v : program.Value) → deep-Value v ≤ suc (depth (view v))
 value_falls (value.Int n) = lit≤ tt
@@ -32,7 +33,9 @@ element_falls (held.Name object) = lit≤ tt
 element_falls held.Unset = lit≤ tt
 
 -- no element is as deep as the package
-pub most_le-package_depth : (es : List program_element.Element) → max (most deep-Element es) 0 ≤ package_depth (elements_of es)
+pub most_le-package_depth : (es : List program_element.Element) →
+    max (most deep-Element es) 0 ≤ package_depth (elements_of es)
 most_le-package_depth [] = lit≤ tt
 most_le-package_depth (e ∷ es) =
-    beside (deep-Element e) (most deep-Element es) (element_depth (element e)) (greatest_depth (elements_of es)) (element_falls e) (most_le-package_depth es)
+    beside (deep-Element e) (most deep-Element es) (element_depth (element e))
+    (greatest_depth (elements_of es)) (element_falls e) (most_le-package_depth es)

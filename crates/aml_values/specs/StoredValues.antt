@@ -56,12 +56,14 @@ mutual
   read-written (more e es) marks =
       read-written_element e (written es marks) ∙ ap (placed e) (read-written es marks)
 
-  pub read-written_element : (e : Element) (marks : List Mark) → read (written_element e marks) ≡ placed e (read marks)
+  pub read-written_element : (e : Element) (marks : List Mark) →
+      read (written_element e marks) ≡ placed e (read marks)
   read-written_element (Holds v) marks = read-written_value v marks
   read-written_element (Named object) marks = refl
   read-written_element Unset marks = refl
 
-  pub read-written_value : (v : Value) (marks : List Mark) → read (written_value v marks) ≡ placed (Holds v) (read marks)
+  pub read-written_value : (v : Value) (marks : List Mark) →
+      read (written_value v marks) ≡ placed (Holds v) (read marks)
   read-written_value (Int n) marks = refl
   read-written_value (Buf bytes) marks = refl
   read-written_value (Str characters) marks = refl
@@ -76,8 +78,10 @@ object_code = code_by ℕ coded_ℕ (λ o. o.0) (λ n. record { 0 = n }) (λ _. 
 
 abbrev pub mark_code : Coded Mark
 mark_code =
-    coded⊎ coded_ℕ (coded⊎ (coded_list coded_ℕ) (coded⊎ (coded_list coded_ℕ) (coded⊎ (coded_option object_code) (coded⊎ coded_unit (coded⊎ coded_unit coded_unit)))))
+    coded⊎ coded_ℕ (coded⊎ (coded_list coded_ℕ) (coded⊎ (coded_list coded_ℕ)
+    (coded⊎ (coded_option object_code) (coded⊎ coded_unit (coded⊎ coded_unit coded_unit)))))
 
 abbrev pub elements_code : Coded Elements
 elements_code =
-    code_by (List Mark) (coded_list mark_code) (λ es. written es []) (λ marks. first_elements (read marks)) (λ es. ap first_elements (read-written es []))
+    code_by (List Mark) (coded_list mark_code) (λ es. written es [])
+    (λ marks. first_elements (read marks)) (λ es. ap first_elements (read-written es []))

@@ -12,8 +12,8 @@ use aml_values::{Value, is_same_value};
 use std::alloc::{AllocError, Global};
 use std::test::Fail;
 
-/// Name (INT0, 5), Name (BUF0, Buffer (3) {1}), Name (STR0, "ab"), Name (PKG0, Package (2) {9, INT0}),
-/// behind the nine predefined names: they have the numbers 9 to 12.
+/// Name (INT0, 5), Name (BUF0, Buffer (3) {1}), Name (STR0, "ab"), Name (PKG0, Package (2) {9,
+/// INT0}), behind the nine predefined names: they have the numbers 9 to 12.
 const MODULE: [u8; 40] = [
     0x08, 0x49, 0x4e, 0x54, 0x30, 0x0a, 0x05, 0x08, 0x42, 0x55, 0x46, 0x30, 0x11, 0x04, 0x0a, 0x03,
     0x01, 0x08, 0x53, 0x54, 0x52, 0x30, 0x0d, 0x61, 0x62, 0x00, 0x08, 0x50, 0x4b, 0x47, 0x30, 0x12,
@@ -75,8 +75,8 @@ fn hold_all(alloc: Global, names: &Names, first: &[Option<Sample>]) -> Result<bo
     Ok(names.get(ObjectId(first.len())).is_none())
 }
 
-/// What a set answers: whether it was done; and whether the name then holds the new value, or else the
-/// refused one came back and the name holds what it held.
+/// What a set answers: whether it was done; and whether the name then holds the new value, or else
+/// the refused one came back and the name holds what it held.
 fn is_set(alloc: Global, id: usize, sample: Sample) -> Result<(bool, bool), Fail> {
     let mut names = names_of(alloc, Width::Bits64, &FIRST)?;
     match names.set(ObjectId(id), value_of(alloc, sample)?) {
@@ -220,8 +220,8 @@ fn push_again(alloc: Global, names: &mut Names, sample: Option<Sample>) -> Resul
     }
 }
 
-/// Also for a run in which an allocation fails: names and their copy are then asked for again, and the
-/// copy holds what was copied.
+/// Also for a run in which an allocation fails: names and their copy are then asked for again, and
+/// the copy holds what was copied.
 #[test]
 fn want_of_memory_in_names(rt: HostRuntime) -> Result<(), Fail> {
     let alloc = rt.alloc();

@@ -1,4 +1,5 @@
-// What the rows of crates/acpicheck/rows cannot say of operators' rules: a package of 64 levels, which no Name has.
+// What the rows of crates/acpicheck/rows cannot say of operators' rules: a package of 64 levels,
+// which no Name has.
 
 use crate::kinds::{Sample, value_of};
 use aml_rules::{Place, element_at};

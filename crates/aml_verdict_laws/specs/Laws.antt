@@ -1,4 +1,5 @@
--- That there is an answer to which methods are accepted, and one to which methods reach which: the laws.
+-- That there is an answer to which methods are accepted, and one to which methods reach which: the
+-- laws.
 use Rattle.std.specs.Prelude.{◌≡◌, ℕ, List, Option, Bool, true}
 use Rattle.aml_calls.specs.Chains.{is_among, TellsReach}
 use Rattle.aml_judged.specs.Judged.{Accepted}

@@ -1,5 +1,5 @@
-// What is kept of bodies, which arguments methods take and which evaluate integers alone, also where memory
-// is wanted. Expected values were worked out by hand.
+// What is kept of bodies, which arguments methods take and which evaluate integers alone, also
+// where memory is wanted. Expected values were worked out by hand.
 
 use acpi_samples::{HOST, table_of};
 use aml_bodies::LinkedName;
@@ -12,8 +12,9 @@ use std::alloc::Global;
 use std::process::Abort;
 use std::test::Fail;
 
-/// A buffer BUF0 and four methods behind it: `M001` returns the sum of its argument and one; `M002` what `BUF0` holds;
-/// `M003` a local that is not set, for which it is refused; and of `M004` the operand of a Return is missing.
+/// A buffer BUF0 and four methods behind it: `M001` returns the sum of its argument and one; `M002`
+/// what `BUF0` holds; `M003` a local that is not set, for which it is refused; and of `M004` the
+/// operand of a Return is missing.
 const BEHIND: &[u8] =
     b"\x08BUF0\x11\x03\x0a\x10\x14\x0bM001\x01\xa4rh\x01\x00\x14\x0bM002\x00\xa4BUF0\x14\x08M003\x00\xa4`\x14\x07M004\x00\xa4";
 
@@ -98,7 +99,8 @@ fn are_known(rt: &impl Abort, checked: &Checked<'_>) {
     assert_eq!(rt; name_at(checked, 0, 53), None);
 }
 
-/// Judges the methods of a namespace, one step at a time, each again where it wants memory; and all at once.
+/// Judges the methods of a namespace, one step at a time, each again where it wants memory; and all
+/// at once.
 fn are_kept(rt: &impl Abort, alloc: Global, namespace: &Namespace<'_>) -> Result<(), NoMemory> {
     let signatures = Signatures::new(alloc);
     let mut verifier = Verifier::new(alloc, namespace, &signatures)?;

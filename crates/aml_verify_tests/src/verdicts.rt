@@ -1,4 +1,5 @@
-// Verdicts, one method at a time, also where memory is wanted. Expected values were worked out by hand.
+// Verdicts, one method at a time, also where memory is wanted. Expected values were worked out by
+// hand.
 
 use acpi_samples::{HOST, table_of};
 use aml_causes::Cause;
@@ -10,8 +11,8 @@ use std::alloc::Global;
 use std::process::Abort;
 use std::test::Fail;
 
-/// What is to be said of a method: its bound, or where and why it is refused, or where its body cannot be
-/// read.
+/// What is to be said of a method: its bound, or where and why it is refused, or where its body
+/// cannot be read.
 #[derive(Clone, Copy, Debug, PartialEq, Eq)]
 enum Said {
     Accepted(u64),
@@ -19,7 +20,8 @@ enum Said {
     Unreadable(usize),
 }
 
-/// The revision of a DSDT, the bytes behind its header, and what is to be said of its methods in order.
+/// The revision of a DSDT, the bytes behind its header, and what is to be said of its methods in
+/// order.
 type Row<'a> = (u8, &'a [u8], &'a [Said]);
 
 /// What a verdict says.
@@ -41,7 +43,8 @@ fn are_said(rt: &impl Abort, checked: &Checked<'_>, wanted: &[Said]) {
     }
 }
 
-/// Judges the methods of a namespace; a step that wants memory is made again, and judges the same method.
+/// Judges the methods of a namespace; a step that wants memory is made again, and judges the same
+/// method.
 fn are_judged(
     rt: &impl Abort,
     alloc: Global,

@@ -39,8 +39,8 @@ impl Source for Zeros {
     }
 }
 
-// There are at most 65,535 paths, of which nine are predefined. The name that is one too many stands
-// behind a header of 36 bytes, 65,526 definitions of six bytes and an opcode.
+// There are at most 65,535 paths, of which nine are predefined. The name that is one too many
+// stands behind a header of 36 bytes, 65,526 definitions of six bytes and an opcode.
 #[test]
 fn as_many_names_as_there_may_be(rt: HostRuntime) -> Result<(), Fail> {
     let alloc = rt.alloc();

@@ -18,7 +18,8 @@ fn package(elements: Vec<Element>) -> Option<Value> {
     Some(Value::Pkg(Package::new(elements).ok()?))
 }
 
-// The table with a further path of its method, Alias (M000, ALS0): the path has the number 10, and no object has.
+// The table with a further path of its method, Alias (M000, ALS0): the path has the number 10, and
+// no object has.
 const ALIASED: &str =
     "4453445439000000022341435049434b524f57533030303101000000524f575301000000140b4d30303001a472680100064d303030414c5330";
 

@@ -10,7 +10,8 @@ use aml_paths::{NamePlace, ObjectId, Scope};
 use aml_tree::Span;
 use std::test::Fail;
 
-/// Scope (\_SB) { Device (DEV0) {} }, Processor (CPU0, 1, 0x410, 6) {}, PowerResource (PWR0, 0, 1) {},
+/// Scope (\_SB) { Device (DEV0) {} }, Processor (CPU0, 1, 0x410, 6) {},
+/// PowerResource (PWR0, 0, 1) {},
 /// ThermalZone (TZ00) {}, Method (MTH0, 2, Serialized, 3) { Noop }, Name (INT0, 18),
 /// Name (BUF0, Buffer (8) { 1, 2 }), Name (STR0, "abc"), Name (PKG0, Package (3) { 1, "x" }),
 /// OperationRegion (REG0, SystemIO, 0x80, 0x10),

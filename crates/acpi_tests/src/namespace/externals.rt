@@ -1,4 +1,5 @@
-// Names that tables declare as others' methods, and names that are found once all tables are loaded.
+// Names that tables declare as others' methods, and names that are found once all tables are
+// loaded.
 
 use super::{dsdt_of, ssdt_of};
 use acpi_samples::HOST;
@@ -9,12 +10,12 @@ use std::alloc::{AllocError, Global};
 use std::test::Fail;
 
 /// External (FOO1, MethodObj, 2), External (FOO1, MethodObj, 1), External (BAR1, DeviceObj, 3),
-/// External (OWN1, MethodObj, 2), External (^UP01, MethodObj, 1), which is above the root,
-/// Device (DEV0) { External (FOO1, MethodObj, 1), Method (M001) { FOO1 One One } },
-/// Method (M000) { FOO1 One One }, Method (M002) { BAR1 One }, Method (M003) { \DEV0.FOO1 One One },
-/// Method (M004) { BAZ1 One One One }, Method (OWN1, 1) {}, Method (M005) { OWN1 One One },
-/// External (QUX1.SUB1, MethodObj, 1) and Device (DEV1) { External (QUX1.SUB1, MethodObj, 1),
-/// External (FOO1.SUB1, MethodObj, 1), Method (M006) { FOO1 One One }, Method (M007) { QUX1 One } }.
+/// External (OWN1, MethodObj, 2), External (^UP01, MethodObj, 1), which is above the root, Device
+/// (DEV0) { External (FOO1, MethodObj, 1), Method (M001) { FOO1 One One } }, Method (M000) { FOO1
+/// One One }, Method (M002) { BAR1 One }, Method (M003) { \DEV0.FOO1 One One }, Method (M004) {
+/// BAZ1 One One One }, Method (OWN1, 1) {}, Method (M005) { OWN1 One One }, External (QUX1.SUB1,
+/// MethodObj, 1) and Device (DEV1) { External (QUX1.SUB1, MethodObj, 1), External (FOO1.SUB1,
+/// MethodObj, 1), Method (M006) { FOO1 One One }, Method (M007) { QUX1 One } }.
 const CALLERS: &[u8] = b"\x15FOO1\x08\x02\x15FOO1\x08\x01\x15BAR1\x06\x03\
     \x15OWN1\x08\x02\x15^UP01\x08\x01\
     \x5b\x82\x19DEV0\x15FOO1\x08\x01\x14\x0cM001\x00FOO1\x01\x01\
@@ -31,9 +32,9 @@ const CALLERS: &[u8] = b"\x15FOO1\x08\x02\x15FOO1\x08\x01\x15BAR1\x06\x03\
 /// External (BAZ1, MethodObj, 3) and External (FOO1, MethodObj, 7).
 const DECLARED_LATER: &[u8] = b"\x15BAZ1\x08\x03\x15FOO1\x08\x07";
 
-/// The number of a method, and of the statements of its body: the first External of the path that is
-/// nearest to the method tells how many terms stand behind a name that no table defines. A path that
-/// only begins others that are declared tells nothing.
+/// The number of a method, and of the statements of its body: the first External of the path that
+/// is nearest to the method tells how many terms stand behind a name that no table defines. A path
+/// that only begins others that are declared tells nothing.
 const STATEMENTS: &[(usize, usize)] = &[
     (10, 2),
     (11, 1),
@@ -80,8 +81,8 @@ fn declared_counts(rt: HostRuntime) -> Result<(), Fail> {
     Ok(())
 }
 
-/// How many paths and methods the namespace of both tables has, once their Externals are counted; what wants
-/// memory is asked for again.
+/// How many paths and methods the namespace of both tables has, once their Externals are counted;
+/// what wants memory is asked for again.
 fn counted(alloc: Global, first: &[u8], second: &[u8]) -> Option<(usize, usize)> {
     let tables = [first, second];
     let mut ns = match Namespace::load(alloc, &tables, HOST) {

@@ -58,8 +58,8 @@ fn look_ups(rt: HostRuntime) -> Result<(), Fail> {
     Ok(())
 }
 
-/// Name (SAME, One), Device (AAA0) { Name (SAME, One), Device (BBB0) { Device (CCC0) {} } },
-/// Device (DDD0) { Name (SAME, One), Device (EEE0) {} }, Scope (AAA0.BBB0.CCC0) { Device (FFF0) {} },
+/// Name (SAME, One), Device (AAA0) { Name (SAME, One), Device (BBB0) { Device (CCC0) {} } }, Device
+/// (DDD0) { Name (SAME, One), Device (EEE0) {} }, Scope (AAA0.BBB0.CCC0) { Device (FFF0) {} },
 /// Scope (AAA0.BBB0) { Name (LATE, One) } and Name (LATE, One).
 const SAME_NAMES: &[u8] = b"\x08SAME\x01\
     \x5b\x82\x19AAA0\x08SAME\x01\x5b\x82\x0cBBB0\x5b\x82\x05CCC0\
@@ -119,9 +119,9 @@ const FIRST_PAIR: &[u8] = b"\x08SAME\x01\x5b\x82\x4c\x00BESD\x08SAME\x01\x5b\x82
 /// The devices alone.
 const PAIR: &[u8] = b"\x5b\x82\x4c\x00BESD\x08SAME\x01\x5b\x82\x46\x00DEEP";
 
-/// Name (SAME, One), so many devices DEEP, each within the one before and behind a device BESD that has
-/// a SAME of its own, and Alias (SAME, LAST) within the last. Each BESD is made before the DEEP beside
-/// it, and so goes on the chain of the DEEP in which both are.
+/// Name (SAME, One), so many devices DEEP, each within the one before and behind a device BESD that
+/// has a SAME of its own, and Alias (SAME, LAST) within the last. Each BESD is made before the DEEP
+/// beside it, and so goes on the chain of the DEEP in which both are.
 fn devices_beside(alloc: Global, count: u8) -> Result<Vec<u8>, AllocError> {
     let mut module = FIRST_PAIR.to_vec(alloc)?;
     for depth in 1..=count {
@@ -187,8 +187,8 @@ fn past_chains(rt: HostRuntime) -> Result<(), Fail> {
     Ok(())
 }
 
-/// Method (\M001, 1) {}, Device (DEV0) { Method (MTH2, 2) { ^XXX1 (Arg0), XXX1 (Arg0), ^M001,
-/// M001 (Arg0) }, Method (XXX1, 1) {} } and Method (M002) { M001 (Arg0), ^M001 (Arg1), \M001 (Arg2),
+/// Method (\M001, 1) {}, Device (DEV0) { Method (MTH2, 2) { ^XXX1 (Arg0), XXX1 (Arg0), ^M001, M001
+/// (Arg0) }, Method (XXX1, 1) {} } and Method (M002) { M001 (Arg0), ^M001 (Arg1), \M001 (Arg2),
 /// \DEV0.MTH2 (Arg0, Arg1), DEV0.MTH2, MTH2, XXXX, ^^M001, Arg3 }.
 const CALLS: &[u8] = b"\x14\x07\\M001\x01\
     \x5b\x82\x28DEV0\x14\x1bMTH2\x02^XXX1\x68XXX1\x68^M001M001\x68\x14\x06XXX1\x01\

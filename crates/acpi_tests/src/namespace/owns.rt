@@ -10,12 +10,12 @@ use aml_tree::TreeFault;
 use std::alloc::{AllocError, Global};
 use std::test::Fail;
 
-/// Name (NAM0, Zero), Name (BUF0, Buffer (8) {}) and Device (DEV0) { Method (MTH0) { NAM0,
-/// Name (NAM0, One), NAM0 twice, the second spelled as a list of one, \NAM0, ^NAM0, DEV0.NAM0, BYT0,
-/// CreateByteField (BUF0, 0, BYT0), BYT0, If (One) { Name (INN0, One), INN0, NAM0 }, INN0,
-/// Name (NAM0, Zero), NAM0, CreateBitField (BUF0, 0, BIT0), CreateWordField (BUF0, 0, WRD0),
-/// CreateDWordField (BUF0, 0, DWD0), CreateQWordField (BUF0, 0, QWD0), CreateField (BUF0, 0, 1, FLD0),
-/// Name (\NAM1, One), NAM1, Package (2) { NAM0, BYT0 }, FLD0, QWD0, BUF0 } }.
+/// Name (NAM0, Zero), Name (BUF0, Buffer (8) {}) and Device (DEV0) { Method (MTH0) { NAM0, Name
+/// (NAM0, One), NAM0 twice, the second spelled as a list of one, \NAM0, ^NAM0, DEV0.NAM0, BYT0,
+/// CreateByteField (BUF0, 0, BYT0), BYT0, If (One) { Name (INN0, One), INN0, NAM0 }, INN0, Name
+/// (NAM0, Zero), NAM0, CreateBitField (BUF0, 0, BIT0), CreateWordField (BUF0, 0, WRD0),
+/// CreateDWordField (BUF0, 0, DWD0), CreateQWordField (BUF0, 0, QWD0), CreateField (BUF0, 0, 1,
+/// FLD0), Name (\NAM1, One), NAM1, Package (2) { NAM0, BYT0 }, FLD0, QWD0, BUF0 } }.
 const OWNS: &[u8] = b"\x08NAM0\x00\x08BUF0\x11\x03\x0a\x08\
     \x5b\x82\x4c\x0bDEV0\x14\x45\x0bMTH0\x00\
     NAM0\x08NAM0\x01NAM0\x2f\x01NAM0\\NAM0^NAM0\x2eDEV0NAM0BYT0\
@@ -116,8 +116,8 @@ fn other_element(ns: &Namespace<'_>, table: &[u8]) -> Option<usize> {
     None
 }
 
-/// Whether the method's own names are those that were worked out, and the first places whose names mean
-/// something else.
+/// Whether the method's own names are those that were worked out, and the first places whose names
+/// mean something else.
 fn owns_and_others(alloc: Global) -> Result<(bool, Option<usize>, Option<usize>), LoadFault> {
     let table = match dsdt_of(alloc, OWNS) {
         Ok(table) => table,

@@ -13,11 +13,14 @@ use std::test::Fail;
 /// Name (BUF1, Buffer (1) { 1, 2, 3 }), Name (VPK1, Package (2) {}) as a VarPackage, and
 /// Device (DEV0) {
 /// OperationRegion (REG1, SystemMemory, Add (One, One), One),
-/// Field (REG1, AnyAcc, NoLock, Preserve) { FLD2, 1, AccessAs (WordAcc), FLD3, 2, Connection (CON1),
+/// Field (REG1, AnyAcc, NoLock, Preserve) { FLD2, 1, AccessAs (WordAcc), FLD3, 2,
+/// Connection (CON1),
 /// FLD4, 3, an extended AccessAs (ByteAcc), FLD5, 4 },
-/// CreateBitField (BUF1, 9, BIT1), CreateWordField (BUF1, 0, WRD1), CreateDWordField (BUF1, 1, DWD1),
+/// CreateBitField (BUF1, 9, BIT1), CreateWordField (BUF1, 0, WRD1),
+/// CreateDWordField (BUF1, 1, DWD1),
 /// CreateQWordField (BUF1, 0, QWD1), DataTableRegion (DTR1, "", "", ""),
-/// BankField (REG1, FLD2, Add (One, One), AnyAcc, NoLock, 3) { BNK1, 1 }, Scope (\) { Event (EVT1) } },
+/// BankField (REG1, FLD2, Add (One, One), AnyAcc, NoLock, 3) { BNK1, 1 },
+/// Scope (\) { Event (EVT1) } },
 /// ThermalZone (TZ01) { Name (INN0, One) }, PowerResource (PWR1, 0, 0) { Name (INN0, One) } and
 /// Processor (CPU1, 0, 0, 0) { Name (INN0, One) }.
 const WITHIN: &[u8] = b"\x08BUF1\x11\x06\x0a\x01\x01\x02\x03\x08VPK1\x13\x03\x0a\x02\
@@ -71,8 +74,8 @@ fn within_device(at: usize, object: usize) -> Reference {
 /// What an object of a row is.
 #[derive(Clone, Copy)]
 enum Made {
-    /// A field of the region, by its first bit, its number of bits and its access type; whether it is
-    /// connected.
+    /// A field of the region, by its first bit, its number of bits and its access type; whether it
+    /// is connected.
     Field(u64, u64, AccessType, bool),
     /// A field of the region's bank.
     Banked,

@@ -10,12 +10,13 @@ ghost use Rattle.aml_machine.specs.Views.{now};
 ghost use Rattle.aml_scene.specs.Letters.{branch, test_and_statements};
 ghost use Rattle.aml_scene.specs.Tells.{went};
 ghost use Rattle.aml_places.specs.Lies.{LieAll, LieLoop, StandParts, Stands};
-ghost use Rattle.aml_direct.specs.Tells.{Acts, Chooses, StandElse, StandLoop, count_of, setting_of, tested};
+ghost use Rattle.aml_quick.specs.Settings.{count_of, setting_of};
+ghost use Rattle.aml_direct.specs.Tells.{Acts, Chooses, StandElse, StandLoop, tested};
 
 use crate::eval::terms::{run, test};
-use crate::here::Here;
 use aml_machine::Machine;
 use aml_places::{has_else, package, past_else};
+use aml_quick::Here;
 use aml_regions::World;
 use aml_scene::halt::Halt;
 use aml_values::Value;

@@ -67,8 +67,8 @@ fn rows(rt: HostRuntime) -> Result<(), Fail> {
                 (Op::Local0, 14, 15, 0),
             ],
         ),
-        // While (Local0) { If (LNot (Arg1)) { Continue } Store (MTH2 (..), Local1) Break }, where the
-        // arguments are MTH0 () and MTH7 (Zero, One, Ones, Local0, Local1, Arg0, 5).
+        // While (Local0) { If (LNot (Arg1)) { Continue } Store (MTH2 (..), Local1) Break }, where
+        // the arguments are MTH0 () and MTH7 (Zero, One, Ones, Local0, Local1, Arg0, 5).
         (
             &[
                 0xA2, 0x1E, 0x60, 0xA0, 0x04, 0x92, 0x69, 0x9F, 0x70, b'M', b'T', b'H', b'2', b'M',
@@ -101,8 +101,9 @@ fn rows(rt: HostRuntime) -> Result<(), Fail> {
                 (Op::Break, 30, 31, 0),
             ],
         ),
-        // Before Name (ABC2, Zero) the name takes 2 arguments, behind it none, and `\ABC2` takes 2 still.
-        // CreateDWordField (Local0, Zero, DEF1) makes DEF1 an own name too, here spelled with a count.
+        // Before Name (ABC2, Zero) the name takes 2 arguments, behind it none, and `\ABC2` takes 2
+        // still. CreateDWordField (Local0, Zero, DEF1) makes DEF1 an own name too, here spelled
+        // with a count.
         (
             &[
                 b'A', b'B', b'C', b'2', 0x01, 0x01, 0x08, b'A', b'B', b'C', b'2', 0x00, b'A', b'B',
@@ -131,8 +132,8 @@ fn rows(rt: HostRuntime) -> Result<(), Fail> {
                 (Op::NameString, 30, 36, 0),
             ],
         ),
-        // If (One) { Name (ABC1, Zero) } makes no own name, CreateField (Local0, Zero, One, GHI1) makes
-        // one, and `^GHI1` is none. Name (ABC1, Revision) may stand in a body alone.
+        // If (One) { Name (ABC1, Zero) } makes no own name, CreateField (Local0, Zero, One, GHI1)
+        // makes one, and `^GHI1` is none. Name (ABC1, Revision) may stand in a body alone.
         (
             &[
                 0xA0, 0x08, 0x01, 0x08, b'A', b'B', b'C', b'1', 0x00, b'A', b'B', b'C', b'1', 0x01,

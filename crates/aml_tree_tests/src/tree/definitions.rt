@@ -7,7 +7,8 @@ use std::test::Fail;
 #[test]
 fn rows(rt: HostRuntime) -> Result<(), Fail> {
     let rows: &[(&[u8], &[Part])] = &[
-        // Scope (\_SB_) with a Device, a ThermalZone, a PowerResource with an Event, and a Processor.
+        // Scope (\_SB_) with a Device, a ThermalZone, a PowerResource with an Event, and a
+        // Processor.
         (
             &[
                 0x10, 0x31, 0x5C, b'_', b'S', b'B', b'_', 0x5B, 0x82, 0x05, b'D', b'E', b'V', b'0',

@@ -1,5 +1,5 @@
-// Tables that end within their header, which a load refuses before, and laws. Faults of modules and bodies are told by
-// the rows of crates/acpicheck/rows.
+// Tables that end within their header, which a load refuses before, and laws. Faults of modules and
+// bodies are told by the rows of crates/acpicheck/rows.
 
 use super::bodies::TABLE;
 use aml_lex::LexCause;

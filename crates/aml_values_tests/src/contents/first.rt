@@ -1,5 +1,6 @@
-// Which names belong to a namespace, each row worked out by hand from the definitions of Name, Buffer and
-// Package (ACPI 6.5, 19.6). What names hold first is told by the rows of crates/acpicheck/rows.
+// Which names belong to a namespace, each row worked out by hand from the definitions of Name,
+// Buffer and Package (ACPI 6.5, 19.6). What names hold first is told by the rows of
+// crates/acpicheck/rows.
 
 use acpi_samples::{HOST, table_of};
 use aml_contents::Names;
@@ -112,7 +113,8 @@ const OTHERS: &[OtherRow] = &[
         ],
         true,
     ),
-    // In the inner package: a longer string, a buffer, a value in place of the name, an element less.
+    // In the inner package: a longer string, a buffer, a value in place of the name, an element
+    // less.
     (
         NESTED,
         &[
@@ -241,7 +243,8 @@ fn packages_belong_by_their_elements(rt: HostRuntime) -> Result<(), Fail> {
     Ok(())
 }
 
-/// Name (INT0, One), Device (DEV0) {Name (INT0, Zero), Name (PKG0, Package (3) {INT0, \INT0, ^INT0})}.
+/// Name (INT0, One), Device (DEV0) {Name (INT0, Zero), Name (PKG0, Package (3) {INT0, \INT0,
+/// ^INT0})}.
 const IN_DEVICE: &[u8] =
     b"\x08INT0\x01\x5b\x82\x21DEV0\x08INT0\0\x08PKG0\x12\x10\x03INT0\\INT0^INT0";
 

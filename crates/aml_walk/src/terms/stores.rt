@@ -74,7 +74,8 @@ fn store_byte<A: Around>(
 ) -> Result<(), Stop>
     ensures { Judges (A.numbered here.now) (λ lists u. u)
         (judged_stored (A.around here.now) does.Index
-        at (views parts.now) (kind_of (A.numbered here.now) kind)) progress.old progress.new result }
+        at (views parts.now)
+        (kind_of (A.numbered here.now) kind)) progress.old progress.new result }
 {
     let [of, index, own] = parts else {
         return Err(stop(here, Cause::OutsideProfile, at));

@@ -4,7 +4,8 @@ use Rattle.aml_own_names.specs.OwnNamesSeen.{owns_seen}
 use Rattle.aml_namespace.specs.Shows.{shown}
 use Rattle.aml_bodies.proofs.Around.{around_there}
 use Rattle.aml_bodies.proofs.Methods.{there}
-use Rattle.aml_direct.proofs.Bodies.{body_lies, body_there, evaluates_there}
+use Rattle.aml_direct.proofs.Bodies.{evaluates_there}
+use Rattle.aml_quick.proofs.Bodies.{body_lies, body_there}
 use Rattle.aml_direct.proofs.body.evaluate_direct.Goals as goal
 
 pub unreachable-requires : goal.unreachable-requires

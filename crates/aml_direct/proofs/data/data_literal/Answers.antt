@@ -2,7 +2,7 @@ use Rattle.std.proofs.Common.{◌∙◌, sym}
 use Rattle.aml_operators.specs.Tree.{trees}
 use Rattle.std.proofs.lemmas.Result.{err_from_is_err_and}
 use Rattle.aml_meaning.proofs.Runs.{runs_give, runs_no_memory, runs_stop_with}
-use Rattle.aml_direct.specs.Tells.{count_of}
+use Rattle.aml_quick.specs.Settings.{count_of}
 use Rattle.aml_direct.proofs.Simple.{data_row, parts_there}
 use Rattle.aml_direct.proofs.Sizes.{none_anywhere}
 use Rattle.aml_direct.proofs.data.data_literal.Goals as goal

@@ -2,7 +2,7 @@ use Rattle.std.proofs.Common.{◌∙◌, sym}
 use Rattle.aml_namespace.specs.Shows.{shown}
 use Rattle.aml_scene.specs.Tells.{link_in}
 use Rattle.aml_places.proofs.Inversion.{called}
-use Rattle.aml_direct.specs.Tells.{count_of, setting_of}
+use Rattle.aml_quick.specs.Settings.{count_of, setting_of}
 use Rattle.aml_direct.proofs.Calls.{is_read}
 use Rattle.aml_direct.proofs.Fields.{data_takes, found_none, found_some, source_coded, source_named, source_other}
 use Rattle.aml_direct.proofs.define.behind_source.Goals as goal

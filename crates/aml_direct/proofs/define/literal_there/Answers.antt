@@ -2,7 +2,7 @@ use Rattle.std.proofs.Common.{◌∙◌, sym, ap}
 use Rattle.aml_operators.specs.Literal.{literal_of}
 use Rattle.aml_operators.specs.Tree.{stop_of}
 use Rattle.aml_places.proofs.Inversion.{form}
-use Rattle.aml_direct.specs.Tells.{count_of}
+use Rattle.aml_quick.specs.Settings.{count_of}
 use Rattle.aml_direct.proofs.Fields.{literal_itself, named_number, other_number, parts_there}
 use Rattle.aml_direct.proofs.define.literal_there.Goals as goal
 

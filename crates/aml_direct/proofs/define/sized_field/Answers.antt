@@ -8,7 +8,7 @@ use Rattle.aml_meaning.specs.Definitions.{makes_own}
 use Rattle.aml_meaning.proofs.Runs.{runs_stop, runs_then}
 use Rattle.aml_bodies.proofs.Around.{around_there}
 use Rattle.aml_places.proofs.Parts.{sized_field}
-use Rattle.aml_direct.specs.Tells.{calls_of, count_of, setting_of}
+use Rattle.aml_quick.specs.Settings.{calls_of, count_of, setting_of}
 use Rattle.aml_direct.proofs.Calls.{is_read}
 use Rattle.aml_direct.proofs.Fields.{make_counted, no_index, not_own, sized_is, sized_stops, term_behind}
 use Rattle.aml_direct.proofs.define.sized_field.Goals as goal

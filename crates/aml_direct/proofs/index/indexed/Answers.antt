@@ -2,7 +2,7 @@ use Rattle.std.proofs.Common.{sym, ◌∙◌}
 use Rattle.aml_operators.specs.Tree.{trees}
 use Rattle.aml_places.proofs.Inversion.{called, form, standing_code}
 use Rattle.aml_scene.proofs.Written.{indexed_elsewhere}
-use Rattle.aml_direct.specs.Tells.{calls_of, count_of, setting_of}
+use Rattle.aml_quick.specs.Settings.{calls_of, count_of, setting_of}
 use Rattle.aml_direct.proofs.Simple.{indexed_into}
 use Rattle.aml_direct.proofs.Terms.{invocation_has_none, name_has_none}
 use Rattle.aml_direct.proofs.index.indexed.Goals as goal

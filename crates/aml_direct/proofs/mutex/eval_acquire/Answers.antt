@@ -4,7 +4,7 @@ use Rattle.aml_operators.specs.declared.row.NumberSize.TheVariants.{Word}
 use Rattle.aml_operators.specs.Tree.{stop_of}
 use Rattle.aml_places.proofs.Parts.{name_and_number}
 use Rattle.aml_places.proofs.Spots.{name_is_target}
-use Rattle.aml_direct.specs.Tells.{calls_of, count_of, setting_of}
+use Rattle.aml_quick.specs.Settings.{calls_of, count_of, setting_of}
 use Rattle.aml_direct.proofs.Leaves.{IsLeaf, acquired_leaf, leaf_letters, leaf_stops, target_there, word_ends}
 use Rattle.aml_direct.proofs.mutex.eval_acquire.Goals as goal
 

@@ -2,7 +2,7 @@ use Rattle.std.proofs.Common.{◌∙◌, sym, ap, subst}
 use Rattle.std.proofs.lemmas.Result.{err_from_is_err_and}
 use Rattle.aml_places.proofs.Parts.{one_name}
 use Rattle.aml_places.proofs.Spots.{name_is_target}
-use Rattle.aml_direct.specs.Tells.{calls_of, count_of, setting_of}
+use Rattle.aml_quick.specs.Settings.{calls_of, count_of, setting_of}
 use Rattle.aml_direct.proofs.Leaves.{IsLeaf, leaf_letters, leaf_stops, released_leaf, target_there}
 use Rattle.aml_direct.proofs.mutex.eval_release.Goals as goal
 

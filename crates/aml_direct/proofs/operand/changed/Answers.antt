@@ -3,7 +3,7 @@ use Rattle.std.proofs.Common.{arith}
 use Rattle.aml_operators.specs.declared.row.Spot.TheVariants as spot
 use Rattle.aml_places.proofs.Inversion.{starts}
 use Rattle.aml_acts.proofs.Statements.{on_ok}
-use Rattle.aml_direct.specs.Tells.{calls_of, count_of, setting_of}
+use Rattle.aml_quick.specs.Settings.{calls_of, count_of, setting_of}
 use Rattle.aml_direct.proofs.Leaves.{behind_of}
 use Rattle.aml_direct.proofs.Terms.{value_ends, value_goes, value_stops}
 use Rattle.aml_direct.proofs.operand.changed.Goals as goal

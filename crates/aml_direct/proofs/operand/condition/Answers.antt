@@ -6,7 +6,7 @@ use Rattle.aml_meaning.specs.Actions.{action}
 use Rattle.aml_meaning.proofs.Runs.{runs_stop_with}
 use Rattle.aml_places.proofs.Parts.{name_and_target}
 use Rattle.aml_places.proofs.Spots.{name_is_target}
-use Rattle.aml_direct.specs.Tells.{calls_of, count_of, setting_of}
+use Rattle.aml_quick.specs.Settings.{calls_of, count_of, setting_of}
 use Rattle.aml_direct.proofs.Operands.{later_target}
 use Rattle.aml_direct.proofs.Leaves.{IsLeaf, asked_alone, condition_outside, leaf_letters, leaf_stops, no_target_letters, target_there}
 use Rattle.aml_direct.proofs.operand.condition.Goals as goal

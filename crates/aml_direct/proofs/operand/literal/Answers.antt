@@ -1,6 +1,6 @@
 use Rattle.std.proofs.Common.{sym}
 use Rattle.aml_meaning.proofs.Runs.{runs_give}
-use Rattle.aml_direct.specs.Tells.{count_of}
+use Rattle.aml_quick.specs.Settings.{count_of}
 use Rattle.aml_direct.proofs.Simple.{literal_row, parts_there}
 use Rattle.aml_direct.proofs.operand.literal.Goals as goal
 

@@ -21,7 +21,7 @@ use Rattle.aml_operators.specs.declared.row.Spot.TheVariants as spot
 use Rattle.aml_places.specs.Lies.{Lies, LieArguments, LieParts, StandParts, Stands}
 use Rattle.aml_places.proofs.Inversion.{ends_within}
 use Rattle.aml_places.proofs.Past.{PieceLies, behind_branch, behind_piece, behind_size, bits_piece, bits_piece_ends, bits_there, branch_stands, connection_begins, connection_buffer, connection_name, argued, first_argument, first_piece, first_size, in_branch, in_length, in_package, last_argument, name_alone_ends, name_piece, name_piece_ends, name_stands, next_arguments, not_err, number_piece_ends, ok_as, package_stands, passed, piece_ends, piece_within, size_ends, text_piece, text_piece_ends, text_there}
-use Rattle.aml_direct.specs.Tells.{count_of}
+use Rattle.aml_quick.specs.Settings.{count_of}
 use Rattle.aml_direct.proofs.past.+past.Goals as goal
 
 -- a name that means something takes as many terms as that does

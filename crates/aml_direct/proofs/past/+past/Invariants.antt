@@ -1,7 +1,7 @@
 use Rattle.std.proofs.Common.{◌≡◌, ◌≤◌, ◌<◌, length, drop, ℕ, ◌+◌, ◌-◌, ◌*◌, List}
 use Rattle.aml_operators.specs.Tree.{Tree}
 use Rattle.aml_places.specs.Lies.{LieArguments}
-use Rattle.aml_direct.specs.Tells.{count_of}
+use Rattle.aml_quick.specs.Settings.{count_of}
 use Rattle.aml_direct.proofs.past.+past.Given as goal
 
 abbrev pub decreases-past : goal.decreases-past

@@ -5,7 +5,7 @@ use Rattle.aml_namespace.specs.Shows.{shown}
 use Rattle.aml_operators.specs.Tree.{view}
 use Rattle.aml_bodies.proofs.Preparing.{prepared_is, prepared_shaped}
 use Rattle.aml_bodies.proofs.Methods.{there}
-use Rattle.aml_acts.proofs.Bodies.{stands}
+use Rattle.aml_scene.proofs.Bodies.{stands}
 use Rattle.aml_scene.proofs.Outcomes.{unread}
 use Rattle.aml_plain.proofs.method.evaluate_tree.Goals as goal
 
