@@ -1,5 +1,7 @@
 # WORDS of the program, as make try WORDS="names my.dat".
 WORDS =
+# The toolchain's rt, which reads each library once where some kits read it once for each chain that leads to it.
+RT = python3 $(CURDIR)/bench/kit.py
 
 .PHONY: try run test cases rows growths edits hostile accepted bench loops stack check fmt
 
@@ -10,7 +12,7 @@ try:
 
 # Builds acpicheck, proofs included, and evaluates the method of the stored run.
 run:
-	@cd crates/acpicheck && rt run < stdin
+	@cd crates/acpicheck && $(RT) run < stdin
 
 # The crates whose must-fail edits the gate tries: those of which each edit was judged by the script as it stands. The
 # edits of the other crates are tried by make edits.
@@ -22,7 +24,7 @@ EDITED = acpi_resources acpi_sources acpi_tables acpi_verdicts acpi_words aml_bo
 # line counts all.
 test:
 	@python3 bench/edits.py clear
-	@rt ci | python3 bench/cases.py after | python3 bench/edits.py after $(EDITED)
+	@$(RT) ci | python3 bench/cases.py after | python3 bench/edits.py after $(EDITED)
 
 # The built program over its stored cases and rows.
 cases:
@@ -62,7 +64,7 @@ stack:
 
 # Every crate, over what earlier checks kept.
 check:
-	rt all check
+	$(RT) all check
 
 fmt:
 	for crate in crates/*/; do (cd $$crate && rt fmt) || exit 1; done

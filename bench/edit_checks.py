@@ -10,10 +10,12 @@ import shlex
 import shutil
 import signal
 import subprocess
+import sys
 import threading
 
 import edit_texts
 
+HERE = os.path.dirname(os.path.abspath(__file__))
 PARTS = ("src", "specs", "proofs")
 TOLD = re.compile(r"(?:fn|cycle) (\S+): (.*)")
 AT = re.compile(r"(?:note: )?(?:\./)?((?:src|specs|proofs)/\S+?):(\d+):\d+: (.*)")
@@ -121,8 +123,9 @@ class Said:
 class Room:
     """A folder in which one crate is checked with edits laid in."""
 
-    def __init__(self, top, room, crate, crates, after_gate, jobs):
+    def __init__(self, top, room, crate, crates, after_gate, jobs, prefix=()):
         self.top, self.room, self.crate, self.jobs, self.kit = top, room, crate, jobs, kit()
+        self.prefix = [*prefix, *shlex.split(os.environ.get("EDITS_PREFIX", ""))]
         self.crates, self.seconds, self.checks, self.most = crates, 0.0, 0, 0
         self.folder = f"{room}/crates/{crate}"
         self.sources = edit_texts.Sources(top, crate)
@@ -155,7 +158,7 @@ class Room:
         """Has rt build the libraries below, where the gate has not, and returns what it said if it could not."""
         if self.home == self.top:
             return ""
-        status, text = self.run(["rt", "check", "--only", ""])
+        status, text = self.run([sys.executable, f"{HERE}/kit.py", "check", "--only", ""])
         return text[-600:] or "it failed" if status else ""
 
     def words(self):
@@ -175,7 +178,7 @@ class Room:
 
     def run(self, words, proves=True):
         """Runs a command in the crate's folder, and counts its processor time."""
-        words = [*(shlex.split(os.environ.get("EDITS_PREFIX", "")) if proves else []), *words]
+        words = [*(self.prefix if proves else []), *words]
         how = {"stdin": subprocess.DEVNULL, "stdout": subprocess.PIPE, "stderr": subprocess.STDOUT}
         ran = subprocess.Popen(words, cwd=self.folder, text=True, errors="replace", **how)
         text = []

@@ -16,16 +16,20 @@ end alone reads all of them first), and where it fell only by a name that went, 
 What was refused is kept, in the folder acpicheck-edits of $XDG_CACHE_HOME or else in /var/tmp, by a checksum of all that
 it stands on: the toolchain, the crate and those below, the edit and these scripts. With the word `after` the lines of
 what ran before are read from standard input and printed, the last line counts its checks too, and libraries that the
-gate has just built are used; crates that are named are tried, or else all. Nothing in the work tree changes. With the word `clear` the libraries that an earlier gate
-left are removed, so that those that are found later are of the gate that ran in between.
+gate has just built are used; crates that are named are tried, or else all. As soon as a line says that a crate is
+proved, its edits are tried on what processors the gate leaves idle, and those of the rest when it has ended. Nothing in
+the work tree changes. With the word `clear` the libraries that an earlier gate left are removed, so that those that are
+found later are of the gate that ran in between.
 """
 import concurrent.futures
+import glob
 import os
 import re
 import shutil
 import subprocess
 import sys
 import tempfile
+import threading
 
 import edit_checks
 import edit_kept
@@ -34,6 +38,7 @@ from edit_checks import PROVED, REFUSED, UNSURE
 
 TOP = os.path.dirname(os.path.dirname(os.path.abspath(__file__)))
 COUNTS = re.compile(r"(\d+) passed, (\d+) failed\n?")
+IS_PROVED = re.compile(r"rt: (\w+) proved\n?")
 # How often an edit goes into a check with others before it is tried alone.
 MOST = 3
 
@@ -179,7 +184,7 @@ def lanes(count):
     return at_once, int(jobs) if jobs.isdigit() else max(1, min(4, cores // at_once))
 
 
-def tried(top, crates, crate, only, kept, after_gate, jobs):
+def tried(top, crates, crate, only, kept, after_gate, jobs, prefix=()):
     """Tries a crate's edits, and returns what to print, and how many passed and failed."""
     told, passed, failed, edits = [], 0, 0, []
     for file in edit_texts.edit_files(top, crate):
@@ -205,7 +210,7 @@ def tried(top, crates, crate, only, kept, after_gate, jobs):
     if not edits:
         return told, passed, failed
     with tempfile.TemporaryDirectory(prefix="edits-") as place:
-        room = edit_checks.Room(top, place, crate, crates, after_gate, jobs)
+        room = edit_checks.Room(top, place, crate, crates, after_gate, jobs, prefix)
         why = room.build_below()
         if why:
             told.append(f"edits of {crate}: NOT TRIED: the crate as it stands is not read, or a library below it is not built: {why}")
@@ -223,21 +228,47 @@ def tried(top, crates, crate, only, kept, after_gate, jobs):
     return told, passed, failed
 
 
-def counts_of(lines):
-    """Prints the lines of what ran before, and returns how many passed and failed."""
-    last = ""
+class Runs:
+    """The crates whose edits are tried, each once, and how many edits passed and failed."""
+
+    def __init__(self, try_crate):
+        self.try_crate, self.lock, self.begun = try_crate, threading.Lock(), set()
+        self.passed = self.failed = 0
+
+    def one(self, crate, jobs, prefix=(), least=0):
+        """Tries a crate's edits and prints what was found, unless less memory is free or they were tried already."""
+        with self.lock:
+            if crate in self.begun or free_memory() < least:
+                return
+            self.begun.add(crate)
+        try:
+            told, right, wrong = self.try_crate(crate, jobs, prefix)
+        except (OSError, ValueError, KeyError, IndexError, subprocess.SubprocessError, shutil.Error) as why:
+            told, right, wrong = [f"edits of {crate}: NOT TRIED: {why!r}"], 0, 1
+        with self.lock:
+            print("\n".join(told), flush=True)
+            self.passed, self.failed = self.passed + right, self.failed + wrong
+
+
+def can_begin_early(top):
+    """Whether what a gate builds stays: in a checkout where checks kept something, the gate gives that back as it ends."""
+    aside = f"{top}/.git/rt-aside"
+    return os.path.isdir(aside) and not glob.glob(f"{aside}/*/rlib") and not glob.glob(f"{aside}/*/incremental")
+
+
+def counts_of(lines, top, chosen, runs):
+    """Prints the lines of what ran before, and returns how many passed and failed. Each crate's edits are tried as it is
+    proved, on half of the processors, behind all else that runs there; those that go on are returned too."""
+    last, begun = "", []
+    pool = concurrent.futures.ThreadPoolExecutor(max(1, len(os.sched_getaffinity(0)) // 2))
     for last in lines:
         print(last, end="", flush=True)
+        proved = IS_PROVED.fullmatch(last)
+        if proved and proved[1] in chosen and can_begin_early(top):
+            begun.append(pool.submit(runs.one, proved[1], 1, ("nice", "-n", "19"), 6_000_000_000))
+    pool.shutdown(wait=False, cancel_futures=True)
     counts = COUNTS.fullmatch(last)
-    return (int(counts[1]), int(counts[2])) if counts else (0, 1)
-
-
-def clear(top):
-    """Removes the libraries that an earlier gate left, which have no stamp and serve no other command."""
-    for crate in edit_texts.crates_of(top):
-        out = f"{top}/crates/{crate}/out/rlib"
-        if os.path.isdir(out) and not os.path.exists(f"{out}/stamp"):
-            shutil.rmtree(out)
+    return (int(counts[1]), int(counts[2])) if counts else (0, 1), [it for it in begun if not it.cancelled()]
 
 
 def main(words, top=TOP, kept=None):
@@ -251,15 +282,17 @@ def main(words, top=TOP, kept=None):
     if not after and len(words) > 2 or not set(wanted) <= set(crates):
         print(__doc__, end="", file=sys.stderr)
         return 2
-    passed, failed = counts_of(sys.stdin) if after else (0, 0)
-    if failed:
-        print("edits: not tried, since what ran before failed")
-        print(f"{passed} passed, {failed} failed")
-        return 1
     chosen = [it for it in crates if (not wanted or it in wanted) and edit_texts.edit_files(top, it)]
     kept = None if only_edit else kept or edit_kept.Kept(top, crates)
+    runs = Runs(lambda crate, jobs, prefix: tried(top, crates, crate, only_edit, kept, after, jobs, prefix))
+    (passed, failed), early = counts_of(sys.stdin, top, chosen, runs) if after else ((0, 0), [])
+    before = passed + failed
+    if failed:
+        concurrent.futures.wait(early)
+        print("edits: no more are tried, since what ran before failed")
+        print(f"{passed + runs.passed} passed, {failed + runs.failed} failed")
+        return 1
     at_once, jobs = lanes(len(chosen) or 1)
-    begun = passed + failed
     if after:
         import edits_test
 
@@ -268,16 +301,11 @@ def main(words, top=TOP, kept=None):
         passed, failed = passed + (not found), failed + bool(found)
     with concurrent.futures.ThreadPoolExecutor(at_once) as pool:
         # those with the most edits first
-        order = sorted(chosen, key=lambda it: -len(edit_texts.edit_files(top, it)))
-        runs = [pool.submit(tried, top, crates, it, only_edit, kept, after, jobs) for it in order]
-        for ran in concurrent.futures.as_completed(runs):
-            try:
-                told, right, wrong = ran.result()
-            except (OSError, ValueError, KeyError, IndexError, subprocess.SubprocessError, shutil.Error) as why:
-                told, right, wrong = [f"edits: NOT TRIED: {why!r}"], 0, 1
-            print("\n".join(told), flush=True)
-            passed, failed = passed + right, failed + wrong
-    if begun == passed + failed:
+        for it in sorted(chosen, key=lambda it: -len(edit_texts.edit_files(top, it))):
+            pool.submit(runs.one, it, jobs)
+    concurrent.futures.wait(early)
+    passed, failed = passed + runs.passed, failed + runs.failed
+    if before == passed + failed:
         print("edits: there is none")
         failed += 1
     print(f"{passed} passed, {failed} failed")

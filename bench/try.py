@@ -49,7 +49,7 @@ def flags_of(data):
 
 
 def rt_try(words, **more):
-    return subprocess.run(["rt", "try", *words], cwd=f"{TOP}/crates/acpicheck", **more)
+    return subprocess.run([sys.executable, f"{TOP}/bench/kit.py", "try", *words], cwd=f"{TOP}/crates/acpicheck", **more)
 
 
 def try_words(words):
