@@ -40,11 +40,16 @@ def crates_of(top):
 
 def below(crates, crate):
     """The crates of the repository that a crate stands on, each after those that it uses."""
-    found = []
-    for dep in crates[crate]:
-        if dep in crates:
-            found += [it for it in [*below(crates, dep), dep] if it not in found]
-    return found
+    found = {}
+
+    def visit(name):
+        for dep in crates[name]:
+            if dep in crates and dep not in found:
+                visit(dep)
+                found[dep] = None
+
+    visit(crate)
+    return list(found)
 
 
 def edit_files(top, crate):

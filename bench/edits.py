@@ -2,7 +2,7 @@
 """Tries the must-fail edits of each crate, many in one check: edits.py [CRATE [EDIT]].
 
     python3 bench/edits.py [CRATE [EDIT]]
-    rt ci | python3 bench/edits.py after [CRATE ..]
+    rt ci | python3 bench/edits.py after [MINUTES] [CRATE ..]
 
 An edit, `crates/NAME/must-fail/*.edit` or `crates/NAME/edits/*.edit`, turns the meaning of a function, and the check
 must refuse it. Edits of different functions are laid in together, and one check says of each function which goals of
@@ -17,8 +17,9 @@ What was refused is kept, in the folder acpicheck-edits of $XDG_CACHE_HOME or el
 it stands on: the toolchain, the crate and those below, the edit and these scripts. With the word `after` the lines of
 what ran before are read from standard input and printed, the last line counts its checks too, and libraries that the
 gate has just built are used; crates that are named are tried, or else all. As soon as a line says that a crate is
-proved, its edits are tried on what processors the gate leaves idle, and those of the rest when it has ended. Nothing in
-the work tree changes. With the word `clear` the libraries that an earlier gate left are removed, so that those that are
+proved, its edits are tried on what processors the gate leaves idle, and those of the rest when it has ended. MINUTES
+behind the start no other crate is begun, and what was not is told: on a slow machine the gate ends all the same, and
+the next one there goes on from what is kept. Nothing in the work tree changes. With the word `clear` the libraries that an earlier gate left are removed, so that those that are
 found later are of the gate that ran in between.
 """
 import concurrent.futures
@@ -30,6 +31,7 @@ import subprocess
 import sys
 import tempfile
 import threading
+import time
 
 import edit_checks
 import edit_kept
@@ -231,9 +233,10 @@ def tried(top, crates, crate, only, kept, after_gate, jobs, prefix=()):
 class Runs:
     """The crates whose edits are tried, each once, and how many edits passed and failed."""
 
-    def __init__(self, try_crate):
+    def __init__(self, try_crate, minutes):
         self.try_crate, self.lock, self.begun = try_crate, threading.Lock(), set()
         self.passed = self.failed = 0
+        self.until = time.monotonic() + 60 * minutes
 
     def one(self, crate, jobs, prefix=(), least=0):
         """Tries a crate's edits and prints what was found, unless less memory is free or they were tried already."""
@@ -241,6 +244,9 @@ class Runs:
             if crate in self.begun or free_memory() < least:
                 return
             self.begun.add(crate)
+            if time.monotonic() > self.until:
+                print(f"edits of {crate}: not tried, as the time for them is over: make edits CRATE={crate} does", flush=True)
+                return
         try:
             told, right, wrong = self.try_crate(crate, jobs, prefix)
         except (OSError, ValueError, KeyError, IndexError, subprocess.SubprocessError, shutil.Error) as why:
@@ -277,6 +283,7 @@ def main(words, top=TOP, kept=None):
         clear(top)
         return 0
     after = words[:1] == ["after"]
+    minutes = float(words.pop(1)) if after and words[1:] and words[1].isdigit() else float("inf")
     wanted = words[1:] if after else words[:1]
     only_edit = "" if after else "".join(words[1:2])
     if not after and len(words) > 2 or not set(wanted) <= set(crates):
@@ -284,7 +291,7 @@ def main(words, top=TOP, kept=None):
         return 2
     chosen = [it for it in crates if (not wanted or it in wanted) and edit_texts.edit_files(top, it)]
     kept = None if only_edit else kept or edit_kept.Kept(top, crates)
-    runs = Runs(lambda crate, jobs, prefix: tried(top, crates, crate, only_edit, kept, after, jobs, prefix))
+    runs = Runs(lambda crate, jobs, prefix: tried(top, crates, crate, only_edit, kept, after, jobs, prefix), minutes)
     (passed, failed), early = counts_of(sys.stdin, top, chosen, runs) if after else ((0, 0), [])
     before = passed + failed
     if failed:
