@@ -21,10 +21,12 @@ use Rattle.aml_known.specs.declared.accepted.Yield.{Yield}
 use Rattle.aml_known.specs.declared.accepted.Yield.TheVariants as yield
 use Rattle.aml_known.specs.declared.known.Known.{Known}
 use Rattle.aml_known.specs.declared.known.Known.TheVariants as known
+use Rattle.aml_namespace.specs.Bodies.{bytes_of}
 use Rattle.aml_namespace.specs.Load.{Shown}
 use Rattle.aml_objects.specs.Widths.{bits_of}
 use Rattle.aml_path_text.specs.Paths.{path_of}
 use Rattle.aml_paths.specs.Printed.{path_text}
+use Rattle.aml_place_text.specs.Place.{standing_text}
 use Rattle.aml_paths.specs.declared.scope.ObjectId.{ObjectId}
 
 -- the kind of integers up to one, where integers have so many bits
@@ -174,6 +176,7 @@ unfoldable pub finding_text : ℕ → Finding → List ℕ
 finding_text bits finding.Nothing = []
 finding_text bits (finding.Released mutex last) = []
 finding_text bits (finding.StillHeld last) = []
+finding_text bits (finding.Steps table at) = []
 finding_text bits (finding.Other what instead) = other_text bits what instead
 finding_text bits (finding.Index greatest (Some length)) =
     joined (codes ": found an index up to " ∷ decimal greatest ∷ codes ", wanted one below "
@@ -222,8 +225,18 @@ abbrev pub still_held_text : Shown → ObjectId → List ℕ
 still_held_text ns last =
     codes ": found " ++ object_path ns last ++ codes " still held, wanted no mutex held"
 
+-- the statement with which the steps of its block reach 2^63, by its place
+unfoldable pub reached_place : ℕ → List ℕ
+reached_place at = codes ": found 2^63 steps reached at byte " ++ decimal at
+
+-- the same with what stands there
+abbrev pub reached_text : Shown → ℕ → ℕ → List ℕ
+reached_text ns table at =
+    reached_place at ++ standing_text (bytes_of ns.tables table) at ++ codes ", wanted fewer"
+
 -- what was found and what was wanted, behind a colon
 abbrev pub told_text : Shown → Finding → List ℕ
 told_text ns (finding.Released mutex last) = released_text ns mutex last
 told_text ns (finding.StillHeld last) = still_held_text ns last
+told_text ns (finding.Steps table at) = reached_text ns table at
 told_text ns other = finding_text (bits_of ns.width) other

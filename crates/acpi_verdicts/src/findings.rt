@@ -11,6 +11,7 @@ use aml_known::{Known, Yield};
 use aml_namespace::{Namespace, Width};
 use aml_path_text::push_path;
 use aml_paths::ObjectId;
+use aml_place_text::push_standing;
 use std::alloc::{AllocError, Global};
 
 /// Adds what was found and what was wanted, behind a colon; nothing where the cause tells all.
@@ -26,6 +27,7 @@ pub(crate) fn push_finding(
     match finding {
         Finding::Released { mutex, last } => push_released(alloc, text, namespace, mutex, last),
         Finding::StillHeld { last } => push_still_held(alloc, text, namespace, last),
+        Finding::Steps { table, at } => push_reached(alloc, text, namespace, table, at),
         _ => {
             let words = finding_text(alloc, namespace.width(), finding)?;
             text.extend_from_slice(words.as_bytes())?;
@@ -86,15 +88,42 @@ fn push_still_held(
     Ok(())
 }
 
+// Adds the statement with which the steps of its block reach 2^63.
+fn push_reached(
+    alloc: Global,
+    text: &mut Vec<u8>,
+    namespace: &Namespace<'_>,
+    table: usize,
+    at: usize,
+) -> Result<(), RunFault>
+    ensures { OnOk result (text.new.items
+        ≡ text.old.items ++ spec.reached_text (shown namespace.now) table at) }
+{
+    let place = reached_place(alloc, at)?;
+    text.extend_from_slice(place.as_bytes())?;
+    push_standing(text, namespace.table_bytes(table), at)?;
+    text.extend_from_slice(b", wanted fewer")?;
+    Ok(())
+}
+
+// The same by its place alone.
+#[tactic(auto, unfolding(crate::specs::Findings::reached_place))]
+fn reached_place(alloc: Global, at: usize) -> Result<String, AllocError>
+    ensures { IfOk result (λ text. string_bytes text ≡ spec.reached_place at) }
+{
+    format!(in alloc; ": found 2^63 steps reached at byte {at}")
+}
+
 // What was found and what was wanted, where no object's path is told.
 #[tactic(auto, unfolding(crate::specs::Findings::finding_text))]
 fn finding_text(alloc: Global, width: Width, finding: Finding) -> Result<String, AllocError>
     ensures { IfOk result (λ text. string_bytes text ≡ spec.finding_text (bits_of width) finding) }
 {
     match finding {
-        Finding::Nothing | Finding::Released { .. } | Finding::StillHeld { .. } => {
-            format!(in alloc; "")
-        }
+        Finding::Nothing
+        | Finding::Released { .. }
+        | Finding::StillHeld { .. }
+        | Finding::Steps { .. } => format!(in alloc; ""),
         Finding::Other { found, wanted } => other_text(alloc, width, found, wanted),
         Finding::Index {
             greatest,

@@ -3,6 +3,8 @@
 use Rattle.std.specs.Prelude.{◌≡◌, ℕ, ◌+◌, ◌-◌, ◌*◌, ◌^◌, ◌==◌, ◌<◌, ◌⊎◌, nat_le, nat_lt, min, not, List, ◌∷◌, Bool, true, false, if◌then◌else◌, Option, Some, None, Result, Ok, Err, IsErr, slice_get}
 use Rattle.std.specs.List.{last_or}
 use Rattle.std.specs.Option.{option_map}
+use Rattle.aml_causes.specs.declared.cause.Cause.{Cause}
+use Rattle.aml_causes.specs.declared.cause.Cause.TheVariants as cause
 use Rattle.aml_namespace.specs.declared.link.Link.{Link}
 use Rattle.aml_namespace.specs.declared.link.Link.TheVariants as link
 use Rattle.aml_objects.specs.declared.object.Object.{Object}
@@ -37,6 +39,13 @@ use Rattle.aml_findings.specs.declared.finding.Sort.TheVariants as sort
 use Rattle.aml_findings.specs.declared.finding.Wanted.{Wanted}
 use Rattle.aml_findings.specs.declared.finding.Wanted.TheVariants as wanted
 use Rattle.aml_findings.specs.declared.finds.ChangedSlot.{ChangedSlot}
+
+-- what is told of a method that is refused: what a rule found last, and of V11 the statement of its
+-- table with which the steps of its block reach 2^63, if one was told
+abbrev pub refused_finding : Cause → Finding → ℕ → Option ℕ → Finding
+refused_finding cause.BoundTooLarge last table (Some at) = finding.Steps table at
+refused_finding cause.BoundTooLarge last table None = finding.Nothing
+refused_finding _ last table reached = last
 
 -- what is of a kind, where something else was wanted
 abbrev pub kind_found : Known → Wanted → Finding

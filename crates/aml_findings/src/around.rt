@@ -111,6 +111,13 @@ pub trait Around: Shapes {
     /// Is told what a rule finds, before it refuses. Nothing that is known changes.
     fn finds(&self, finding: Finding);
 
+    /// The statement that was told last, by its place, with which the steps of its block reach
+    /// 2^63, if one was.
+    fn reached(&self) -> Option<usize>;
+
+    /// Is told which statement that is, or that none is. Nothing that is known changes.
+    fn reaches(&self, at: Option<usize>);
+
     /// Makes an own name more, if there is one to make.
     fn make(&mut self, made: Made) -> Result<(), NoMemory>
         ensures makes { OnOk result

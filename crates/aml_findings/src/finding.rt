@@ -70,6 +70,11 @@ pub enum Finding {
     },
     /// What a loop lacks that has no shape.
     Lack(LoopLack),
+    /// The statement of a table, by its place, with which the steps of its block reach 2^63.
+    Steps {
+        table: usize,
+        at: usize,
+    },
 }
 
 /// What is wrong with a field that cannot be read and written.

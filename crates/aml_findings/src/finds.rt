@@ -13,12 +13,25 @@ ghost use Rattle.aml_findings.specs.Finds.{CombinedAreUnmet, ComparedAreUnmet, C
 
 use crate::around::Around;
 use crate::finding::{Finding, Found, NumberedSlot, Sort, Wanted};
+use aml_causes::Cause;
 use aml_kind_rules::{field_kind, lies_inside};
 use aml_known::{Env, Known, Slot, kind_at};
 use aml_meaning::{Action, BufferField, Comparison, TakenMutex, action_of};
 use aml_namespace::{Link, Object};
 use aml_operators::Op;
 use aml_paths::{NoMemory, ObjectId};
+
+/// What is told of a method that is refused for a cause: what a rule found last, and of V11 the
+/// statement of its table with which the steps of its block reach 2^63, if one was told.
+pub fn refused(why: Cause, last: Finding, table: usize, reached: Option<usize>) -> Finding
+    ensures { result ≡ spec.refused_finding why last table reached }
+{
+    match (why, reached) {
+        (Cause::BoundTooLarge, Some(at)) => Finding::Steps { table, at },
+        (Cause::BoundTooLarge, None) => Finding::Nothing,
+        _ => last,
+    }
+}
 
 /// What is of a kind, where something else was wanted.
 pub fn other_kind(kind: Known, wanted: Wanted) -> Finding

@@ -39,6 +39,8 @@ pub(crate) struct Body<'n, 'k, 'b> {
     pub fields: Vec<Option<BufferField>>,
     /// What a rule found last that may refuse; where the method is refused, what it found there.
     pub finding: Cell<Finding>,
+    /// The statement, by its place, with which the steps of its block reach 2^63, if one does.
+    pub reached: Cell<Option<usize>>,
 }
 
 /// A copy of what stands at a place, if anything does.
@@ -159,6 +161,14 @@ impl Around for Body<'_, '_, '_> {
 
     fn finds(&self, finding: Finding) {
         self.finding.set(finding);
+    }
+
+    fn reached(&self) -> Option<usize> {
+        self.reached.get()
+    }
+
+    fn reaches(&self, at: Option<usize>) {
+        self.reached.set(at);
     }
 
     fn make(&mut self, made: Made) -> Result<(), NoMemory> {

@@ -20,6 +20,7 @@ use aml_bodies::{Kept, keep_with};
 use aml_calls::call_order;
 use aml_components::{Components, Heights};
 use aml_findings::Finding;
+use aml_findings::finds::refused;
 use aml_integers::integers_alone;
 use aml_known::{Known, Stop};
 use aml_methods::{Trees, arguments, gathered};
@@ -321,6 +322,7 @@ impl<'a, 's> Verifier<'a, 's> {
             held: Vec::new(self.alloc),
             fields: Vec::new(self.alloc),
             finding: Cell::new(Finding::Nothing),
+            reached: Cell::new(None),
         };
         self.shapes.are_apart();
         let alone = integers_alone(&around, &self.integers, &args, body);
@@ -328,7 +330,9 @@ impl<'a, 's> Verifier<'a, 's> {
         match judge(self.alloc, &mut around, short, method.at, args, body) {
             Ok(accepted) => Ok((Verdict::Accepted(accepted), alone)),
             Err(Stop::Refused(refusal)) => {
-                Ok((Verdict::Refused(refusal, around.finding.get()), false))
+                let last = around.finding.get();
+                let finding = refused(refusal.why, last, around.table, around.reached.get());
+                Ok((Verdict::Refused(refusal, finding), false))
             }
             Err(Stop::NoMemory) => Err(NoMemory),
         }

@@ -6,6 +6,7 @@ ghost use Rattle.aml_judged.specs.Judge.{judged, judged_act, judged_value};
 ghost use Rattle.aml_known.specs.Views.{kind_of, yield_of};
 ghost use Rattle.aml_judging.specs.Follows.{Judges};
 
+use crate::reached::reached_with;
 use crate::terms::blocks::{branch, looped};
 use crate::terms::calls::{invoked, notifies, pauses, returned};
 use crate::terms::operators::{
@@ -35,9 +36,16 @@ pub fn statement<A: Around>(
     ensures { Judges (A.numbered here.now) (λ lists y. yield_of (A.numbered here.now) y)
         (judged (A.around here.now) (view term.now)) progress.old progress.new result }
 {
+    let was = here.reached();
+    let before = progress.cost;
     progress.step();
     match definition_of(term.op) {
-        Definition::Nothing => act(alloc, here, false, term.op, term.at, &term.parts, progress),
+        Definition::Nothing => {
+            let given = act(alloc, here, false, term.op, term.at, &term.parts, progress);
+            let inner = here.reached();
+            here.reaches(reached_with(was, inner, term.at, before, progress.cost));
+            given
+        }
         _ => Err(stop(here, Cause::LocalName, term.at)),
     }
 }

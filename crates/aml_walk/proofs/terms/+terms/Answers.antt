@@ -43,15 +43,15 @@ use Rattle.std.proofs.lemmas.List.{drop_all, take_rest}
 use Rattle.std.proofs.lemmas.Result.{err_from_is_err_and}
 use Rattle.std.specs.declared.alloc.Global.{Global}
 
-pub acts::statement-act-requires : goal.acts::statement-act-requires
-acts::statement-act-requires g t c =
+pub acts::statement-act-given-requires : goal.acts::statement-act-given-requires
+acts::statement-act-given-requires g t c =
     let weighs = weight_of (view c.args.term.now) (views (out-Term c.args.term.now).parts.items) (out-Term c.args.term.now).op (out-Term c.args.term.now).at (out-Term c.args.term.now).end (view_out c.args.term.now) in
     rw c.deref.ensures.value (λ κs within. (omega (arith, weighs), within))
 
 pub acts::statement-returns-in-Nothing : goal.acts::statement-returns-in-Nothing
 acts::statement-returns-in-Nothing g t c =
     let defines = sym c.definition_of.ensures ∙ c.in-Nothing.is in
-    rw (view_out c.args.term.now) (stated (g.A.Around.around c.args.here.now) (out-Term c.args.term.now).op (out-Term c.args.term.now).at (out-Term c.args.term.now).end (views (out-Term c.args.term.now).parts.items) defines c.step.ensures (rw c.deref.ensures.value at c.act.ensures))
+    rw (view_out c.args.term.now) (stated (g.A.Around.around c.args.here.now) (out-Term c.args.term.now).op (out-Term c.args.term.now).at (out-Term c.args.term.now).end (views (out-Term c.args.term.now).parts.items) defines c.step.ensures (rw c.deref.ensures.value at c.act-given.ensures))
 
 pub acts::statement-returns-in_default : goal.acts::statement-returns-in_default
 acts::statement-returns-in_default g t c =

@@ -29,7 +29,7 @@ returns-in-Err-Refused-clause-said c = λ is. let v = c.args.self.now in
     c.args.id.0 c.args.method c.requires.next c.requires.there c.args.body.now c.requires.read
     c.body_bytes-bytes.result.now bytes_are (owns_seen c.args.kept.now.owns) (c.requires.kept.owns c.args.method c.requires.there (map view c.args.body.now) c.requires.read.is ∙ ap (λ (b : List ℕ). own_names b (map view c.args.body.now)) (sym bytes_are))
     c.new.result.items c.new.ensures.items c.new-2.result.items c.new-2.ensures.items
-    c.is_short-short.result _ c.in-Err-Refused.refusal c.get.result c.is_short-short.ensures (c.in_ok-args.ensures _ c.args.method refl) (is_refused (numbered v.shapes) _ c.in-Err-Refused.field-0 c.in-Err-Refused.refusal c.in-Err-Refused.field-0-is (c.in-Err-Refused.ensures c.are_apart.ensures))
+    c.is_short-short.result _ c.in-Err-Refused.refusal c.refused-finding.result c.is_short-short.ensures (c.in_ok-args.ensures _ c.args.method refl) (is_refused (numbered v.shapes) _ c.in-Err-Refused.field-0 c.in-Err-Refused.refusal c.in-Err-Refused.field-0-is (c.in-Err-Refused.ensures c.are_apart.ensures))
 
 pub returns-in-Ok-clause-marks : goal.returns-in-Ok-clause-marks
 returns-in-Ok-clause-marks c = λ is. let v = c.args.self.now in
@@ -44,7 +44,7 @@ returns-in-Ok-clause-marks c = λ is. let v = c.args.self.now in
 
 pub returns-in-Err-Refused-clause-marks : goal.returns-in-Err-Refused-clause-marks
 returns-in-Err-Refused-clause-marks c = λ is. let v = c.args.self.now in
-    refused_marked (shown v.read.namespace.now) (kinds_told v.signatures.now) (numbered v.shapes) c.args.id.0 c.args.method (verdict.Refused c.in-Err-Refused.refusal c.get.result) v.integers.items c.requires.there refl (returns-in-Err-Refused-clause-said c is)
+    refused_marked (shown v.read.namespace.now) (kinds_told v.signatures.now) (numbered v.shapes) c.args.id.0 c.args.method (verdict.Refused c.in-Err-Refused.refusal c.refused-finding.result) v.integers.items c.requires.there refl (returns-in-Err-Refused-clause-said c is)
 
 pub invariant_of-names : goal.invariant_of-names
 invariant_of-names c =
