@@ -277,6 +277,14 @@ def counts_of(lines, top, chosen, runs):
     return (int(counts[1]), int(counts[2])) if counts else (0, 1), [it for it in begun if not it.cancelled()]
 
 
+def clear(top):
+    """Removes the libraries that an earlier gate left, which have no stamp and serve no other command."""
+    for crate in edit_texts.crates_of(top):
+        out = f"{top}/crates/{crate}/out/rlib"
+        if os.path.isdir(out) and not os.path.exists(f"{out}/stamp"):
+            shutil.rmtree(out)
+
+
 def main(words, top=TOP, kept=None):
     crates = edit_texts.crates_of(top)
     if words == ["clear"]:
