@@ -232,7 +232,7 @@ reached_place at = codes ": found 2^63 steps reached at byte " ++ decimal at
 -- the same with what stands there
 abbrev pub reached_text : Shown → ℕ → ℕ → List ℕ
 reached_text ns table at =
-    reached_place at ++ standing_text (bytes_of ns.tables table) at ++ codes ", wanted fewer"
+    reached_place at ++ (standing_text (bytes_of ns.tables table) at ++ codes ", wanted fewer")
 
 -- what was found and what was wanted, behind a colon
 abbrev pub told_text : Shown → Finding → List ℕ
