@@ -471,9 +471,10 @@ class Maker:
     # Statements.
 
     def statements(self, count, depth, top=False):
-        """Statements, and whether the end behind them is reached."""
+        """Statements, and whether the end behind them is reached: not where one of them is an If that does not go on."""
         outside = self.dead
         found, reached = self.some_statements(count, depth, top)
+        reached = reached and self.dead == outside
         self.dead = outside
         return found, reached
 
