@@ -10,7 +10,7 @@ use aml_machine::{Arguments, Frame, Machine};
 use aml_namespace::{LoadFault, Namespace, Width};
 use aml_own_names::OwnNames;
 use aml_paths::{NoMemory, ObjectId};
-use aml_quick::{Here, Made, integer_statement, integer_term, put_integer};
+use aml_quick::{Here, Made, integer_statement, integer_term, put_integer, written_byte};
 use aml_scene::scene::Scene;
 use aml_signatures::Signatures;
 use aml_values::{Element, Package, Value};
@@ -28,6 +28,8 @@ pub(crate) enum Asked {
     Put,
     /// The integer of the term, in the last method that may be active.
     Deepest,
+    /// The number of the byte of the Index as a target whose parts begin them.
+    Written,
 }
 
 /// What the table has.
@@ -158,6 +160,14 @@ fn answer_at(here: &Here<'_>, bytes: &[u8], asked: Asked, machine: &mut Machine)
         Asked::Put => {
             let next = put_integer(bytes, 0, 7, machine)?;
             integer_term(here, bytes, next, machine, machine.steps)
+        }
+        Asked::Written => {
+            let written = written_byte(here, bytes, 0, machine)?;
+            Some(Made {
+                number: written.index,
+                next: written.next,
+                steps: written.steps,
+            })
         }
     }
 }
