@@ -14,17 +14,12 @@ try:
 run:
 	@cd crates/acpicheck && $(RT) run < stdin
 
-# The crates whose must-fail edits the gate tries: those of which each edit was judged by the script as it stands. The
-# edits of the other crates are tried by make edits.
-EDITED = acpi_resources acpi_sources acpi_tables acpi_verdicts acpi_words aml_bodies aml_components aml_externals aml_interp aml_kind_rules aml_known aml_lex aml_literal_laws aml_meaning \
-	aml_methods aml_namespace aml_objects aml_operators aml_path_text aml_paths aml_place_text aml_places aml_quick aml_regions aml_rules aml_signatures aml_targets aml_tree aml_verify
-
 # The gate: every crate proved from nothing; tests and programs run, then the built program over its stored cases and
-# rows, and the must-fail edits, many in one check, and those of a small crate that try the script itself. Behind 100
-# minutes no more edits are begun. The last line counts all.
+# rows, and the must-fail edits of all crates, many in one check, and those of a small crate that try the script itself.
+# Behind 90 minutes the edits of no further crate are begun. The last line counts all.
 test:
 	@python3 bench/edits.py clear
-	@$(RT) ci | python3 bench/cases.py after | python3 bench/edits.py after 100 $(EDITED)
+	@$(RT) ci | python3 bench/cases.py after | python3 bench/edits.py after 90
 
 # The built program over its stored cases and rows.
 cases:
