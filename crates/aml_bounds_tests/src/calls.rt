@@ -1,25 +1,30 @@
 // Who calls whom.
 
-use crate::graphs::{Row, chain, complete, ids, pairs_of, star};
+use crate::graphs::{Graph, Row, graph_of, pairs_of};
 use aml_calls::{call_order, chains_are_counted, reaches};
 use aml_paths::{NoMemory, ObjectId};
 use std::alloc::Global;
-use std::process::Abort;
 use std::test::Fail;
 
 /// Pairs, the methods in their order, and the others.
 type OrderRow<'a> = (&'a [Row<'a>], &'a [usize], &'a [usize]);
 
-/// The order of some pairs is the one that is wanted.
-fn is_ordered(rt: &impl Abort, alloc: Global, row: OrderRow<'_>) -> Result<(), NoMemory> {
+/// Whether methods have just these numbers.
+fn are_numbered(methods: &[ObjectId], numbers: &[usize]) -> bool {
+    for (method, number) in methods.iter().zip(numbers) {
+        if method.0 != *number {
+            return false;
+        }
+    }
+    methods.len() == numbers.len()
+}
+
+/// Whether the order of some pairs is the one that is wanted.
+fn is_ordered(alloc: Global, row: OrderRow<'_>) -> Result<bool, NoMemory> {
     let (pairs, ordered, others) = row;
-    let pairs = pairs_of(alloc, pairs).map_err(|_| NoMemory)?;
-    let ordered = ids(alloc, ordered).map_err(|_| NoMemory)?;
-    let others = ids(alloc, others).map_err(|_| NoMemory)?;
+    let pairs = pairs_of(alloc, pairs)?;
     let (first, rest) = call_order(alloc, &pairs)?;
-    assert_eq!(rt; first.as_slice(), ordered.as_slice());
-    assert_eq!(rt; rest.as_slice(), others.as_slice());
-    Ok(())
+    Ok(are_numbered(&first, ordered) && are_numbered(&rest, others))
 }
 
 #[test]
@@ -46,25 +51,22 @@ fn rows_of_call_orders(rt: HostRuntime) -> Result<(), Fail> {
         // without a pair a method calls none; of two pairs the first counts
         (&[(0, &[8]), (0, &[0])], &[8, 0], &[]),
     ];
-    for row in rows {
-        if is_ordered(&rt, rt.alloc(), *row).is_err() {
-            is_ordered(&rt, rt.alloc(), *row)?;
-        }
+    for (i, row) in rows.iter().enumerate() {
+        let is_right = match is_ordered(rt.alloc(), *row) {
+            Ok(is_right) => is_right,
+            Err(NoMemory) => is_ordered(rt.alloc(), *row)?,
+        };
+        assert!(rt; is_right, "row {i}");
     }
     chains_are_counted();
     Ok(())
 }
 
-/// One method reaches another in a small graph, or does not, as is wanted.
-fn is_reached(rt: &impl Abort, alloc: Global, row: (usize, usize, bool)) -> Result<(), NoMemory> {
+/// Whether one method reaches another in a small graph.
+fn is_reached(alloc: Global, from: usize, to: usize) -> Result<bool, NoMemory> {
     let graph: &[Row<'_>] = &[(0, &[1, 1]), (1, &[2]), (2, &[1, 3]), (3, &[]), (4, &[0])];
-    let pairs = pairs_of(alloc, graph).map_err(|_| NoMemory)?;
-    let (from, to, answer) = row;
-    assert_eq!(rt;
-        reaches(alloc, &pairs, ObjectId(from), ObjectId(to))?,
-        answer
-    );
-    Ok(())
+    let pairs = pairs_of(alloc, graph)?;
+    reaches(alloc, &pairs, ObjectId(from), ObjectId(to))
 }
 
 #[test]
@@ -83,29 +85,38 @@ fn rows_of_reach(rt: HostRuntime) -> Result<(), Fail> {
         (9, 1, false),
         (1, 9, false),
     ];
-    for row in rows {
-        if is_reached(&rt, rt.alloc(), *row).is_err() {
-            is_reached(&rt, rt.alloc(), *row)?;
-        }
+    for (from, to, answer) in rows {
+        let found = match is_reached(rt.alloc(), *from, *to) {
+            Ok(found) => found,
+            Err(NoMemory) => is_reached(rt.alloc(), *from, *to)?,
+        };
+        assert!(rt; found == *answer, "from {from} to {to}");
     }
     Ok(())
 }
 
+/// How many methods of a large graph are in order, how many are not, and whether the first reaches
+/// the three hundredth.
+fn order_of(alloc: Global, graph: Graph) -> Result<(usize, usize, bool), NoMemory> {
+    let pairs = graph_of(alloc, graph)?;
+    let (ordered, others) = call_order(alloc, &pairs)?;
+    let is_reached = reaches(alloc, &pairs, ObjectId(0), ObjectId(299))?;
+    Ok((ordered.len(), others.len(), is_reached))
+}
+
 #[test]
 fn large_graphs(rt: HostRuntime) -> Result<(), Fail> {
-    let alloc = rt.alloc();
-    let graphs = vec![in alloc;
-        (chain(alloc, 60_000, &[])?, 60_000, 0),
-        (chain(alloc, 60_000, &[0])?, 0, 60_000),
-        (star(alloc, 60_000)?, 60_001, 0),
-        (complete(alloc, 300, false)?, 300, 0),
-        (complete(alloc, 300, true)?, 0, 300),
-    ]?;
-    for (pairs, ordered, others) in &graphs {
-        let order = call_order(alloc, pairs)?;
-        assert_eq!(rt; order.0.len(), *ordered);
-        assert_eq!(rt; order.1.len(), *others);
-        assert!(rt; reaches(alloc, pairs, ObjectId(0), ObjectId(299))? || *ordered > 60_000);
+    let rows: &[(Graph, usize, usize)] = &[
+        (Graph::Chain(60_000), 60_000, 0),
+        (Graph::Ring(60_000), 0, 60_000),
+        (Graph::Star(60_000), 60_001, 0),
+        (Graph::Behind(300), 300, 0),
+        (Graph::Complete(300), 0, 300),
+    ];
+    for (graph, ordered, others) in rows {
+        let (first, rest, is_reached) = order_of(rt.alloc(), *graph)?;
+        let found = (first, rest, is_reached || *ordered > 60_000);
+        assert_eq!(rt; found, (*ordered, *others, true), "{graph:?}");
     }
     Ok(())
 }

@@ -1,11 +1,10 @@
 // How long chains of calls are.
 
-use crate::graphs::{Row, chain, complete, pairs_of, star};
+use crate::graphs::{Graph, Row, graph_of, pairs_of};
 use aml_calls::call_order;
 use aml_components::Heights;
 use aml_paths::{NoMemory, ObjectId};
 use std::alloc::Global;
-use std::process::Abort;
 use std::test::Fail;
 
 /// Pairs, and how long the longest chains are that begin with some methods.
@@ -16,21 +15,39 @@ fn heights_of(alloc: Global, pairs: &[(ObjectId, Vec<ObjectId>)]) -> Result<Heig
     Heights::of(alloc, pairs, &ordered, &others)
 }
 
-/// A chain from a method has at most so many, and not at most one fewer; 65 is more than any.
-fn is_high(rt: &impl Abort, heights: &Heights, method: usize, height: u8) {
+/// Whether a chain from a method has at most so many, and not at most one fewer; 65 is more than
+/// any.
+fn is_high(heights: &Heights, method: usize, height: u8) -> bool {
     for most in 0..65u8 {
-        assert_eq!(rt; heights.is_short(ObjectId(method), most), height <= most);
+        if heights.is_short(ObjectId(method), most) != (height <= most) {
+            return false;
+        }
     }
+    true
 }
 
-fn are_high(rt: &impl Abort, alloc: Global, row: HeightRow<'_>) -> Result<(), NoMemory> {
-    let (pairs, answers) = row;
-    let pairs = pairs_of(alloc, pairs).map_err(|_| NoMemory)?;
-    let heights = heights_of(alloc, &pairs)?;
+/// Whether the longest chains from some methods are so long.
+fn all_are_high(heights: &Heights, answers: &[(usize, u8)]) -> bool {
     for (method, height) in answers {
-        is_high(rt, &heights, *method, *height);
+        if !is_high(heights, *method, *height) {
+            return false;
+        }
     }
-    Ok(())
+    true
+}
+
+fn are_high(alloc: Global, row: HeightRow<'_>) -> Result<bool, NoMemory> {
+    let (pairs, answers) = row;
+    let pairs = pairs_of(alloc, pairs)?;
+    let heights = heights_of(alloc, &pairs)?;
+    Ok(all_are_high(&heights, answers))
+}
+
+/// The same in a large graph.
+fn are_high_in(alloc: Global, graph: Graph, answers: &[(usize, u8)]) -> Result<bool, NoMemory> {
+    let pairs = graph_of(alloc, graph)?;
+    let heights = heights_of(alloc, &pairs)?;
+    Ok(all_are_high(&heights, answers))
 }
 
 #[test]
@@ -54,28 +71,28 @@ fn rows_of_heights(rt: HostRuntime) -> Result<(), Fail> {
         // of two pairs the first counts
         (&[(0, &[8]), (0, &[0])], &[(0, 2), (8, 1)]),
     ];
-    for row in rows {
-        if are_high(&rt, rt.alloc(), *row).is_err() {
-            are_high(&rt, rt.alloc(), *row)?;
-        }
+    for (i, row) in rows.iter().enumerate() {
+        let are_right = match are_high(rt.alloc(), *row) {
+            Ok(are_right) => are_right,
+            Err(NoMemory) => are_high(rt.alloc(), *row)?,
+        };
+        assert!(rt; are_right, "row {i}");
     }
     Ok(())
 }
 
 #[test]
 fn heights_of_large_graphs(rt: HostRuntime) -> Result<(), Fail> {
-    let alloc = rt.alloc();
-    let graphs = vec![in alloc;
-        (chain(alloc, 60_000, &[])?, 65, 59_936, 64),
-        (chain(alloc, 60_000, &[0])?, 65, 59_936, 65),
-        (star(alloc, 60_000)?, 2, 59_999, 2),
-        (complete(alloc, 300, false)?, 65, 236, 64),
-        (complete(alloc, 300, true)?, 65, 236, 65),
-    ]?;
-    for (pairs, first, method, height) in &graphs {
-        let heights = heights_of(alloc, pairs)?;
-        is_high(&rt, &heights, 0, *first);
-        is_high(&rt, &heights, *method, *height);
+    let rows: &[(Graph, &[(usize, u8)])] = &[
+        (Graph::Chain(60_000), &[(0, 65), (59_936, 64)]),
+        (Graph::Ring(60_000), &[(0, 65), (59_936, 65)]),
+        (Graph::Star(60_000), &[(0, 2), (59_999, 2)]),
+        (Graph::Behind(300), &[(0, 65), (236, 64)]),
+        (Graph::Complete(300), &[(0, 65), (236, 65)]),
+    ];
+    for (graph, answers) in rows {
+        let are_right = are_high_in(rt.alloc(), *graph, answers)?;
+        assert!(rt; are_right, "{graph:?}");
     }
     Ok(())
 }

@@ -3,7 +3,8 @@
 ghost use Rattle.aml_bounds.specs.Steps.{Knows};
 
 use aml_bounds::{Costs, TurnCount, body_steps, steps};
-use aml_tree::{NoArguments, Span, read_body};
+use aml_tree::{NoArguments, Span, TreeFault, read_body};
+use std::alloc::Global;
 use std::test::Fail;
 
 /// The same at each place.
@@ -28,6 +29,16 @@ impl Costs for Everywhere {
     fn stored(&self, _at: usize) -> u64 {
         self.stored
     }
+}
+
+/// The steps that a body takes.
+fn steps_in(alloc: Global, bytes: &[u8], costs: &Everywhere) -> Result<Option<u64>, TreeFault> {
+    let span = Span {
+        at: 0,
+        end: bytes.len(),
+    };
+    let body = read_body(alloc, bytes, span, &NoArguments)?;
+    Ok(body_steps(&body, costs))
 }
 
 #[test]
@@ -65,21 +76,35 @@ fn steps_of_terms(rt: HostRuntime) -> Result<(), Fail> {
         (&[0x70, 0x0D, 0x00, 0x5B, 0x31], 3),
     ];
     for (bytes, count) in rows {
-        let span = Span {
-            at: 0,
-            end: bytes.len(),
-        };
-        let body = read_body(rt.alloc(), bytes, span, &NoArguments)?;
-        assert_eq!(rt; body_steps(&body, &four), Some(*count));
+        assert_eq!(rt; steps_in(rt.alloc(), bytes, &four)?, Some(*count));
     }
     Ok(())
+}
+
+/// Whether each statement of a body takes so many steps.
+fn take_so_many(
+    alloc: Global,
+    bytes: &[u8],
+    costs: &Everywhere,
+    count: Option<u64>,
+) -> Result<bool, TreeFault> {
+    let span = Span {
+        at: 0,
+        end: bytes.len(),
+    };
+    let body = read_body(alloc, bytes, span, &NoArguments)?;
+    for term in &body {
+        if steps(term, costs) != count {
+            return Ok(false);
+        }
+    }
+    Ok(true)
 }
 
 #[test]
 fn limits_of_steps(rt: HostRuntime) -> Result<(), Fail> {
     // While (One) { Noop }: 2 * n + 2 steps for n turns
-    let bytes = [0xA2, 0x03, 0x01, 0xA3];
-    let body = read_body(rt.alloc(), &bytes, Span { at: 0, end: 4 }, &NoArguments)?;
+    let bytes: &[u8] = &[0xA2, 0x03, 0x01, 0xA3];
     let rows: &[(TurnCount, Option<u64>)] = &[
         (TurnCount::Once, Some(3)),
         (TurnCount::AtMost(0), Some(2)),
@@ -90,15 +115,14 @@ fn limits_of_steps(rt: HostRuntime) -> Result<(), Fail> {
         (TurnCount::AtMost(0x3FFF_FFFF_FFFF_FFFF), None),
         (TurnCount::AtMost(u64::MAX), None),
     ];
-    for (turns, count) in rows {
+    for (i, (turns, count)) in rows.iter().enumerate() {
         let costs = Everywhere {
             turns: *turns,
             named: 0,
             stored: 0,
         };
-        for term in &body {
-            assert_eq!(rt; steps(term, &costs), *count);
-        }
+        let are_right = take_so_many(rt.alloc(), bytes, &costs, *count)?;
+        assert!(rt; are_right, "row {i}");
     }
     Ok(())
 }
