@@ -37,6 +37,7 @@ fn all_are_as_reached(
     Ok(true)
 }
 
+/// The same of a graph's rows.
 fn are_as_reached(alloc: Global, row: (&[Row<'_>], usize)) -> Result<bool, NoMemory> {
     let (pairs, count) = row;
     let pairs = pairs_of(alloc, pairs)?;
