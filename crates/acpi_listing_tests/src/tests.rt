@@ -74,6 +74,44 @@ fn seal(table: &mut [u8]) -> Option<()> {
     Some(())
 }
 
+// Whether a writer that fails at that byte has the text up to there.
+fn is_cut_off(alloc: Global, input: &str, whole: &[u8], room: usize) -> Result<bool, AllocError> {
+    let front = told(alloc, input, 7, room)?;
+    Ok(front.ended == Err(RunFault::Write) && whole.get(..room) == Some(front.text.as_slice()))
+}
+
+// Whether it is so at each byte of the text.
+fn is_cut_off_everywhere(alloc: Global, input: &str, whole: &[u8]) -> Result<bool, AllocError> {
+    for room in 0..whole.len() {
+        if !is_cut_off(alloc, input, whole, room)? {
+            return Ok(false);
+        }
+    }
+    Ok(true)
+}
+
+// Whether the program writes a text and ends with this status, and writes the same into a writer
+// that takes a byte at a time and, up to where it fails, into one that fails.
+fn is_written(alloc: Global, input: &str, status: u8) -> Result<bool, AllocError> {
+    let whole = told(alloc, input, 4096, 4096)?;
+    let slow = told(alloc, input, 1, 4096)?;
+    let is_same = slow.ended == whole.ended && slow.text.as_slice() == whole.text.as_slice();
+    if whole.ended != Ok(status) || whole.text.is_empty() || !is_same {
+        return Ok(false);
+    }
+    is_cut_off_everywhere(alloc, input, &whole.text)
+}
+
+// Words, two lines of tables or registers, and the status.
+type Row<'a> = (&'a str, &'a str, &'a str, u8);
+
+// Whether a command is written so.
+fn is_answered(alloc: Global, row: Row<'_>) -> Result<bool, Fail> {
+    let (words, first, second, status) = row;
+    let input = format!(in alloc; "{words}\n{first}\n{second}\n")?;
+    Ok(is_written(alloc, input.as_str(), status)?)
+}
+
 // What a command prints, into a writer that takes a byte at a time, and into one that fails at each
 // byte: each listing, a verdict, an outcome, a fault's line and the line of a body that cannot be
 // read.
@@ -85,7 +123,7 @@ fn writers(rt: HostRuntime) -> Result<(), Fail> {
     let link = "resources --object \\_SB_.LNKA._CRS @";
     let prt = "routing --object \\_SB_.PCI0._PRT --madt @ @";
     let own = "routing --object \\_SB_.PCI0._PRT @";
-    let rows = [
+    let rows: [Row<'_>; 24] = [
         ("verify @", TABLE_1, "", 0),
         ("verify @", torn, "", 3),
         ("tables @ @", TABLE_1, TABLE_1, 0),
@@ -111,19 +149,8 @@ fn writers(rt: HostRuntime) -> Result<(), Fail> {
         ("resources --object \\_SB_.PCI0._PRT @", LINK, "", 1),
         ("routing --object \\_SB_.LNKA._CRS @", LINK, "", 1),
     ];
-    for (words, first, second, status) in rows {
-        let input = format!(in alloc; "{words}\n{first}\n{second}\n")?;
-        let whole = told(alloc, input.as_str(), 4096, 4096)?;
-        assert_eq!(rt; whole.ended, Ok(status), "at {words}");
-        assert!(rt; !whole.text.is_empty());
-        let slow = told(alloc, input.as_str(), 1, 4096)?;
-        assert_eq!(rt; slow.ended, Ok(status), "at {words}");
-        assert_eq!(rt; slow.text.as_slice(), whole.text.as_slice());
-        for room in 0..whole.text.len() {
-            let front = told(alloc, input.as_str(), 7, room)?;
-            assert_eq!(rt; front.ended, Err(RunFault::Write), "at {words}");
-            assert_eq!(rt; front.text.as_slice(), &whole.text[..room]);
-        }
+    for row in rows {
+        assert!(rt; is_answered(alloc, row)?, "at {}", row.0);
     }
     Ok(())
 }

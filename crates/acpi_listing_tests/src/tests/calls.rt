@@ -4,7 +4,7 @@ use super::TABLE_1;
 use acpi_listing::{run, run_words};
 use acpi_sources::{Source, SourceFault, read_any_table, read_input};
 use acpi_tables::{TableCause, TableFault};
-use acpi_text::{Table, list_evaluation, list_tables};
+use acpi_text::{RunFault, Table, list_evaluation, list_tables};
 use aml_meaning::{AmlCause, AmlError, Outcome};
 use aml_namespace::{Host, Namespace};
 use aml_values::Value;
@@ -35,6 +35,13 @@ impl Source for Shelf {
     }
 }
 
+// How a command ends over the files of the shelf, and whether it writes this text.
+fn answer_of(alloc: Global, words: &[&str], text: &[u8]) -> (Result<u8, RunFault>, bool) {
+    let mut out = Vec::new(alloc);
+    let ended = run_words(alloc, words, &mut Shelf { alloc }, &mut out);
+    (ended, out.as_slice() == text)
+}
+
 #[test]
 fn files_that_memory_cannot_hold(rt: HostRuntime) -> Result<(), Fail> {
     let alloc = rt.alloc();
@@ -45,11 +52,9 @@ fn files_that_memory_cannot_hold(rt: HostRuntime) -> Result<(), Fail> {
         (&eval, ""),
     ];
     for (words, front) in rows {
-        let mut out = Vec::new(alloc);
-        let ended = run_words(alloc, words, &mut Shelf { alloc }, &mut out);
         let text = format!(in alloc; "{front}fault E524 NoMemory\n")?;
-        assert_eq!(rt; out.as_slice(), text.as_bytes());
-        assert_eq!(rt; ended, Ok(1));
+        let answer = answer_of(alloc, words, text.as_bytes());
+        assert_eq!(rt; answer, (Ok(1), true));
     }
     Ok(())
 }
@@ -84,17 +89,28 @@ fn outcomes(rt: HostRuntime) -> Result<(), Fail> {
     Ok(())
 }
 
+// The length and the revision of a table that is listed by its header.
+fn header_of(table: Table<'_>) -> Option<(u32, u8)> {
+    match table {
+        Table::Other(header) => Some((header.length, header.revision)),
+        _ => None,
+    }
+}
+
+// What is listed of a table and a FACS.
+fn listed(alloc: Global, bytes: &[u8]) -> Result<Vec<u8>, Fail> {
+    let mut out = Vec::new(alloc);
+    list_tables(alloc, &mut out, &[read_any_table(bytes)?, Table::Facs])?;
+    Ok(out)
+}
+
 #[test]
 fn tables_that_were_read(rt: HostRuntime) -> Result<(), Fail> {
     let alloc = rt.alloc();
     let bytes = hex::decode(alloc, TABLE_1)?;
-    let table = read_any_table(&bytes)?;
-    let Table::Other(header) = table else {
-        return Err(Fail::from("a DSDT is listed by its header"));
-    };
-    assert_eq!(rt; (header.length, header.revision), (48, 2));
-    let mut out = Vec::new(alloc);
-    list_tables(alloc, &mut out, &[table, Table::Facs])?;
+    let read = header_of(read_any_table(&bytes)?);
+    assert_eq!(rt; read, Some((48, 2)), "a DSDT is listed by its header");
+    let out = listed(alloc, &bytes)?;
     let text = format!(in alloc; "{LINE_1}facs left out\n")?;
     assert_eq!(rt; out.as_slice(), text.as_bytes());
     let short = TableFault {
@@ -124,16 +140,19 @@ impl Read for Torn {
     }
 }
 
+// Whether all of a stream was read, and whether it gave these bytes.
+fn read_of<R: Read>(alloc: Global, stream: &mut R, bytes: &[u8]) -> Result<(bool, bool), Fail> {
+    let input = read_input(alloc, stream)?;
+    Ok((input.is_whole, input.bytes.as_slice() == bytes))
+}
+
 #[test]
 fn inputs_that_end_or_fail(rt: HostRuntime) -> Result<(), Fail> {
     let alloc = rt.alloc();
-    let mut bytes = b"12345".as_slice();
-    let whole = read_input(alloc, &mut bytes)?;
-    assert!(rt; whole.is_whole);
-    assert_eq!(rt; whole.bytes.as_slice(), b"12345".as_slice());
-    let torn = read_input(alloc, &mut Torn { left: 5 })?;
-    assert!(rt; !torn.is_whole);
-    assert_eq!(rt; torn.bytes.as_slice(), b"xxxxx".as_slice());
+    let whole = read_of(alloc, &mut b"12345".as_slice(), b"12345")?;
+    assert_eq!(rt; whole, (true, true));
+    let torn = read_of(alloc, &mut Torn { left: 5 }, b"xxxxx")?;
+    assert_eq!(rt; torn, (false, true));
     let mut out = Vec::new(alloc);
     assert_eq!(rt; run(alloc, &mut Torn { left: 5 }, &mut out), Ok(1));
     assert_eq!(rt; out.as_slice(), b"fault E523 File\n".as_slice());

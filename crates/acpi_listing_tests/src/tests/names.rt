@@ -3,6 +3,7 @@
 use super::seal;
 use acpi_listing::run_words;
 use acpi_sources::{Source, SourceFault};
+use acpi_text::RunFault;
 use hex;
 use std::alloc::Global;
 use std::test::Fail;
@@ -39,24 +40,29 @@ impl Source for Zeros {
     }
 }
 
+// How `names` of a table with so many ends, and what it writes.
+fn listed(alloc: Global, count: usize) -> (Result<u8, RunFault>, Vec<u8>) {
+    let mut out = Vec::new(alloc);
+    let mut files = Zeros { alloc, count };
+    let ended = run_words(alloc, &["names", "zeros.bin"], &mut files, &mut out);
+    (ended, out)
+}
+
 // There are at most 65,535 paths, of which nine are predefined. The name that is one too many
 // stands behind a header of 36 bytes, 65,526 definitions of six bytes and an opcode.
 #[test]
 fn as_many_names_as_there_may_be(rt: HostRuntime) -> Result<(), Fail> {
-    let alloc = rt.alloc();
-    let mut out = Vec::new(alloc);
-    let mut files = Zeros {
-        alloc,
-        count: 65_526,
-    };
-    let ended = run_words(alloc, &["names", "zeros.bin"], &mut files, &mut out);
+    let (ended, out) = listed(rt.alloc(), 65_526);
     assert_eq!(rt; ended, Ok(0));
     assert!(rt; out.starts_with(PREDEFINED.as_bytes()));
     assert!(rt; out.ends_with(b"\\BOUF integer\n"));
     assert_eq!(rt; out.iter().filter(|b| **b == b'\n').count(), 65_535);
-    files.count = 65_527;
-    out.clear();
-    let ended = run_words(alloc, &["names", "zeros.bin"], &mut files, &mut out);
+    Ok(())
+}
+
+#[test]
+fn a_name_too_many(rt: HostRuntime) -> Result<(), Fail> {
+    let (ended, out) = listed(rt.alloc(), 65_527);
     assert_eq!(rt; ended, Ok(1));
     assert_eq!(rt; out.as_slice(), b"fault E303 TooMany 0 393193\n".as_slice());
     Ok(())

@@ -42,29 +42,39 @@ fn elements(alloc: Global) -> Result<Vec<Element>, AllocError> {
 const ELEMENTS: &str =
     "0x1, \\M000, unresolved, unresolved, unresolved, unset, buffer 2200, string \"\\x22\"";
 
+// A value in so many packages in one another.
+fn nested(alloc: Global, value: Value, depth: usize) -> Option<Value> {
+    let mut inner = value;
+    for _ in 0..depth {
+        let mut around = Vec::new(alloc);
+        around.push(Element::Value(inner)).ok()?;
+        around.push(Element::Unset).ok()?;
+        inner = package(around)?;
+    }
+    Some(inner)
+}
+
+// What is printed of the elements in so many packages in one another.
+fn printed(alloc: Global, namespace: &Namespace<'_>, depth: usize) -> Result<Vec<u8>, Fail> {
+    let value = package(elements(alloc)?).ok_or("a package")?;
+    let value = nested(alloc, value, depth).ok_or("packages in one another")?;
+    let mut out = Vec::new(alloc);
+    list_value(alloc, &mut out, namespace, &value)?;
+    Ok(out)
+}
+
 #[test]
 fn packages(rt: HostRuntime) -> Result<(), Fail> {
     let alloc = rt.alloc();
     let bytes = hex::decode(alloc, ALIASED)?;
     let namespace = Namespace::load(alloc, &[bytes.as_slice()], HOST)?;
-    let value = package(elements(alloc)?).ok_or("a package")?;
-    let mut out = Vec::new(alloc);
-    list_value(alloc, &mut out, &namespace, &value)?;
-    let text = format!(in alloc; "package [{ELEMENTS}]")?;
-    assert_eq!(rt; out.as_slice(), text.as_bytes());
-    let mut nested = value;
-    for _ in 0..63 {
-        let mut around = Vec::new(alloc);
-        around.push(Element::Value(nested))?;
-        around.push(Element::Unset)?;
-        nested = package(around).ok_or("a package")?;
+    for depth in [0, 63] {
+        let front = "package [".repeat(alloc, depth + 1)?;
+        let back = ", unset]".repeat(alloc, depth)?;
+        let text = format!(in alloc; "{front}{ELEMENTS}]{back}")?;
+        let out = printed(alloc, &namespace, depth)?;
+        assert_eq!(rt; out.as_slice(), text.as_bytes());
     }
-    out.clear();
-    list_value(alloc, &mut out, &namespace, &nested)?;
-    let front = "package [".repeat(alloc, 64)?;
-    let back = ", unset]".repeat(alloc, 63)?;
-    let text = format!(in alloc; "{front}{ELEMENTS}]{back}")?;
-    assert_eq!(rt; out.as_slice(), text.as_bytes());
     Ok(())
 }
 
