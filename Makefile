@@ -14,12 +14,16 @@ try:
 run:
 	@cd crates/acpicheck && $(RT) run < stdin
 
+# The crates whose must-fail edits the gate tries: all but the two evaluators, of whose cycles each check takes ten
+# minutes. Those are tried by make edits.
+EDITED = $(filter-out aml_direct aml_plain,$(notdir $(wildcard crates/*)))
+
 # The gate: every crate proved from nothing; tests and programs run, then the built program over its stored cases and
-# rows, and the must-fail edits of all crates, many in one check, and those of a small crate that try the script itself.
+# rows, and the must-fail edits, many in one check, and those of a small crate that try the script itself.
 # Behind 90 minutes the edits of no further crate are begun. The last line counts all.
 test:
 	@python3 bench/edits.py clear
-	@$(RT) ci | python3 bench/cases.py after | python3 bench/edits.py after 90
+	@$(RT) ci | python3 bench/cases.py after | python3 bench/edits.py after 90 $(EDITED)
 
 # The built program over its stored cases and rows.
 cases:
