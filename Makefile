@@ -15,8 +15,8 @@ run:
 	@cd crates/acpicheck && $(RT) run < stdin
 
 # The crates whose must-fail edits the gate tries: all but the two evaluators, of whose cycles each check takes ten
-# minutes. Those are tried by make edits.
-EDITED = $(filter-out aml_direct aml_plain,$(notdir $(wildcard crates/*)))
+# minutes, and which make edits tries; and but the worlds of aml_plain_tests, which stand in tests alone.
+EDITED = $(filter-out aml_direct aml_plain aml_plain_tests,$(notdir $(wildcard crates/*)))
 
 # The gate: every crate proved from nothing; tests and programs run, then the built program over its stored cases and
 # rows, and the must-fail edits, many in one check, and those of a small crate that try the script itself.
