@@ -14,7 +14,7 @@ use Rattle.std.specs.Cmp.Lexicographic.{bytes_decides, texts_ties}
 use Rattle.aml_lex.specs.declared.names.NameSeg.{NameSeg}
 use Rattle.aml_lex.specs.Order.{segment_order}
 use Rattle.aml_paths.specs.declared.chains.Spot.{Spot}
-use Rattle.aml_paths.specs.declared.paths.Place.{Place}
+use Rattle.aml_paths.specs.declared.place.Place.{Place}
 use Rattle.aml_paths.specs.declared.paths.Step.{Step}
 use Rattle.aml_paths.specs.Chains.{AreChained, CanFollow, number_below_chain, number_on_chain, spots_of, stands_at}
 use Rattle.aml_paths.specs.Paths.{Path, path_at, path_number, number_below, AreDistinct, AreClosed}
@@ -33,7 +33,7 @@ both_tied Less u e = absurd cc
 both_tied Equal u e = (refl, e)
 both_tied Greater u e = absurd cc
 
-same_place : (p q : Place) → is_at (place_order p) q ≡ true → p ≡ q
+pub same_place : (p q : Place) → is_at (place_order p) q ≡ true → p ≡ q
 same_place p q e =
     let tied = both_tied (nat_cmp p.top q.top) (ordering_then (segment_order p.segment q.segment) (nat_cmp p.depth q.depth)) e in
     let segment = both_tied (segment_order p.segment q.segment) (nat_cmp p.depth q.depth) tied.1 in

@@ -9,9 +9,9 @@ use Rattle.std.proofs.lemmas.List.Quantifiers.{position-Some}
 use Rattle.std.proofs.lemmas.Option.{slice_get-get_or, slice_get-map, slice_get_within}
 use Rattle.aml_lex.specs.declared.names.NameSeg.{NameSeg}
 use Rattle.aml_paths.specs.declared.chains.Spot.{Spot}
-use Rattle.aml_paths.specs.declared.paths.Place.{Place}
+use Rattle.aml_paths.specs.declared.place.Place.{Place}
 use Rattle.aml_paths.specs.declared.paths.Step.{Step}
-use Rattle.aml_paths.specs.Chains.{AreChained, AreLasts, CanFollow, EndsAt, StandsOnChain, number_on_chain, root_spot, spots_of, stands_at}
+use Rattle.aml_paths.specs.Chains.{AreChained, AreLasts, CanFollow, EndsAt, StandsOnChain, number_below_chain, number_on_chain, root_spot, spots_of, stands_at}
 use Rattle.aml_paths.specs.Paths.{AreClosed, AreDistinct, Path, number_below, path_at, path_number}
 use Rattle.aml_paths.specs.Trie.{AreNumbered, paths_of, place_order}
 use Rattle.aml_paths.proofs.PathNumbers.{path_at_is, path_at_there, path_number_new, path_number_stays}
@@ -244,9 +244,13 @@ module _ (paths : List Path) (distinct : AreDistinct paths) (closed : AreClosed 
       pub chained_push : AreChained longer more
       chained_push i s is = stands_of i s (slice_get_push spots spot i s is)
 
--- the map has the number of the path of a segment right below a path
+-- the path of a segment right below a path is that below its place on its chain
+pub below_chain_at : (numbers : BTreeMap Place ℕ) (steps : List Step) → AreNumbered numbers steps → (at : ℕ) (segment : NameSeg) (spot : Spot) → at < length (paths_of steps) → slice_get (spots_of steps) at ≡ Some spot
+    → number_below_chain (paths_of steps) (spots_of steps) spot.top segment.bytes spot.depth ≡ number_below (paths_of steps) at (segment.bytes ∷ [])
+below_chain_at numbers steps held at segment spot there is =
+    ap (option_and_then (λ (parent : ℕ). number_below (paths_of steps) parent (segment.bytes ∷ []))) (alone (paths_of steps) (spots_of steps) at spot (held.chained at spot is) held.distinct there)
+
+-- the map has its number
 pub known_below : (numbers : BTreeMap Place ℕ) (steps : List Step) → AreNumbered numbers steps → (at : ℕ) (segment : NameSeg) (spot : Spot) → at < length (paths_of steps) → slice_get (spots_of steps) at ≡ Some spot
     → get place_order numbers (record { segment = segment; top = spot.top; depth = spot.depth }) ≡ number_below (paths_of steps) at (segment.bytes ∷ [])
-known_below numbers steps held at segment spot there is =
-    held.known segment spot.top spot.depth
-    ∙ ap (option_and_then (λ (parent : ℕ). number_below (paths_of steps) parent (segment.bytes ∷ []))) (alone (paths_of steps) (spots_of steps) at spot (held.chained at spot is) held.distinct there)
+known_below numbers steps held at segment spot there is = held.known segment spot.top spot.depth ∙ below_chain_at numbers steps held at segment spot there is

@@ -3,7 +3,7 @@ use Rattle.std.proofs.Common.{◌≡◌, ℕ, suc, ◌<◌, List, [], ◌∷◌,
 use Rattle.std.proofs.lemmas.List.{length-take-le, take-append-drop}
 use Rattle.std.proofs.lemmas.Option.{slice_get_within}
 use Rattle.std.specs.BTreeMap.{BTreeMap}
-use Rattle.aml_paths.specs.declared.paths.Place.{Place}
+use Rattle.aml_paths.specs.declared.place.Place.{Place}
 use Rattle.aml_paths.specs.declared.paths.Step.{Step}
 use Rattle.aml_paths.specs.Chains.{root_spot}
 use Rattle.aml_paths.specs.Paths.{Path, path_at, path_number, number_below}

@@ -9,6 +9,7 @@ pub mod Scopes
 pub mod Seen
 pub mod Upward
 pub mod Nearest
+pub mod Marked
 pub mod Places
 pub mod Spelled
 pub mod PrintedPaths

@@ -1,5 +1,5 @@
 -- The places of one segment on one chain, which stand together in the order of places.
-use Rattle.std.proofs.Common.{◌≡◌, ℕ, ◌≤◌, Bool, List, [], ◌∷◌, ◌++◌, Option, Some, None, true, false, nat_eq, not, refl, sym, ap, ◌∙◌, arith}
+use Rattle.std.proofs.Common.{◌≡◌, ℕ, ◌≤◌, Bool, List, [], ◌∷◌, ◌++◌, Option, Some, None, true, false, nat_eq, not, refl, sym, ap, ◌∙◌, subst, arith}
 use Rattle.std.specs.declared.cmp.Ordering.{Ordering}
 use Rattle.std.specs.declared.cmp.Ordering.TheVariants.{Less, Equal, Greater}
 use Rattle.std.specs.declared.ops.Bound.TheVariants.{Included, Unbounded}
@@ -13,7 +13,7 @@ use Rattle.std.specs.Cmp.{IsTotalOrder}
 use Rattle.std.proofs.lemmas.Cmp.{nat_cmp_total, nat_list_cmp_total, on_total, then_total, tied_itself}
 use Rattle.aml_lex.specs.declared.names.NameSeg.{NameSeg}
 use Rattle.aml_lex.specs.Order.{segment_order}
-use Rattle.aml_paths.specs.declared.paths.Place.{Place}
+use Rattle.aml_paths.specs.declared.place.Place.{Place}
 use Rattle.aml_paths.specs.declared.paths.Step.{Step}
 use Rattle.aml_paths.specs.Chains.{number_below_chain, spots_of}
 use Rattle.aml_paths.specs.Paths.{Path}
@@ -86,6 +86,10 @@ differs : (b : Bool) → false ≡ not b → b ≡ true
 differs true e = refl
 differs false e = absurd cc
 
+-- the segment of a place is another just where it is other than one that is the same
+pub unlike : (place : Place) (other s : NameSeg) → other ≡ s → not (pointwise nat_eq place.segment.bytes other.bytes) ≡ not (pointwise nat_eq place.segment.bytes s.bytes)
+unlike place other s same = ap (λ (x : NameSeg). not (pointwise nat_eq place.segment.bytes x.bytes)) same
+
 -- a place of a segment on a chain
 pub is_place_at : (place : Place) (s : NameSeg) (t : ℕ) → place.top ≡ t → false ≡ not (pointwise nat_eq place.segment.bytes s.bytes) → place ≡ place_at s t place.depth
 is_place_at place s t top same =
@@ -147,3 +151,7 @@ module _ (numbers : BTreeMap Place ℕ) (segment : NameSeg) (top last : ℕ) whe
         greatest_none find last (λ n le. absent_by n (find n) refl (λ some.
         let past = range.4 (place, number) rest is (place_at segment top n) (within n le) some in
         other (one_place segment top n last place (behind place (place_at segment top n) past) there.0.1)))
+
+-- the range up to the place of a segment that is the same
+pub range_of : (numbers : BTreeMap Place ℕ) (segment : NameSeg) (top last : ℕ) (found : List (Place × ℕ)) (other : NameSeg) → other ≡ segment → IsRangeOf place_order Unbounded (Included (place_at other top last)) numbers found → IsRangeOf place_order Unbounded (Included (place_at segment top last)) numbers found
+range_of numbers segment top last found other same = subst (λ (s : NameSeg). IsRangeOf place_order Unbounded (Included (place_at s top last)) numbers found) same

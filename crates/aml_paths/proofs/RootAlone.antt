@@ -4,7 +4,7 @@ use Rattle.std.specs.BTreeMap.{BTreeMap, is_at}
 use Rattle.std.specs.Map.{lookup}
 use Rattle.std.proofs.lemmas.Option.{same_Some, slice_get_within}
 use Rattle.aml_paths.specs.declared.chains.Spot.{Spot}
-use Rattle.aml_paths.specs.declared.paths.Place.{Place}
+use Rattle.aml_paths.specs.declared.place.Place.{Place}
 use Rattle.aml_paths.specs.Chains.{AreChained, AreLasts, StandsOnChain, number_on_chain, root_spot, spots_of}
 use Rattle.aml_paths.specs.Paths.{AreDistinct, Path, number_below, path_number, root}
 use Rattle.aml_paths.specs.Trie.{AreNumbered, place_order}

@@ -5,7 +5,7 @@ use Rattle.std.specs.Ordering.{nat_cmp, ordering_then}
 use Rattle.std.specs.declared.cmp.Ordering.{Ordering}
 use Rattle.aml_lex.specs.declared.names.NameSeg.{NameSeg}
 use Rattle.aml_lex.specs.Order.{segment_order}
-use Rattle.aml_paths.specs.declared.paths.Place.{Place}
+use Rattle.aml_paths.specs.declared.place.Place.{Place}
 use Rattle.aml_paths.specs.declared.paths.Step.{Step}
 use Rattle.aml_paths.specs.Chains.{AreChained, number_below_chain, spots_of}
 use Rattle.aml_paths.specs.Paths.{Path, root, path_at, AreDistinct}

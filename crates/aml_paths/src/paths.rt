@@ -1,13 +1,16 @@
 // Absolute paths, each under a number (ACPI 6.5, 5.3).
 
-ghost use Rattle.std.specs.Prelude.{◌≡◌, ◌<◌, ◌≤◌, ◌++◌, ◌∷◌, [], length, take, slice_get, Some, None, OnOk, OnErr, IfOk};
+ghost use Rattle.std.specs.Prelude.{◌≡◌, ◌<◌, ◌≤◌, ◌++◌, ◌∷◌, ℕ, false, [], length, take, slice_get, Some, None, OnOk, OnErr, IfOk};
 ghost use Rattle.aml_lex.specs.Names.{name_of};
 ghost use Rattle.aml_paths.specs.Chains.{AreLasts, CanFollow, number_below_chain, spots_of};
+ghost use Rattle.aml_paths.specs.Marks.{AreMarked};
 ghost use Rattle.aml_paths.specs.Paths.{root, path_at, path_number, number_above, number_below};
 ghost use Rattle.aml_paths.specs.Resolve.{greatest, upward_search};
 ghost use Rattle.aml_paths.specs.Trie.{AreNumbered, path_of};
 
 use crate::chains::{Spot, holds, note_last};
+use crate::marks::{group_of, mark_below, may_stand};
+use crate::place::{Characters, Place};
 use aml_lex::{NameRef, NameSeg};
 use std::alloc::{AllocError, Global};
 use std::collections::BTreeMap;
@@ -35,18 +38,6 @@ pub struct Step {
     pub spot: Spot,
 }
 
-/// A segment below a path. In the order of places, those of one segment below the paths of one
-/// chain stand together by depth, so that one look-up searches a chain. The chain comes first,
-/// since two numbers are compared sooner than two segments.
-#[derive(Clone, Copy, Debug, PartialEq, Eq, PartialOrd, Ord)]
-pub(crate) struct Place {
-    /// The number of the first path on the chain.
-    pub top: usize,
-    pub segment: NameSeg,
-    /// How many segments the path on the chain has.
-    pub depth: usize,
-}
-
 /// Absolute paths, each under a number: the root's is 0. With a path stand all that begin it, and
 /// only the last step of each is kept, so that a path of thousands of segments is not stored whole
 /// once for each name below it.
@@ -59,8 +50,11 @@ pub struct Paths {
     numbers: BTreeMap<Place, usize>,
     /// At the number of a chain's first path, but for the root, that of its last.
     lasts: Vec<usize>,
+    /// At the number of a chain's first path, which segments may stand below the chain's paths.
+    marks: Vec<u64>,
     ghost numbered: { AreNumbered numbers steps.items },
     ghost ended: { AreLasts lasts.items (spots_of steps.items) },
+    ghost marked: { AreMarked marks.items numbers },
 }
 
 impl Paths {
@@ -74,6 +68,7 @@ impl Paths {
             steps: Vec::new(alloc),
             numbers: BTreeMap::new(alloc),
             lasts: Vec::new(alloc),
+            marks: Vec::new(alloc),
         }
     }
 
@@ -99,6 +94,15 @@ impl Paths {
         self.steps[number - 1].spot
     }
 
+    /// Whether a path of this segment may be below one of the chain with this top.
+    fn may_be_below(&self, top: usize, segment: NameSeg) -> bool
+        ensures { let spots = spots_of self.now.steps.items in
+            let find = number_below_chain (paths_seen self.now) spots top segment.bytes in
+            result ≡ false → (depth : ℕ) → find depth ≡ None }
+    {
+        may_stand(&self.marks, top, group_of(segment))
+    }
+
     /// The number of the path that is one segment below the path with this number.
     pub fn child(&self, at: usize, segment: NameSeg) -> Option<usize>
         ensures { result ≡ number_below (paths_seen self.now) at (segment.bytes ∷ []) }
@@ -107,8 +111,11 @@ impl Paths {
             return None;
         }
         let spot = self.spot(at);
+        if !self.may_be_below(spot.top, segment) {
+            return None;
+        }
         let place = Place {
-            segment,
+            segment: Characters::of(segment),
             top: spot.top,
             depth: spot.depth,
         };
@@ -166,13 +173,16 @@ impl Paths {
             let find = number_below_chain (paths_seen self.now) spots spot.top segment.bytes in
             result ≡ greatest find spot.depth }
     {
+        if !self.may_be_below(spot.top, segment) {
+            return None;
+        }
         let greatest = Place {
-            segment,
+            segment: Characters::of(segment),
             top: spot.top,
             depth: spot.depth,
         };
         let (place, number) = self.numbers.range(..=greatest).next_back()?;
-        if place.top != spot.top || place.segment != segment {
+        if place.top != spot.top || place.segment != Characters::of(segment) {
             return None;
         }
         Some(*number)
@@ -262,11 +272,12 @@ impl Paths {
             spot,
         };
         let place = Place {
-            segment,
+            segment: Characters::of(segment),
             top: above.top,
             depth: above.depth,
         };
         note_last(&mut self.lasts, spot.top, number)?;
+        mark_below(&mut self.marks, above.top, group_of(segment))?;
         self.steps.push(step)?;
         match self.numbers.insert(place, number) {
             Ok(_) => Ok(number),
