@@ -130,9 +130,10 @@ impl<'a> Others<'a> {
 }
 
 impl World for Others<'_> {
-    ghost log = { λ it. events_of it.mine.events.items };
-
-    ghost refusals = { λ it. it.refused };
+    ghost log = { λ it. record {
+        events = events_of it.mine.events.items;
+        refusals = it.refused;
+    } };
 
     fn read(&mut self, access: Access) -> Result<u64, NoMemory> {
         match self.mine.read(access) {
