@@ -49,17 +49,17 @@ past_name-returns-in_default-clause-is t c = λ u lies.
     name_alone_ends (count_of c.args.scene.now) c.args.bytes.now c.args.at c.requires.name c.args.spot u c.name_end-next.result (λ e. c.in_default.not-Invoked (c.naming_of.ensures ∙ e)) c.name_end-next.ensures.is lies
 
 -- past_arguments
-pub past_arguments-past-requires : goal.past_arguments-past-requires
-past_arguments-past-requires t c =
+pub past_arguments-past-at-requires : goal.past_arguments-past-at-requires
+past_arguments-past-at-requires t c =
     let few : c.arguments.counter < length c.requires.terms = omega (arith, c.arguments-test.true, c.requires.are) in
     (omega (arith, c.arguments.invariant.ahead), first_argument (count_of c.args.scene.now) c.args.bytes.now c.arguments.at c.requires.stop c.arguments.counter c.requires.terms few (c.arguments.invariant.left c.requires.stop c.requires.terms c.requires.lie c.requires.are))
 
 pub past_arguments-arguments-preserved : goal.past_arguments-arguments-preserved
 past_arguments-arguments-preserved t c = record {
-  ahead = omega (arith, c.arguments.invariant.ahead, c.past.ensures.ahead);
+  ahead = omega (arith, c.arguments.invariant.ahead, c.past-at.ensures.ahead);
   left = λ stop ts lie are.
       let few : c.arguments.counter < length ts = omega (arith, c.arguments-test.true, are) in
-      next_arguments (count_of c.args.scene.now) c.args.bytes.now c.arguments.at stop c.arguments.counter c.past.result ts few c.past.ensures.is (c.arguments.invariant.left stop ts lie are);
+      next_arguments (count_of c.args.scene.now) c.args.bytes.now c.arguments.at stop c.arguments.counter c.past-at.result ts few c.past-at.ensures.is (c.arguments.invariant.left stop ts lie are);
 }
 
 pub past_arguments-returns-clause-is : goal.past_arguments-returns-clause-is
