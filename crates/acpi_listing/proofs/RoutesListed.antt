@@ -18,7 +18,7 @@ use Rattle.aml_methods.specs.Judgings.{Told}
 use Rattle.aml_meaning.specs.State as State
 use Rattle.aml_namespace.specs.Load.{Shown}
 use Rattle.aml_namespace.specs.Shows.{shown}
-use Rattle.aml_regions.specs.Events.{Event}
+use Rattle.aml_regions.specs.Events.{Event, Log}
 use Rattle.aml_regions.specs.Registers.{contents}
 use Rattle.aml_registers.specs.Answers.{AnswerReads}
 use Rattle.aml_registers.specs.declared.registers.Registers.{Registers}
@@ -48,15 +48,15 @@ use Rattle.acpi_sources.specs.declared.inputs.Inputs.{Inputs}
 use Rattle.acpi_listing.proofs.Chains.{given, given_fault, quiet, quiet_fault, still}
 
 -- a link that is refused, or want of memory, from what names held and the events before
-pub link_told : (bytes : ℕ → ℕ → ℕ) (checked : Checked) (id : ℕ) (held names : State.Names) (had before log : List Event) (e : LinkFault) (r : Result Prt Fault)
+pub link_told : (bytes : ℕ → ℕ → ℕ) (checked : Checked) (id : ℕ) (held names : State.Names) (had before log : Log) (e : LinkFault) (r : Result Prt Fault)
     → IsErrAnd r (λ f. f ≡ link_fault e) → Asks (λ (prt : Prt). prt) (λ x. GivesPrt checked id x held had names log) (Err e)
     → held ≡ names_first (shown checked.namespace.now) → had ≡ before
-    → ((events : List Event) → log ≡ before ++ events → AnswerReads bytes events) → IsPrtOver bytes checked id r
+    → ((events : List Event) → log.events ≡ before.events ++ events → AnswerReads bytes events) → IsPrtOver bytes checked id r
 link_told bytes checked id held names had before log e (Ok prt) is gives first same answers = absurd is
 link_told bytes checked id held names had before log links.NoMemory (Err f) is gives first same answers = inl is
 link_told bytes checked id held names had before log (links.Refused refused) (Err f) is gives first same answers =
     let begun = subst (λ (h : State.Names). GivesPrt checked id (Err refused) h had names log) first gives in
-    let gave = subst (λ (b : List Event). GivesPrt checked id (Err refused) (names_first (shown checked.namespace.now)) b names log) same begun in
+    let gave = subst (λ (b : Log). GivesPrt checked id (Err refused) (names_first (shown checked.namespace.now)) b names log) same begun in
     inr (refused, record { names = names; before = before; log = log; gives = gave; answered = answers }, is)
 
 -- a fault of a _PRT that has no routes

@@ -1,12 +1,16 @@
 -- A log that began with a text, and went on.
 use Rattle.std.proofs.Common.{◌≡◌, ℕ, List, [], ◌∷◌, ◌++◌, Some, ap, drop, subst, sym}
 use Rattle.aml_values.specs.Values.{Str}
-use Rattle.aml_regions.specs.Events.{Event, Slept}
+use Rattle.aml_regions.specs.Events.{Event, Log, Slept}
 use Rattle.aml_regions.specs.EventViews.{events_of}
 use Rattle.aml_regions.specs.Registers.{contents}
 use Rattle.aml_regions.specs.Text.{TextSets}
 use Rattle.aml_registers.specs.Answers.{AnswerReads, start_of}
 use Rattle.aml_registers.specs.declared.registers.Registers.{Registers}
+
+-- a log of a text at its front, and events behind it
+abbrev pub log_with : List ℕ → List Event → ℕ → Log
+log_with text events refusals = record { events = start_of text ∷ events; refusals = refusals }
 
 -- the text at the front of a log
 abbrev text_first : List Event → List ℕ

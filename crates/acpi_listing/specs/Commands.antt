@@ -15,7 +15,7 @@ use Rattle.aml_values.specs.Values.{Value, Int, Buf, Pkg}
 use Rattle.aml_contents.specs.FirstKinds.{greatest_of}
 use Rattle.aml_contents.specs.FirstContents.{first_contents, first_kinds}
 use Rattle.aml_meaning.specs.State as State
-use Rattle.aml_regions.specs.Events.{Event}
+use Rattle.aml_regions.specs.Events.{Event, Log}
 use Rattle.aml_regions.specs.Registers.{contents}
 use Rattle.aml_registers.specs.Answers.{AnswerReads}
 use Rattle.aml_plain.specs.Methods.{Evaluates}
@@ -144,9 +144,10 @@ names_first ns = record { contents = first_contents ns; kinds = first_kinds ns }
 pub record IsOutcome (ns : Shown) (bytes : ℕ → ℕ → ℕ) (id : ℕ) (m : Method) (body : Trees)
     (arguments : List Value) (steps : ℕ) (outcome : Outcome) (events : List Event) : Type 0 where
   pub names : State.Names
-  pub before : List Event
+  pub before : Log
+  pub refusals : ℕ
   pub evaluates : Evaluates ns id m body arguments steps (names_first ns) before (Ok outcome) names
-      (before ++ events)
+      (record { events = before.events ++ events; refusals = refusals })
   pub answered : AnswerReads bytes events
 
 abbrev pub IsMeant : Shown → (ℕ → ℕ → ℕ) → ℕ → Method → Trees → List Value → ℕ →
@@ -315,11 +316,12 @@ FindsObject ns word (Err f) =
 -- the events since then are answered as registers of these bytes answer them
 pub record GivesOver (bytes : ℕ → ℕ → ℕ) (checked : Checked) (id : ℕ) (g : Given) : Type 0 where
   pub names : State.Names
-  pub before : List Event
-  pub log : List Event
+  pub before : Log
+  pub log : Log
   pub gives : GivesBy checked id (said_of checked id) g (names_first (shown checked.namespace.now))
       before names log
-  pub answered : (events : List Event) → log ≡ before ++ events → AnswerReads bytes events
+  pub answered :
+      (events : List Event) → log.events ≡ before.events ++ events → AnswerReads bytes events
 
 -- the same; or memory is wanted
 abbrev pub IsGivenOver : (ℕ → ℕ → ℕ) → Checked → ℕ → Result Given Fault → Type 0
@@ -387,10 +389,11 @@ link_fault (links.Refused refused) =
 pub record PrtOver (bytes : ℕ → ℕ → ℕ) (checked : Checked) (id : ℕ)
     (r : Result Prt LinkRefusal) : Type 0 where
   pub names : State.Names
-  pub before : List Event
-  pub log : List Event
+  pub before : Log
+  pub log : Log
   pub gives : GivesPrt checked id r (names_first (shown checked.namespace.now)) before names log
-  pub answered : (events : List Event) → log ≡ before ++ events → AnswerReads bytes events
+  pub answered :
+      (events : List Event) → log.events ≡ before.events ++ events → AnswerReads bytes events
 
 -- what an object gives and the items of the links that it names, or the first link whose bytes are
 -- no items

@@ -54,9 +54,10 @@ fn refuse(refused: &mut u64) -> NoMemory
 }
 
 impl<const WRITTEN: bool> World for Unit<WRITTEN> {
-    ghost log = { λ it. log_of it.is_read it.turns (turn_of WRITTEN it.written) };
-
-    ghost refusals = { λ it. it.refused };
+    ghost log = { λ it. record {
+      events = log_of it.is_read it.turns (turn_of WRITTEN it.written);
+      refusals = it.refused;
+    } };
 
     #[inline(never)]
     fn read(&mut self, access: Access) -> Result<u64, NoMemory> {

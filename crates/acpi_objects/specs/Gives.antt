@@ -11,7 +11,7 @@ use Rattle.aml_objects.specs.declared.object.Method.{Method}
 use Rattle.aml_objects.specs.declared.object.Object.{Object}
 use Rattle.aml_objects.specs.declared.object.Object.TheVariants as object
 use Rattle.aml_paths.specs.declared.memory.NoMemory.{NoMemory}
-use Rattle.aml_regions.specs.Events.{Event}
+use Rattle.aml_regions.specs.Events.{Log}
 use Rattle.aml_values.specs.Values.{Value}
 use Rattle.aml_values.specs.Views.{view}
 use Rattle.aml_values.specs.declared.value.Value as program_value
@@ -39,16 +39,16 @@ IsGiven None g = g ≡ given.Nothing
 
 -- what an accepted method gives: its evaluation is done, without arguments and with as many steps
 -- as its verdict says
-pub record IsEvaluated (c : Checked) (k : ℕ) (g : Given) (names : Names) (log : List Event)
-    (names_left : Names) (log_left : List Event) : Type 0 where
+pub record IsEvaluated (c : Checked) (k : ℕ) (g : Given) (names : Names) (log : Log)
+    (names_left : Names) (log_left : Log) : Type 0 where
   pub value : Option program_value.Value
   pub given : IsGiven value g
   pub done : IsDone c k [] names log value names_left log_left
 
 -- what the object with a number gives: by what is said of it, where it is a method, else what a
 -- name of that number holds
-abbrev pub GivesBy : Checked → ℕ → Option Verdict → Given → Names → List Event → Names →
-    List Event → Type 0
+abbrev pub GivesBy : Checked → ℕ → Option Verdict → Given → Names → Log → Names →
+    Log → Type 0
 GivesBy c k None g names log names_left log_left =
     Holds (content_at names.contents k) g × (names_left ≡ names) × (log_left ≡ log)
 GivesBy c k (Some (verdict.Accepted a)) g names log names_left log_left =
@@ -57,7 +57,7 @@ GivesBy c k (Some v) g names log names_left log_left =
     (g ≡ given.Refused) × (names_left ≡ names) × (log_left ≡ log)
 
 -- the same; nothing is said where memory is wanted
-abbrev pub Gives : Checked → ℕ → Result Given NoMemory → Names → List Event → Names → List Event →
+abbrev pub Gives : Checked → ℕ → Result Given NoMemory → Names → Log → Names → Log →
     Type 0
 Gives c k (Ok g) names log names_left log_left =
     GivesBy c k (verdict_at c.verdicts.items k) g names log names_left log_left

@@ -14,7 +14,7 @@ use Rattle.acpi_routing.specs.declared.fault.LinkFault.TheVariants as fault
 use Rattle.acpi_routing.specs.declared.fault.LinkRefusal.{LinkRefusal}
 use Rattle.aml_meaning.specs.State.{Names}
 use Rattle.aml_paths.specs.declared.scope.ObjectId.{ObjectId}
-use Rattle.aml_regions.specs.Events.{Event}
+use Rattle.aml_regions.specs.Events.{Log}
 use Rattle.aml_verify.specs.declared.checked.Checked.{Checked}
 
 -- nothing is said where memory is wanted
@@ -54,18 +54,18 @@ pub leads_end : (links : Links) → leads links (Ok []) ≡ Ok links
 leads_end links = ap (λ (ls : Links). Ok ls) (append_none links)
 
 -- the links that were asked, and what is left to ask: whatever comes of the rest, all come to the same behind what was found
-pub record AreAsked (c : Checked) (devices left : List ObjectId) (links : Links) (names : Names) (log : List Event) (mid : Names) (mid_log : List Event) : Type 0 where
-  pub rest : (r : Result Links LinkRefusal) (last : Names) (last_log : List Event)
+pub record AreAsked (c : Checked) (devices left : List ObjectId) (links : Links) (names : Names) (log : Log) (mid : Names) (mid_log : Log) : Type 0 where
+  pub rest : (r : Result Links LinkRefusal) (last : Names) (last_log : Log)
       → HaveItems c left r mid mid_log last last_log → HaveItems c devices (leads links r) names log last last_log
 
-pub asked_none : (c : Checked) (devices : List ObjectId) (names : Names) (log : List Event) → AreAsked c devices devices [] names log names log
+pub asked_none : (c : Checked) (devices : List ObjectId) (names : Names) (log : Log) → AreAsked c devices devices [] names log names log
 asked_none c devices names log = record {
   rest = λ r last last_log have. subst (λ (x : Result Links LinkRefusal). HaveItems c devices x names log last last_log) (sym (leads_none r)) have;
 }
 
 -- one more
-pub asked_more : (c : Checked) (devices : List ObjectId) (device : ObjectId) (left : List ObjectId) (links : Links) (names : Names) (log : List Event) (mid : Names) (mid_log : List Event)
-    (next : Names) (next_log : List Event) (found : Option (List Item))
+pub asked_more : (c : Checked) (devices : List ObjectId) (device : ObjectId) (left : List ObjectId) (links : Links) (names : Names) (log : Log) (mid : Names) (mid_log : Log)
+    (next : Names) (next_log : Log) (found : Option (List Item))
     → AreAsked c devices (device ∷ left) links names log mid mid_log → HasItems c device (Ok found) mid mid_log next next_log
     → AreAsked c devices left (links ++ link_with device found) names log next next_log
 asked_more c devices device left links names log mid mid_log next next_log found asked has = record {
@@ -75,15 +75,15 @@ asked_more c devices device left links names log mid mid_log next next_log found
 }
 
 -- one that is refused
-pub asked_refused : (c : Checked) (devices : List ObjectId) (device : ObjectId) (left : List ObjectId) (links : Links) (names : Names) (log : List Event) (mid : Names) (mid_log : List Event)
-    (last : Names) (last_log : List Event) (refused : LinkRefusal)
+pub asked_refused : (c : Checked) (devices : List ObjectId) (device : ObjectId) (left : List ObjectId) (links : Links) (names : Names) (log : Log) (mid : Names) (mid_log : Log)
+    (last : Names) (last_log : Log) (refused : LinkRefusal)
     → AreAsked c devices (device ∷ left) links names log mid mid_log → HasItems c device (Err refused) mid mid_log last last_log
     → HaveItems c devices (Err refused) names log last last_log
 asked_refused c devices device left links names log mid mid_log last last_log refused asked has =
     asked.rest (Err refused) last last_log (inr (refused, has, refl))
 
 -- all
-pub asked_all : (c : Checked) (devices : List ObjectId) (links : Links) (names : Names) (log : List Event) (last : Names) (last_log : List Event)
+pub asked_all : (c : Checked) (devices : List ObjectId) (links : Links) (names : Names) (log : Log) (last : Names) (last_log : Log)
     → AreAsked c devices [] links names log last last_log → HaveItems c devices (Ok links) names log last last_log
 asked_all c devices links names log last last_log asked =
     subst (λ (x : Result Links LinkRefusal). HaveItems c devices x names log last last_log) (leads_end links)
@@ -109,19 +109,19 @@ module _ {Z : Type 0} (links : List (ObjectId × Vec Item Z)) (device : ObjectId
   no_link l = rw (drop_of_length-le links l) refl
 
 -- the same by places
-module _ (c : Checked) (devices : List ObjectId) (i : ℕ) (d : ObjectId) (links : Links) (names : Names) (log : List Event) (mid : Names) (mid_log : List Event)
+module _ (c : Checked) (devices : List ObjectId) (i : ℕ) (d : ObjectId) (links : Links) (names : Names) (log : Log) (mid : Names) (mid_log : Log)
     (asked : AreAsked c devices (drop i devices) links names log mid mid_log) where
   asked_here : i < length devices → AreAsked c devices (get_or devices i d ∷ drop (i + 1) devices) links names log mid mid_log
   asked_here l = subst (λ (left : List ObjectId). AreAsked c devices left links names log mid mid_log) (from_here devices i d l) asked
 
-  pub asked_step : (new : Links) (next : Names) (next_log : List Event) (found : Option (List Item)) → i < length devices
+  pub asked_step : (new : Links) (next : Names) (next_log : Log) (found : Option (List Item)) → i < length devices
       → HasItems c (get_or devices i d) (Ok found) mid mid_log next next_log → new ≡ links ++ link_with (get_or devices i d) found
       → AreAsked c devices (drop (i + 1) devices) new names log next next_log
   asked_step new next next_log found l has is =
       subst (λ (ls : Links). AreAsked c devices (drop (i + 1) devices) ls names log next next_log) (sym is)
       (asked_more c devices (get_or devices i d) (drop (i + 1) devices) links names log mid mid_log next next_log found (asked_here l) has)
 
-  pub asked_stop : (last : Names) (last_log : List Event) (refused : LinkRefusal) → i < length devices
+  pub asked_stop : (last : Names) (last_log : Log) (refused : LinkRefusal) → i < length devices
       → HasItems c (get_or devices i d) (Err refused) mid mid_log last last_log → HaveItems c devices (Err refused) names log last last_log
   asked_stop last last_log refused l has =
       asked_refused c devices (get_or devices i d) (drop (i + 1) devices) links names log mid mid_log last last_log refused (asked_here l) has
@@ -131,7 +131,7 @@ module _ (c : Checked) (devices : List ObjectId) (i : ℕ) (d : ObjectId) (links
       (subst (λ (left : List ObjectId). AreAsked c devices left links names log mid mid_log) (none_left devices i l) asked)
 
   -- one whose answer is a fault
-  pub stops_here : {X Z : Type 0} (view : X → Option (List Item)) (other : Z → Links) (last : Names) (last_log : List Event) (f : LinkFault) → i < length devices
+  pub stops_here : {X Z : Type 0} (view : X → Option (List Item)) (other : Z → Links) (last : Names) (last_log : Log) (f : LinkFault) → i < length devices
       → Answers view (λ r. HasItems c (get_or devices i d) r mid mid_log last last_log) (Err f)
       → (r : Result Z LinkFault) → IsErrAnd r (λ e. e ≡ f) → Answers other (λ r. HaveItems c devices r names log last last_log) r
   stops_here view other last last_log f l holds r same =

@@ -18,7 +18,7 @@ use Rattle.aml_namespace.specs.Shows.{shown}
 use Rattle.aml_path_text.specs.Paths.{path_of}
 use Rattle.aml_paths.specs.Printed.{path_text}
 use Rattle.aml_paths.specs.declared.scope.ObjectId.{ObjectId}
-use Rattle.aml_regions.specs.Events.{Event}
+use Rattle.aml_regions.specs.Events.{Log}
 use Rattle.aml_values.specs.Values.{Buf, Value}
 use Rattle.aml_values.specs.Views.{view}
 use Rattle.aml_verify.specs.declared.checked.Checked.{Checked}
@@ -63,7 +63,7 @@ items_given device g = items_in device (octets_given g)
 -- the items of a device, by the number of its _CRS: what that gives, from what names hold and the
 -- events so far; a device without one has no items, and changes nothing
 abbrev pub HasItemsBy : Checked → ObjectId → Option ℕ → Result (Option (List Item)) LinkRefusal →
-    Names → List Event → Names → List Event → Type 0
+    Names → Log → Names → Log → Type 0
 HasItemsBy c device (Some crs) r names log names_left log_left =
     (g : Given) × GivesBy c crs (said_of c crs) g names log names_left log_left ×
     (r ≡ items_given device g)
@@ -72,6 +72,6 @@ HasItemsBy c device None r names log names_left log_left =
 
 -- the items of a device, by its _CRS
 abbrev pub HasItems : Checked → ObjectId → Result (Option (List Item)) LinkRefusal → Names →
-    List Event → Names → List Event → Type 0
+    Log → Names → Log → Type 0
 HasItems c device r names log names_left log_left =
     HasItemsBy c device (crs_of (shown c.namespace.now) device.0) r names log names_left log_left

@@ -1,6 +1,6 @@
 // Fields of buffers (ACPI 6.5, 19.6, CreateField and its kin).
 
-ghost use Rattle.std.specs.Prelude.{◌≡◌, ◌<◌, ◌≤◌, ◌+◌, ◌*◌, length, List, Some, IfOk, IfSome};
+ghost use Rattle.std.specs.Prelude.{◌≡◌, ◌<◌, ◌≤◌, ◌+◌, ◌*◌, length, Some, IfOk, IfSome};
 ghost use Rattle.std.specs.Option.{option_map};
 ghost use Rattle.aml_values.specs.Values.{Buf};
 ghost use Rattle.aml_values.specs.Views.{view};
@@ -9,13 +9,13 @@ ghost use Rattle.aml_contents.specs.Held.{contents};
 ghost use Rattle.aml_namespace.specs.Shows.{shown};
 ghost use Rattle.aml_objects.specs.Widths.{bits_of};
 ghost use Rattle.aml_regions.specs.BufferFields.{stored};
-ghost use Rattle.aml_regions.specs.Events.{Event};
+ghost use Rattle.aml_regions.specs.Events.{Log};
 ghost use Rattle.aml_meaning.specs.BufferFields.{IsLaidOut, buffer_field_numbered, bytes_around, first_bit, read_buffer_field, wanted_buffer_field, written_buffer_field};
-ghost use Rattle.aml_meaning.specs.Changes.{change, held_by};
+ghost use Rattle.aml_meaning.specs.Changes.{change, held_by, result_takes_memory};
 ghost use Rattle.aml_meaning.specs.Meaning.{buffer_field_changed, buffer_field_read};
 ghost use Rattle.aml_meaning.specs.Runs.{Runs, ruled};
 ghost use Rattle.aml_machine.specs.Views.{names_of, now, value_of};
-ghost use Rattle.aml_scene.specs.Tells.{IsChanged, IsOrNoMemory, itself, place_in, setting_in, told, went};
+ghost use Rattle.aml_scene.specs.Tells.{IsChanged, IsOrWanted, itself, place_in, setting_in, told, went};
 
 use crate::field::takes_buffer;
 use aml_contents::Names;
@@ -85,8 +85,9 @@ fn content(
     held: Option<&Value>,
 ) -> Result<Value, Halt>
     requires { IsLaidOut field }
-    ensures { IsOrNoMemory (told view result) (ruled (read_buffer_field (bits_of scene.now.width)
-        (place_in scene.now at) field (option_map (λ v. view v.now) held.entry))) }
+    ensures { let rule = read_buffer_field (bits_of scene.now.width) (place_in scene.now at) field
+        (option_map (λ v. view v.now) held.entry) in
+        IsOrWanted (result_takes_memory rule) (told view result) (ruled rule) }
 {
     let bytes = bytes_around(scene, at, field, held)?;
     let value = buffer_field_value(alloc, scene.width, field, bytes)?;
@@ -103,7 +104,7 @@ pub fn buffer_field_read(
     machine: &Machine,
 ) -> Result<Option<Value>, Halt>
     requires { IfSome field IsLaidOut }
-    ensures { (call : _) (log : List Event) → Runs (told value_of result)
+    ensures { (call : _) (log : Log) → Runs (told value_of result)
         (buffer_field_read (setting_in scene.now call) field at)
         (now machine.now log) (now machine.now log) }
 {
@@ -155,7 +156,7 @@ fn put_buffer_field(
     machine: &mut Machine,
 ) -> Result<(), Halt>
     requires { IsLaidOut field }
-    ensures means { (log : List Event) → Runs (went result)
+    ensures means { (log : Log) → Runs (went result)
         (change field.source (written_buffer_field (bits_of scene.now.width)
         (place_in scene.now at) field
         (view stored.now)))
@@ -186,7 +187,7 @@ pub fn buffer_field_stored(
     machine: &mut Machine,
 ) -> Result<(), Halt>
     requires { IfSome field IsLaidOut }
-    ensures means { (call : _) (log : List Event) → Runs (went result)
+    ensures means { (call : _) (log : Log) → Runs (went result)
         (buffer_field_changed (setting_in scene.now call) at field (view stored.now))
         (now machine.old log) (now machine.new log) }
     ensures falls { machine.new.steps ≤ machine.old.steps }

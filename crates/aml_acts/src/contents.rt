@@ -1,21 +1,21 @@
 // What names hold: read, stored and made, each with its error.
 
-ghost use Rattle.std.specs.Prelude.{◌≡◌, ◌≤◌, List, None, Some};
+ghost use Rattle.std.specs.Prelude.{◌≡◌, ◌≤◌, None, Some};
 ghost use Rattle.aml_values.specs.Views.{view};
 ghost use Rattle.aml_contents.specs.Contents.{content_at};
-ghost use Rattle.aml_regions.specs.Events.{Event};
+ghost use Rattle.aml_regions.specs.Events.{Log};
 ghost use Rattle.aml_objects.specs.Widths.{bits_of};
 ghost use Rattle.aml_meaning.specs.Owns.{define_field, define_own, set_own};
-ghost use Rattle.aml_meaning.specs.Parts.{set_name};
+ghost use Rattle.aml_meaning.specs.Parts.{copy_takes_memory, set_name};
 ghost use Rattle.aml_meaning.specs.Runs.{Runs, content};
 ghost use Rattle.aml_machine.specs.Views.{made, now};
-ghost use Rattle.aml_scene.specs.Tells.{IsOrNoMemory, is_package, told, went};
+ghost use Rattle.aml_scene.specs.Tells.{IsOrWanted, is_package, told, went};
 
-use aml_machine::Machine;
+use aml_machine::{Machine, copied};
 use aml_meaning::{AmlCause, BufferField};
 use aml_paths::{NoMemory, ObjectId};
 use aml_scene::halt::{Halt, Scene, fails};
-use aml_values::{Value, copy};
+use aml_values::Value;
 use std::alloc::Global;
 
 /// What a data name holds, where it stands. A1 at the term's place where it holds nothing.
@@ -25,7 +25,7 @@ pub fn seen<'a>(
     id: ObjectId,
     machine: &'a Machine,
 ) -> Result<&'a Value, Halt>
-    ensures { (log : List Event) → told (λ v. view v.now) result
+    ensures { (log : Log) → told (λ v. view v.now) result
         ≡ content scene.now.table at
         (Some (content_at (now machine.now log).names.contents id.0)) }
 {
@@ -43,14 +43,14 @@ pub fn content(
     id: ObjectId,
     machine: &Machine,
 ) -> Result<Value, Halt>
-    ensures { (log : List Event) → IsOrNoMemory (told view result)
-        (content scene.now.table at
-        (Some (content_at (now machine.now log).names.contents id.0))) }
+    ensures { (log : Log) →
+        let slot = Some (content_at (now machine.now log).names.contents id.0) in
+        IsOrWanted (copy_takes_memory slot) (told view result) (content scene.now.table at slot) }
 {
     match machine.names.get(id) {
         Some(value) => {
-            let copied = copy(alloc, value)?;
-            Ok(copied)
+            let kept = copied(alloc, value)?;
+            Ok(kept)
         }
         None => Err(fails(AmlCause::Unset, scene, at)),
     }
@@ -65,7 +65,7 @@ pub fn set_name(
     value: Value,
     machine: &mut Machine,
 ) -> Result<(), Halt>
-    ensures means { (log : List Event) → Runs (went result)
+    ensures means { (log : Log) → Runs (went result)
         (set_name scene.now.table at id.0 (view value))
         (now machine.old log) (now machine.new log) }
     ensures falls { machine.new.steps ≤ machine.old.steps }
@@ -91,7 +91,7 @@ pub fn own_seen<'a>(
     number: usize,
     machine: &'a Machine,
 ) -> Result<&'a Value, Halt>
-    ensures { (log : List Event) → told (λ v. view v.now) result
+    ensures { (log : Log) → told (λ v. view v.now) result
         ≡ content scene.now.table at
         (Some (content_at (now machine.now log).frame.owns.contents number)) }
 {
@@ -109,14 +109,14 @@ pub fn own_content(
     number: usize,
     machine: &Machine,
 ) -> Result<Value, Halt>
-    ensures { (log : List Event) → IsOrNoMemory (told view result)
-        (content scene.now.table at
-        (Some (content_at (now machine.now log).frame.owns.contents number))) }
+    ensures { (log : Log) →
+        let slot = Some (content_at (now machine.now log).frame.owns.contents number) in
+        IsOrWanted (copy_takes_memory slot) (told view result) (content scene.now.table at slot) }
 {
     match machine.frame.owns.get(ObjectId(number)) {
         Some(value) => {
-            let copied = copy(alloc, value)?;
-            Ok(copied)
+            let kept = copied(alloc, value)?;
+            Ok(kept)
         }
         None => Err(fails(AmlCause::Unset, scene, at)),
     }
@@ -131,7 +131,7 @@ pub fn set_own(
     value: Value,
     machine: &mut Machine,
 ) -> Result<(), Halt>
-    ensures means { (log : List Event) → Runs (went result)
+    ensures means { (log : Log) → Runs (went result)
         (set_own scene.now.table at number (view value))
         (now machine.old log) (now machine.new log) }
     ensures falls { machine.new.steps ≤ machine.old.steps }
@@ -157,7 +157,7 @@ pub fn define_own(
     value: Value,
     machine: &mut Machine,
 ) -> Result<(), Halt>
-    ensures means { (log : List Event) → Runs (went result)
+    ensures means { (log : Log) → Runs (went result)
         (define_own (bits_of scene.now.width) (view value))
         (now machine.old log) (now machine.new log) }
     ensures steps { machine.new.steps ≡ machine.old.steps }
@@ -172,7 +172,7 @@ pub fn define_field(
     field: BufferField,
     machine: &mut Machine,
 ) -> Result<(), Halt>
-    ensures means { (log : List Event) → Runs (went result)
+    ensures means { (log : Log) → Runs (went result)
         (define_field (bits_of scene.now.width) field)
         (now machine.old log) (now machine.new log) }
     ensures steps { machine.new.steps ≡ machine.old.steps }

@@ -1,9 +1,9 @@
 // Fields of buffers that a body makes itself (ACPI 6.5, 19.6, CreateField and its kin).
 
-ghost use Rattle.std.specs.Prelude.{◌≡◌, List};
+ghost use Rattle.std.specs.Prelude.{◌≡◌};
 ghost use Rattle.std.specs.Option.{option_map};
 ghost use Rattle.aml_objects.specs.declared.object.CreatedFieldSize.TheVariants as size;
-ghost use Rattle.aml_regions.specs.Events.{Event};
+ghost use Rattle.aml_regions.specs.Events.{Log};
 ghost use Rattle.aml_meaning.specs.Definitions.{field_source, make_field};
 ghost use Rattle.aml_meaning.specs.Runs.{Runs};
 ghost use Rattle.aml_machine.specs.Views.{now};
@@ -21,7 +21,7 @@ use std::alloc::Global;
 /// What a field is made of, by what its source's name means: a data name, also an own one that is
 /// no field. A6 at the opcode where it means nothing or anything else.
 fn field_source(scene: &Scene<'_>, at: usize, link: Link, machine: &Machine) -> Result<Link, Halt>
-    ensures { (call : _) (log : List Event) → Runs (told itself result)
+    ensures { (call : _) (log : Log) → Runs (told itself result)
         (field_source (setting_in scene.now call) at link)
         (now machine.now log) (now machine.now log) }
 {
@@ -46,7 +46,7 @@ pub fn make_field(
     size: Option<CreatedFieldSize>,
     machine: &mut Machine,
 ) -> Result<(), Halt>
-    ensures means { (call : _) (log : List Event) → Runs (went result)
+    ensures means { (call : _) (log : Log) → Runs (went result)
         (make_field (setting_in scene.now call) at from index size)
         (now machine.old log) (now machine.new log) }
     ensures steps { machine.new.steps ≡ machine.old.steps }

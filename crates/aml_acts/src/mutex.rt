@@ -1,7 +1,7 @@
 // Acquire and Release (ACPI 6.5, 19.6).
 
-ghost use Rattle.std.specs.Prelude.{◌≡◌, ◌≤◌, List, Some};
-ghost use Rattle.aml_regions.specs.Events.{Event};
+ghost use Rattle.std.specs.Prelude.{◌≡◌, ◌≤◌, Some};
+ghost use Rattle.aml_regions.specs.Events.{Log};
 ghost use Rattle.aml_meaning.specs.Meaning.{mutex, mutex_named, mutex_numbered};
 ghost use Rattle.aml_meaning.specs.Mutexes.{acquire, none_held, release};
 ghost use Rattle.aml_meaning.specs.Runs.{Runs};
@@ -76,7 +76,7 @@ fn mutex_of(
     from: usize,
     machine: &mut Machine,
 ) -> Result<TakenMutex, Halt>
-    ensures means { (call : _) (log : List Event) → Runs (told itself result)
+    ensures means { (call : _) (log : Log) → Runs (told itself result)
         (mutex (setting_in scene.now call) at action from)
         (now machine.old log) (now machine.new log) }
     ensures falls { machine.new.steps ≤ machine.old.steps }
@@ -94,7 +94,7 @@ fn mutex_of(
 
 /// Takes a mutex. A10 at the operator where its level is below one that is held.
 fn take(scene: &Scene<'_>, at: usize, mutex: TakenMutex, machine: &mut Machine) -> Result<(), Halt>
-    ensures means { (log : List Event) → Runs (went result)
+    ensures means { (log : Log) → Runs (went result)
         (acquire scene.now.table at mutex)
         (now machine.old log) (now machine.new log) }
     ensures steps { machine.new.steps ≡ machine.old.steps }
@@ -113,7 +113,7 @@ fn give_back(
     mutex: TakenMutex,
     machine: &mut Machine,
 ) -> Result<(), Halt>
-    ensures means { (log : List Event) → Runs (went result)
+    ensures means { (log : Log) → Runs (went result)
         (release scene.now.table at mutex)
         (now machine.old log) (now machine.new log) }
     ensures steps { machine.new.steps ≡ machine.old.steps }
@@ -127,7 +127,7 @@ fn give_back(
 
 /// That a method which ends at a place holds no mutex. A12 there where it does.
 pub fn none_held(scene: &Scene<'_>, at: usize, machine: &Machine) -> Result<(), Halt>
-    ensures { (log : List Event) → Runs (went result)
+    ensures { (log : Log) → Runs (went result)
         (none_held scene.now.table at) (now machine.now log) (now machine.now log) }
 {
     if machine.frame.mutexes.is_empty() {
@@ -147,7 +147,7 @@ pub fn acquired(
     from: usize,
     machine: &mut Machine,
 ) -> Result<Option<Value>, Halt>
-    ensures means { (call : _) (log : List Event) → Runs (told value_of result)
+    ensures means { (call : _) (log : Log) → Runs (told value_of result)
         (acquired (setting_in scene.now call) at action from)
         (now machine.old log) (now machine.new log) }
     ensures falls { machine.new.steps ≤ machine.old.steps }
@@ -166,7 +166,7 @@ pub fn released(
     from: usize,
     machine: &mut Machine,
 ) -> Result<Option<Value>, Halt>
-    ensures means { (call : _) (log : List Event) → Runs (told value_of result)
+    ensures means { (call : _) (log : Log) → Runs (told value_of result)
         (released (setting_in scene.now call) at action from)
         (now machine.old log) (now machine.new log) }
     ensures falls { machine.new.steps ≤ machine.old.steps }

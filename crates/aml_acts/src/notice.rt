@@ -1,8 +1,8 @@
 // What a world is told: Notify, Sleep and Stall (ACPI 6.5, 19.6).
 
-ghost use Rattle.std.specs.Prelude.{◌≡◌, ◌≤◌, List};
+ghost use Rattle.std.specs.Prelude.{◌≡◌, ◌≤◌};
 ghost use Rattle.aml_paths.specs.declared.scope.ObjectId.{ObjectId};
-ghost use Rattle.aml_regions.specs.Events.{Event, Notified, Stalled};
+ghost use Rattle.aml_regions.specs.Events.{Notified, Stalled, Log};
 ghost use Rattle.aml_meaning.specs.Meaning.{notified, notified_name};
 ghost use Rattle.aml_meaning.specs.Notices.{is_notifiable, notice, paused};
 ghost use Rattle.aml_meaning.specs.Parts.{make_event, sleep};
@@ -54,7 +54,7 @@ pub fn notified(
     at: usize,
     machine: &mut Machine,
 ) -> Result<Option<ObjectId>, Halt>
-    ensures means { (call : _) (log : List Event) → Runs (told itself result)
+    ensures means { (call : _) (log : Log) → Runs (told itself result)
         (notified (setting_in scene.now call) action at)
         (now machine.old log) (now machine.new log) }
     ensures falls { machine.new.steps ≤ machine.old.steps }

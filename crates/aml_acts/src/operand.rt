@@ -1,9 +1,9 @@
 // What asks for no other term's value.
 
-ghost use Rattle.std.specs.Prelude.{◌≡◌, ◌≤◌, List};
+ghost use Rattle.std.specs.Prelude.{◌≡◌, ◌≤◌};
 ghost use Rattle.aml_values.specs.Views.{view};
 ghost use Rattle.aml_operators.specs.Tree.{Trees};
-ghost use Rattle.aml_regions.specs.Events.{Event};
+ghost use Rattle.aml_regions.specs.Events.{Log};
 ghost use Rattle.aml_meaning.specs.declared.action.Action.TheVariants as does;
 ghost use Rattle.aml_meaning.specs.Meaning.{act, asked, changed_in_place, is_there, measured, named_seen, sizeless, takes_operand, untargeted};
 ghost use Rattle.aml_meaning.specs.Runs.{Runs};
@@ -32,7 +32,7 @@ pub fn local(
     at: usize,
     machine: &Machine,
 ) -> Result<Option<Value>, Halt>
-    ensures { (call : _) (parts : Trees) (log : List Event) → Runs (told value_of result)
+    ensures { (call : _) (parts : Trees) (log : Log) → Runs (told value_of result)
         (act (setting_in scene.now call) (does.Local k) at parts)
         (now machine.now log) (now machine.now log) }
 {
@@ -48,7 +48,7 @@ pub fn argument(
     at: usize,
     machine: &Machine,
 ) -> Result<Option<Value>, Halt>
-    ensures { (call : _) (parts : Trees) (log : List Event) → Runs (told value_of result)
+    ensures { (call : _) (parts : Trees) (log : Log) → Runs (told value_of result)
         (act (setting_in scene.now call) (does.Argument k) at parts)
         (now machine.now log) (now machine.now log) }
 {
@@ -68,7 +68,7 @@ fn sizeless(link: Link) -> AmlCause
 
 /// What SizeOf measures of a name, where it stands.
 fn named_seen<'a>(scene: &Scene<'_>, at: usize, machine: &'a Machine) -> Result<&'a Value, Halt>
-    ensures { (call : _) (log : List Event) → let s = setting_in scene.now call in
+    ensures { (call : _) (log : Log) → let s = setting_in scene.now call in
         Runs (told (λ v. view v.now) result) (named_seen s (s.link at) at)
         (now machine.now log) (now machine.now log) }
 {
@@ -88,7 +88,7 @@ pub fn measured(
     at: usize,
     machine: &mut Machine,
 ) -> Result<Value, Halt>
-    ensures means { (call : _) (log : List Event) → Runs (told view result)
+    ensures means { (call : _) (log : Log) → Runs (told view result)
         (measured (setting_in scene.now call) action at)
         (now machine.old log) (now machine.new log) }
     ensures falls { machine.new.steps ≤ machine.old.steps }
@@ -189,7 +189,7 @@ pub fn changed_in_place(
     at: usize,
     machine: &mut Machine,
 ) -> Result<(), Halt>
-    ensures means { (call : _) (log : List Event) → Runs (went result)
+    ensures means { (call : _) (log : Log) → Runs (went result)
         (changed_in_place (setting_in scene.now call) action at)
         (now machine.old log) (now machine.new log) }
     ensures falls { machine.new.steps ≤ machine.old.steps }

@@ -1,8 +1,8 @@
 // Own names: what they hold, or the fields of buffers that they are.
 
-ghost use Rattle.std.specs.Prelude.{◌≤◌, List};
+ghost use Rattle.std.specs.Prelude.{◌≤◌};
 ghost use Rattle.aml_values.specs.Views.{view};
-ghost use Rattle.aml_regions.specs.Events.{Event};
+ghost use Rattle.aml_regions.specs.Events.{Log};
 ghost use Rattle.aml_meaning.specs.Meaning.{own_held, own_seen, own_stored};
 ghost use Rattle.aml_meaning.specs.Runs.{Runs};
 ghost use Rattle.aml_machine.specs.Views.{now, value_of};
@@ -25,7 +25,7 @@ pub fn own_held(
     number: usize,
     machine: &Machine,
 ) -> Result<Option<Value>, Halt>
-    ensures { (call : _) (log : List Event) → Runs (told value_of result)
+    ensures { (call : _) (log : Log) → Runs (told value_of result)
         (own_held (setting_in scene.now call) number at)
         (now machine.now log) (now machine.now log) }
 {
@@ -46,7 +46,7 @@ pub fn own_stored(
     stored: Value,
     machine: &mut Machine,
 ) -> Result<(), Halt>
-    ensures means { (call : _) (log : List Event) → Runs (went result)
+    ensures means { (call : _) (log : Log) → Runs (went result)
         (own_stored (setting_in scene.now call) number at (view stored))
         (now machine.old log) (now machine.new log) }
     ensures falls { machine.new.steps ≤ machine.old.steps }
@@ -64,7 +64,7 @@ pub fn own_seen<'a>(
     number: usize,
     machine: &'a Machine,
 ) -> Result<&'a Value, Halt>
-    ensures { (call : _) (log : List Event) → Runs (told (λ v. view v.now) result)
+    ensures { (call : _) (log : Log) → Runs (told (λ v. view v.now) result)
         (own_seen (setting_in scene.now call) number at)
         (now machine.now log) (now machine.now log) }
 {

@@ -9,7 +9,7 @@ ghost use Rattle.aml_namespace.specs.Shows.{shown};
 ghost use Rattle.aml_machine.specs.Views.{names_of};
 ghost use Rattle.aml_bodies.specs.Kept.{kept_at};
 ghost use Rattle.aml_quick.specs.Keeps.{AreSound, IsKept};
-ghost use Rattle.aml_direct.specs.Methods.{Evaluates};
+ghost use Rattle.aml_direct.specs.Methods.{Evaluates, Spares};
 
 use crate::eval::calls::eval_body;
 use aml_bodies::Kept;
@@ -34,8 +34,9 @@ const MOST_WITHIN: u8 = 63;
 ///
 /// The outcome is the definition's of the tree that the grammar ties to those bytes: its value or
 /// none, its error at its table and place, or out of steps; and so are what names hold afterwards
-/// and the events that the world gained. Want of memory may come anywhere: names and events are
-/// then those of the definition with fewer steps. Arguments behind the seventh are not looked at.
+/// and the events that the world gained. Want of memory comes where the world refuses a call, or
+/// where the meaning says that memory is wanted: names and events are then those of the definition
+/// with fewer steps. Arguments behind the seventh are not looked at.
 pub fn evaluate_direct<W: World>(
     alloc: Global,
     namespace: &Namespace<'_>,
@@ -49,12 +50,17 @@ pub fn evaluate_direct<W: World>(
     requires known { IsSome (method_at (shown namespace.now) method.0) }
     requires kept { AreSound (shown namespace.now) kept.now }
     requires first { IsSome (kept_at kept.now method.0) }
-    ensures { let ns = shown namespace.now in
+    ensures means { let ns = shown namespace.now in
         (m : Method) → method_at ns method.0 ≡ Some m → (ts : List Tree) →
         IsBodyOf ns method.0 m ts →
         Evaluates ns method.0 m (trees ts) (map values.view arguments.items) fuel
         (names_of names.old) (W.log world.old)
         result (names_of names.new) (W.log world.new) }
+    ensures spares { let ns = shown namespace.now in
+        (m : Method) → method_at ns method.0 ≡ Some m → (ts : List Tree) →
+        IsBodyOf ns method.0 m ts →
+        Spares ns method.0 m (trees ts) (map values.view arguments.items) fuel
+        (names_of names.old) (W.log world.old) result (W.log world.new) }
 {
     let Some(body) = kept_in(kept, method) else {
         unreachable!()

@@ -1,9 +1,9 @@
 // Fields of buffers that a body makes itself (ACPI 6.5, 19.6, CreateField and its kin).
 
-ghost use Rattle.std.specs.Prelude.{◌≡◌, ◌≤◌, List};
+ghost use Rattle.std.specs.Prelude.{◌≡◌, ◌≤◌};
 ghost use Rattle.aml_operators.specs.Tree.{trees};
 ghost use Rattle.aml_places.specs.Lies.{LiesTerm, StandParts, Stands};
-ghost use Rattle.aml_regions.specs.Events.{Event};
+ghost use Rattle.aml_regions.specs.Events.{Log};
 ghost use Rattle.aml_meaning.specs.declared.definition.Definition.TheVariants as makes;
 ghost use Rattle.aml_meaning.specs.Definitions.{defined};
 ghost use Rattle.aml_machine.specs.Views.{now};
@@ -67,7 +67,7 @@ pub fn sized_field(
     machine: &mut Machine,
 ) -> Result<usize, Halt>
     requires { StandParts (count_of here.scene.now) sized_field bytes.now at }
-    ensures means { (around : _) (log : List Event) → DoesParts here.entry around nothing itself
+    ensures means { (around : _) (log : Log) → DoesParts here.entry around nothing itself
         (λ parts. defined (setting_of here.entry around) (makes.Field size) own (trees parts))
         sized_field bytes.now own at result (now machine.old log) (now machine.new log) }
     ensures falls { machine.new.steps ≤ machine.old.steps }
@@ -106,7 +106,7 @@ pub fn counted_field(
     machine: &mut Machine,
 ) -> Result<usize, Halt>
     requires { StandParts (count_of here.scene.now) counted_field bytes.now at }
-    ensures means { (around : _) (log : List Event) → DoesParts here.entry around nothing itself
+    ensures means { (around : _) (log : Log) → DoesParts here.entry around nothing itself
         (λ parts. defined (setting_of here.entry around) makes.CountedField own (trees parts))
         counted_field bytes.now own at result (now machine.old log) (now machine.new log) }
     ensures falls { machine.new.steps ≤ machine.old.steps }

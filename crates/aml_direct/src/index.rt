@@ -1,8 +1,8 @@
 // A store into an Index: the name that it is of, and the byte that is written.
 
-ghost use Rattle.std.specs.Prelude.{◌≡◌, ◌≤◌, IfOk, List};
+ghost use Rattle.std.specs.Prelude.{◌≡◌, ◌≤◌, IfOk};
 ghost use Rattle.aml_places.specs.Lies.{LiesTerm, Stands};
-ghost use Rattle.aml_regions.specs.Events.{Event};
+ghost use Rattle.aml_regions.specs.Events.{Log};
 ghost use Rattle.aml_meaning.specs.Meaning.{indexed};
 ghost use Rattle.aml_meaning.specs.Runs.{Runs};
 ghost use Rattle.aml_machine.specs.Views.{now};
@@ -31,7 +31,7 @@ pub fn indexed(
     machine: &mut Machine,
 ) -> Result<usize, Halt>
     requires { Stands (LiesTerm (count_of here.scene.now)) bytes.now at }
-    ensures means { (around : _) (log : List Event) (t : _) →
+    ensures means { (around : _) (log : Log) (t : _) →
         LiesTerm (count_of here.entry.scene.now) bytes.now at t → Runs (told itself result)
         (indexed (setting_of here.entry around) own target t)
         (now machine.old log) (now machine.new log) }
@@ -57,7 +57,7 @@ pub fn write_numbered(
     machine: &mut Machine,
 ) -> Result<usize, Halt>
     requires { written.steps ≤ machine.now.steps }
-    ensures means { (around : _) (log : List Event) → Runs (told nothing result)
+    ensures means { (around : _) (log : Log) → Runs (told nothing result)
         (byte_changed (setting_of here.entry around) own name written (values.view stored.now))
         (left machine.old written.steps log) (now machine.new log) }
     ensures next { IfOk result (λ next. next ≡ written.next) }

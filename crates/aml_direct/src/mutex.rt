@@ -1,7 +1,7 @@
 // Acquire and Release (ACPI 6.5, 19.6).
 
-ghost use Rattle.std.specs.Prelude.{◌≤◌, List};
-ghost use Rattle.aml_regions.specs.Events.{Event};
+ghost use Rattle.std.specs.Prelude.{◌≤◌};
+ghost use Rattle.aml_regions.specs.Events.{Log};
 ghost use Rattle.aml_meaning.specs.declared.action.Action.TheVariants as does;
 ghost use Rattle.aml_machine.specs.Views.{now};
 ghost use Rattle.aml_places.specs.Lies.{StandParts};
@@ -26,7 +26,7 @@ pub fn eval_acquire(
     machine: &mut Machine,
 ) -> Result<(Option<Value>, usize), Halt>
     requires { StandParts (count_of here.scene.now) name_and_word bytes.now at }
-    ensures means { (around : _) (log : List Event) → Acts here.entry around does.Acquire
+    ensures means { (around : _) (log : Log) → Acts here.entry around does.Acquire
         name_and_word bytes.now own at result (now machine.old log) (now machine.new log) }
     ensures falls { machine.new.steps ≤ machine.old.steps }
 {
@@ -44,7 +44,7 @@ pub fn eval_release(
     machine: &mut Machine,
 ) -> Result<(Option<Value>, usize), Halt>
     requires { StandParts (count_of here.scene.now) one_name bytes.now at }
-    ensures means { (around : _) (log : List Event) → Acts here.entry around does.Release
+    ensures means { (around : _) (log : Log) → Acts here.entry around does.Release
         one_name bytes.now own at result (now machine.old log) (now machine.new log) }
     ensures falls { machine.new.steps ≤ machine.old.steps }
 {

@@ -1,10 +1,10 @@
 // Terms whose value asks for no other term's.
 
-ghost use Rattle.std.specs.Prelude.{◌≡◌, ◌≤◌, List, Some, ◌<◌, Ok, OnOk};
+ghost use Rattle.std.specs.Prelude.{◌≡◌, ◌≤◌, Some, ◌<◌, Ok, OnOk};
 ghost use Rattle.aml_operators.specs.declared.row.Spot.TheVariants as spot;
 ghost use Rattle.aml_operators.specs.Shape.{operator_of, part_letters};
 ghost use Rattle.aml_operators.specs.Tree.{trees};
-ghost use Rattle.aml_regions.specs.Events.{Event};
+ghost use Rattle.aml_regions.specs.Events.{Log};
 ghost use Rattle.aml_meaning.specs.Actions.{action};
 ghost use Rattle.aml_meaning.specs.declared.action.Action.TheVariants as does;
 ghost use Rattle.aml_meaning.specs.Meaning.{given, value};
@@ -50,7 +50,7 @@ pub fn size(
     machine: &mut Machine,
 ) -> Result<(Option<Value>, usize), Halt>
     requires { StandParts (count_of here.scene.now) one_name bytes.now at }
-    ensures means { (around : _) (own : _) (log : List Event) → Acts here.entry around
+    ensures means { (around : _) (own : _) (log : Log) → Acts here.entry around
         does.SizeOf one_name bytes.now own at result (now machine.old log) (now machine.new log) }
     ensures falls { machine.new.steps ≤ machine.old.steps }
 {

@@ -218,18 +218,18 @@ tells_limit : {V : Type 0} (n : ℕ) (m : M V) → HasEvents n m → TellsLimit 
 tells_limit n m h (Ok v) frame names limit old new runs =
     let before = with_steps (state frame names limit old) (limit - (limit - n) + 0) in
     let after = with_steps (state frame names (limit - n) new) 0 in
-    let went : GoesBy n before (Goes v after) = subst (GoesBy n before) (runs.gives new (prefix_refl new) 0) (h new before 0).0 in
+    let went : GoesBy n before (Goes v after) = subst (GoesBy n before) (runs.gives new.events (prefix_refl new.events) 0) (h new.events before 0).0 in
     let steps : limit - (limit - n) + 0 ≡ 0 + n = went.0 in
     omega (arith, steps)
 tells_limit {V} n m h (Err OutOfSteps) frame names limit old new runs =
     let before = state frame names limit old in
-    let went : GoesBy {V = V} n before (Spent (state frame names (limit - n) new)) = subst (GoesBy n before) (runs.gives new (prefix_refl new)) (h new before 0).0 in
+    let went : GoesBy {V = V} n before (Spent (state frame names (limit - n) new)) = subst (GoesBy n before) (runs.gives new.events (prefix_refl new.events)) (h new.events before 0).0 in
     went.0
 tells_limit n m h (Err NoMemory) frame names limit old new runs = tt
 tells_limit {V} n m h (Err (By stop)) frame names limit old new runs =
     let before = with_steps (state frame names limit old) (limit - (limit - n) + 0) in
     let after = with_steps (state frame names (limit - n) new) 0 in
-    let went : GoesBy {V = V} n before (Halts stop after) = subst (GoesBy n before) (runs.gives new (prefix_refl new) 0) (h new before 0).0 in
+    let went : GoesBy {V = V} n before (Halts stop after) = subst (GoesBy n before) (runs.gives new.events (prefix_refl new.events) 0) (h new.events before 0).0 in
     went
 
 pub answers_tell_the_limit : AnswersTellTheLimit

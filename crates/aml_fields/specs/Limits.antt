@@ -1,7 +1,7 @@
 -- What a limit of events makes of the reads and the writes of a field (ACPI 6.5, 19.6, Field,
 -- IndexField and BankField).
 use Rattle.std.specs.Prelude.{◌≡◌, ◌<◌, ◌≤◌, ◌+◌, ◌-◌, ℕ, List, length, Result, Ok, Err}
-use Rattle.aml_regions.specs.Events.{Event}
+use Rattle.aml_regions.specs.Events.{Event, Log}
 use Rattle.aml_regions.specs.declared.field.AnyField.{AnyField}
 use Rattle.aml_meaning.specs.Fields.{read_bytes, read_count, read_integer, write_bits, write_count}
 use Rattle.aml_meaning.specs.Parts.{M}
@@ -38,7 +38,7 @@ IsWithin n limit (Err (By stop)) = ⊥
 -- the answer of an evaluation that has so many events tells whether they are within its limit
 abbrev pub TellsLimit : {V : Type 0} → ℕ → M V → Type 0
 TellsLimit {V} n m =
-    (r : Result V Halt) (frame : Frame) (names : Names) (limit : ℕ) (old new : List Event) →
+    (r : Result V Halt) (frame : Frame) (names : Names) (limit : ℕ) (old new : Log) →
     Runs r m (state frame names limit old) (state frame names (limit - n) new) → IsWithin n limit r
 
 -- a read of a field, as an integer or as bytes, has as many events as are counted

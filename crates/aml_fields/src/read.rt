@@ -34,7 +34,7 @@ pub(crate) fn read_units<W: World, U: Units<W>, G: Gathers>(
     ensures same_reference { G.name gathered.new ≡ G.name gathered.old }
     ensures takes { Takes result (plan_reads (U.plan units.now)) left.old left.new }
     ensures none { result ≡ Ok false → left.new ≡ 0 }
-    ensures refusal { CountsRefusal result (W.refusals world.old) (W.refusals world.new) }
+    ensures refusal { CountsRefusal result (W.log world.old).refusals (W.log world.new).refusals }
 {
     let layout = units.layout();
     let width = u64::from(layout.width.bits());
@@ -69,7 +69,7 @@ pub(crate) fn read_integer<W: World, U: Units<W>>(
     ensures none { IfOk result (λ answer. IfNone answer (left.new ≡ 0)) }
     ensures fits { IfOk result
         (λ answer. IfSome answer (λ n. n < 2 ^ (U.plan units.now).layout.bits)) }
-    ensures refusal { CountsRefusal result (W.refusals world.old) (W.refusals world.new) }
+    ensures refusal { CountsRefusal result (W.log world.old).refusals (W.log world.new).refusals }
 {
     let mut value = 0u64;
     if !read_units(world, units, &mut value, left)? {
@@ -90,7 +90,7 @@ pub fn read_integer_field<W: World>(
     ensures means { (frame : _) (names : _) → Runs (told result) (read_integer field.now)
         (state frame names limit (W.log world.old))
         (state frame names (limit - read_count field.now) (W.log world.new)) }
-    ensures refusal { CountsRefusal result (W.refusals world.old) (W.refusals world.new) }
+    ensures refusal { CountsRefusal result (W.log world.old).refusals (W.log world.new).refusals }
 {
     let mut left = limit;
     read_integer(world, field, &mut left)

@@ -33,8 +33,8 @@ pub fn read_field<W: World>(
         (state frame names limit (W.log world.old))
         (state frame names (limit - read_count field.now) (W.log world.new)) }
     ensures narrow { (layout_of field.now).bits ≤ bits_of width →
-        CountsRefusal result (W.refusals world.old) (W.refusals world.new) }
-    ensures answered { IfOk result (λ _. W.refusals world.new ≡ W.refusals world.old) }
+        CountsRefusal result (W.log world.old).refusals (W.log world.new).refusals }
+    ensures answered { IfOk result (λ _. (W.log world.new).refusals ≡ (W.log world.old).refusals) }
 {
     let bits = field.layout().bits;
     if bits <= u64::from(width.bits()) {

@@ -26,7 +26,7 @@ pub fn read_wide_field<W: World>(
         Runs (told_bytes result bytes.new) (read_bytes field.now)
         (state frame names limit (W.log world.old))
         (state frame names (limit - read_count field.now) (W.log world.new)) }
-    ensures refusal { CountsRefusal result (W.refusals world.old) (W.refusals world.new) }
+    ensures refusal { CountsRefusal result (W.log world.old).refusals (W.log world.new).refusals }
 {
     let mut left = limit;
     let mut gathered = GatheredBytes { bytes };

@@ -34,7 +34,7 @@ fn others<W: World, U: Units<W>>(
     ensures none { IfOk result (λ answer. IfNone answer (left.new ≡ 0)) }
     ensures fits { IfOk result
         (λ answer. IfSome answer (λ n. n < 2 ^ bits_of (U.plan units.now).layout.width)) }
-    ensures refusal { CountsRefusal result (W.refusals world.old) (W.refusals world.new) }
+    ensures refusal { CountsRefusal result (W.log world.old).refusals (W.log world.new).refusals }
 {
     if whole {
         return Ok(Some(0));
@@ -62,7 +62,7 @@ pub(crate) fn write_units<W: World, U: Units<W>, B: Bits>(
         (state frame names left.new (W.log world.new)) }
     ensures takes { Takes result (plan_writes (U.plan units.now)) left.old left.new }
     ensures none { result ≡ Ok false → left.new ≡ 0 }
-    ensures refusal { CountsRefusal result (W.refusals world.old) (W.refusals world.new) }
+    ensures refusal { CountsRefusal result (W.log world.old).refusals (W.log world.new).refusals }
 {
     let layout = units.layout();
     let width = u64::from(layout.width.bits());
@@ -97,7 +97,7 @@ pub fn write_field<W: World, B: Bits>(
         Runs (went result) (write_bits field.now (B.bit value.now))
         (state frame names limit (W.log world.old))
         (state frame names (limit - write_count field.now) (W.log world.new)) }
-    ensures refusal { CountsRefusal result (W.refusals world.old) (W.refusals world.new) }
+    ensures refusal { CountsRefusal result (W.log world.old).refusals (W.log world.new).refusals }
 {
     let mut left = limit;
     write_units(world, field, value, &mut left)

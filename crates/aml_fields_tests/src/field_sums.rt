@@ -60,9 +60,10 @@ impl Spread {
 }
 
 impl World for Spread {
-    ghost log = { λ it. events_of it.events.items };
-
-    ghost refusals = { λ it. it.refused };
+    ghost log = { λ it. record {
+      events = events_of it.events.items;
+      refusals = it.refused;
+    } };
 
     fn read(&mut self, access: Access) -> Result<u64, NoMemory> {
         let value = answer(access);

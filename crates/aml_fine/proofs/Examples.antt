@@ -19,7 +19,7 @@ no_events kinds = record { each = λ i event e. absurd cc }
 
 -- as a method begins, with so many steps, where names hold nothing
 abbrev begins : ℕ → State
-begins n = before (record { contents = []; kinds = [] }) n []
+begins n = before (record { contents = []; kinds = [] }) n (record { events = []; refusals = 0 })
 
 -- a test that takes a step
 abbrev gives_number : ℕ → M ℕ
@@ -69,7 +69,7 @@ fits_by_length (suc i) event e = absurd cc
 too_large : 256 < 256 → ⊥
 too_large h = omega (arith, h)
 
-buffers_fit_by_length : (all : Judging) (n : ℕ) → AnswersFit all (before (record { contents = Some (Buf (0 ∷ [])) ∷ []; kinds = a_buffer }) n []) → ⊥
+buffers_fit_by_length : (all : Judging) (n : ℕ) → AnswersFit all (before (record { contents = Some (Buf (0 ∷ [])) ∷ []; kinds = a_buffer }) n (record { events = []; refusals = 0 })) → ⊥
 buffers_fit_by_length all n h =
     let fit = h no_byte (record { growth = no_byte; is = refl }) (record { each = fits_by_length }) in
     let left = fit.left 0 0 (Some (Buf (256 ∷ [])) ∷ []) refl in

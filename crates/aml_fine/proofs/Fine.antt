@@ -6,7 +6,7 @@ use Rattle.aml_meaning.specs.declared.error.AmlError.{AmlError}
 use Rattle.aml_meaning.specs.State.{State, Error, with_steps}
 use Rattle.aml_meaning.specs.Parts.{M, Effect, ◌>>=◌, give, stop_with, lift, tick, paid}
 use Rattle.aml_meaning.specs.Runs.{Halt, Runs}
-use Rattle.aml_fine.specs.Fine.{Alike, AreGood, Fine, FineOver, IsSure}
+use Rattle.aml_fine.specs.Fine.{AreGood, Fine, FineOver, IsSure}
 use Rattle.aml_fine.proofs.Over.{over_choice, over_chosen, over_dropped, over_first, over_give, over_lift, over_lift_first, over_next, over_other, over_paid, over_paid_first, over_same, over_steps, over_stop, over_sure, over_tick, over_without}
 
 -- the events so far fit, behind what runs, where the kinds stay
@@ -69,6 +69,3 @@ fine_without m s h = over_without _ m s h
 
 pub fine_same : {V : Type 0} (m n : M V) (s : State) → ((script : List Event) → m.run script s ≡ n.run script s) → Fine m s → Fine n s
 fine_same m n s same h = over_same _ m n s same h
-
-pub fine_alike : {V : Type 0} (m n : M V) (s : State) → Alike m n → Fine m s → Fine n s
-fine_alike m n s same h = over_same _ m n s (λ script. same script s) h

@@ -1,6 +1,5 @@
 pub mod Over
 pub mod Fine
-pub mod Same
 pub mod Turns
 pub mod Loops
 pub mod Steps

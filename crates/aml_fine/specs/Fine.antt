@@ -36,8 +36,3 @@ pub record TakesAStep {V : Type 0} (m : M V) : Type 0 where
   pub each :
       (script : List Event) (s next : State) (v : V) →
       m.run script s ≡ Goes v next → next.steps < s.steps
-
--- two parts of an evaluation from which the same comes, whatever is answered and wherever they
--- begin
-abbrev pub Alike : {V : Type 0} → M V → M V → Type 0
-Alike m n = (script : List Event) (s : State) → m.run script s ≡ n.run script s

@@ -1,10 +1,11 @@
 -- What the verifier accepted is there, is kept, and ends well.
-use Rattle.std.proofs.Common.{◌≡◌, ℕ, List, Option, Some, None, Ok, refl, sym, ap, ◌∙◌, subst, arith, rules}
+use Rattle.std.proofs.Common.{◌≡◌, ℕ, List, Bool, Option, Some, None, Ok, refl, sym, ap, ◌∙◌, subst, arith, rules, false, true}
 use Rattle.std.specs.Prelude.{IsSome}
 use Rattle.aml_bodies.specs.Methods.{Around}
 use Rattle.aml_contents.specs.Contents.{ContentKinds}
 use Rattle.aml_contents.specs.FirstContents.{first_kinds}
 use Rattle.aml_quick.proofs.Keeps.{are_sound}
+use Rattle.aml_integers.specs.Known.{marked}
 use Rattle.aml_interp.proofs.Bodies.{same_methods}
 use Rattle.aml_interp.proofs.Ends.{allowed, ends_well}
 use Rattle.aml_interp.specs.Answers.{IsReady}
@@ -25,13 +26,14 @@ use Rattle.aml_namespace.specs.Names.{IsBodyOf, method_at}
 use Rattle.aml_namespace.specs.Shows.{shown}
 use Rattle.aml_objects.specs.declared.object.Method.{Method}
 use Rattle.aml_operators.specs.Tree.{Tree, Trees, trees}
-use Rattle.aml_regions.specs.Events.{Event}
+use Rattle.aml_regions.specs.Events.{Event, Log}
 use Rattle.aml_shapes.specs.Numbers.{numbered}
 use Rattle.aml_values.specs.Values.{Value}
 use Rattle.aml_verdict_laws.proofs.Known.{verdicts_are_there}
 use Rattle.aml_verdict_laws.specs.Laws.{Answer}
 use Rattle.aml_verified.proofs.Accepted.{accepted_methods_run}
-use Rattle.aml_verified.specs.Laws.{MayRun, WasAccepted}
+use Rattle.aml_verified.proofs.Spared.{accepted_integers_spare}
+use Rattle.aml_verified.specs.Laws.{MayRun, WasAccepted, meant}
 use Rattle.aml_verify.specs.Said.{verdict_at}
 use Rattle.aml_verify.specs.Verdicts.{IsChecked}
 use Rattle.aml_verify.specs.declared.checked.Checked.{Checked}
@@ -89,7 +91,7 @@ ready told c checked = record {
 module _ (told : Told) (c : Checked) (k : ℕ) (a : Accepted) (is : IsAccepted told c k a) (m : Method) (there : method_at (shown c.namespace.now) k ≡ Some m)
     (ts : List Tree) (body : IsBodyOf (shown c.namespace.now) k m ts) (around : Around (shown c.namespace.now))
     (values : List Value) (names : Names) (fits : AreOfKinds (shown c.namespace.now) (verdict_of c a) values names)
-    (log script : List Event) (answers : AreAnswers (shown c.namespace.now) (verdict_of c a) script) where
+    (log : Log) (script : List Event) (answers : AreAnswers (shown c.namespace.now) (verdict_of c a) script) where
   abbrev callee : Callee
   callee = callee_of (shown c.namespace.now) k m (trees ts)
 
@@ -132,6 +134,20 @@ module _ (told : Told) (c : Checked) (k : ℕ) (a : Accepted) (is : IsAccepted t
     ends = subst (λ ms. EndsWell (shown c.namespace.now) (verdict_of c a) (run ms))
         (judging.methods ∙ same_methods (shown c.namespace.now) (record { bodies = judging.bodies; are = judging.are }) around)
         (ends_well (shown c.namespace.now) (verdict_of c a) all (ap (λ (ms : Methods). ms.width) judging.methods) judging.kinds (run all.methods) done)
+
+  -- of these methods, whether memory is wanted somewhere
+  abbrev wanting : Methods → Bool
+  wanting ms = (meant ms callee values).wants script start
+
+  module _ (integers : marked c.integers.items k ≡ true) (none : a.least ≡ None) where
+    idle : (all : Judging) → IsJudging (shown c.namespace.now) told all → wanting (methods_of (shown c.namespace.now) around.bodies) ≡ false
+    idle all judging =
+        subst (λ ms. wanting ms ≡ false)
+        (judging.methods ∙ same_methods (shown c.namespace.now) (record { bodies = judging.bodies; are = judging.are }) around)
+        (accepted_integers_spare.wants told c all k callee a (was all judging) integers none values script start (may all judging))
+
+    pub wants_nothing : wanting (methods_of (shown c.namespace.now) around.bodies) ≡ false
+    wants_nothing = idle (judgings_are_there (shown c.namespace.now) told).0 (judgings_are_there (shown c.namespace.now) told).1
 
   pub ends_so : EndsWell (shown c.namespace.now) (verdict_of c a) (run (methods_of (shown c.namespace.now) around.bodies))
   ends_so = ends (judgings_are_there (shown c.namespace.now) told).0 (judgings_are_there (shown c.namespace.now) told).1

@@ -1,14 +1,14 @@
 -- What an evaluation of an accepted method answers.
-use Rattle.std.proofs.Common.{◌≡◌, ℕ, List, Some, Result, Ok, Err, subst}
+use Rattle.std.proofs.Common.{◌≡◌, ◌⊎◌, inl, inr, ◌∙◌, ℕ, List, Some, Result, Ok, Err, false, subst, sym, true}
 use Rattle.std.specs.Prelude.{IfOk, OnErr}
 use Rattle.aml_bodies.proofs.Around.{around_there}
 use Rattle.aml_bodies.specs.Methods.{Around}
-use Rattle.aml_direct.specs.Methods.{Evaluates}
-use Rattle.aml_interp.proofs.Accepted.{ends_so, ready}
+use Rattle.aml_direct.specs.Methods.{Evaluates, Spares}
+use Rattle.aml_interp.proofs.Accepted.{ends_so, ready, wants_nothing}
 use Rattle.aml_interp.proofs.Ends.{body_untold, done_well, kinds_kept}
 use Rattle.aml_interp.proofs.Ready.{body, method}
-use Rattle.aml_interp.specs.Answers.{Answers, IsCutShort, IsDone, IsReady, value_answered}
-use Rattle.aml_interp.specs.Headline.{AreAnswers, AreOfKinds, Headline, IsAccepted, IsDoneWell, verdict_of}
+use Rattle.aml_interp.specs.Answers.{Answers, IsCutShort, IsDone, IsReady, WantsRightly, value_answered}
+use Rattle.aml_interp.specs.Headline.{AreAnswers, AreOfKinds, Headline, IsAccepted, IsDoneWell, IsRefused, verdict_of}
 use Rattle.aml_known.specs.declared.accepted.Accepted.{Accepted}
 use Rattle.aml_meaning.proofs.Runs.{prefix_refl}
 use Rattle.aml_meaning.specs.Methods.{methods_of, setting_in}
@@ -23,14 +23,14 @@ use Rattle.aml_namespace.specs.Shows.{shown}
 use Rattle.aml_objects.specs.declared.object.Method.{Method}
 use Rattle.aml_operators.specs.Tree.{Tree, trees}
 use Rattle.aml_paths.specs.declared.memory.NoMemory.{NoMemory}
-use Rattle.aml_regions.specs.Events.{Event}
+use Rattle.aml_regions.specs.Events.{Log}
 use Rattle.aml_steady.proofs.Methods.{keeps_call_within}
 use Rattle.aml_values.specs.Values.{Value}
 use Rattle.aml_verify.specs.Said.{verdict_at}
 use Rattle.aml_verify.specs.declared.checked.Checked.{Checked}
 use Rattle.aml_verify.specs.declared.verdict.Verdict.TheVariants as verdict
 
-module _ (c : Checked) (k : ℕ) (values : List Value) (names : Names) (log : List Event) (names_left : Names) (log_left : List Event) where
+module _ (c : Checked) (k : ℕ) (values : List Value) (names : Names) (log : Log) (names_left : Names) (log_left : Log) where
   -- an evaluation with so many steps as the one verdict on the method says
   pub answers_by : (answer : Result Outcome NoMemory) (a : Accepted) → verdict_at c.verdicts.items k ≡ Some (verdict.Accepted a) →
       ((m : Method) → method_at (shown c.namespace.now) k ≡ Some m → (ts : List Tree) → IsBodyOf (shown c.namespace.now) k m ts →
@@ -40,6 +40,18 @@ module _ (c : Checked) (k : ℕ) (values : List Value) (names : Names) (log : Li
     are = λ b other m there ts body.
         let same : a ≡ b = cc in
         subst (λ (x : Accepted). Evaluates (shown c.namespace.now) k m (trees ts) values x.bound names log answer names_left log_left) same
+        (did m there ts body);
+  }
+
+  -- and where it wants memory
+  pub wants_by : (answer : Result Outcome NoMemory) (a : Accepted) → verdict_at c.verdicts.items k ≡ Some (verdict.Accepted a) →
+      ((m : Method) → method_at (shown c.namespace.now) k ≡ Some m → (ts : List Tree) → IsBodyOf (shown c.namespace.now) k m ts →
+      Spares (shown c.namespace.now) k m (trees ts) values a.bound names log answer log_left) →
+      WantsRightly c k values names log answer log_left
+  wants_by answer a said did = record {
+    are = λ b other m there ts body.
+        let same : a ≡ b = cc in
+        subst (λ (x : Accepted). Spares (shown c.namespace.now) k m (trees ts) values x.bound names log answer log_left) same
         (did m there ts body);
   }
 
@@ -79,19 +91,43 @@ module _ (c : Checked) (k : ℕ) (values : List Value) (names : Names) (log : Li
 
   -- and what is told is done
   module _ (told : Told) (a : Accepted) (is : IsAccepted told c k a) (fits : AreOfKinds (shown c.namespace.now) (verdict_of c a) values names)
-      (answers : AreAnswers (shown c.namespace.now) (verdict_of c a) log_left) where
+      (answers : AreAnswers (shown c.namespace.now) (verdict_of c a) log_left.events) where
     pub is_done : (o : Outcome) → Answers c k values names log (Ok o) names_left log_left → IsDoneWell (shown c.namespace.now) (verdict_of c a) o names_left
     is_done o did =
         let r = ready told c is.checked in
         let m = method c r k a is.said in
         let b = body c r k a is.said m.0 m.1 in
         let around : Around (shown c.namespace.now) = around_there (shown c.namespace.now) in
-        let t = (did.are a is.said m.0 m.1 b.0 b.1 around).tells log_left (prefix_refl log_left) in
+        let t = (did.are a is.said m.0 m.1 b.0 b.1 around).tells log_left.events (prefix_refl log_left.events) in
         done_well (shown c.namespace.now) (verdict_of c a) o
-        (evaluated (setting_in (shown c.namespace.now) around.bodies k m.0 (trees b.0)) (trees b.0) values log_left (before names a.bound log))
-        names_left log_left
-        (ends_so told c k a is m.0 m.1 b.0 b.1 around values names fits log log_left answers)
+        (evaluated (setting_in (shown c.namespace.now) around.bodies k m.0 (trees b.0)) (trees b.0) values log_left.events (before names a.bound log))
+        names_left log_left.events
+        (ends_so told c k a is m.0 m.1 b.0 b.1 around values names fits log log_left.events answers)
         t.0 t.1
+
+module _ (c : Checked) (k : ℕ) (values : List Value) (names : Names) (log : Log) (names_left : Names) (log_left : Log) where
+  -- where memory is wanted in a method that evaluates integers alone and takes no mutex, the world refused
+  refused : (e : NoMemory) → WantsRightly c k values names log (Err e) log_left → IsRefused c k values names log log_left
+  refused e rightly told a is integers none fits answers =
+      let r = ready told c is.checked in
+      let m = method c r k a is.said in
+      let b = body c r k a is.said m.0 m.1 in
+      let around : Around (shown c.namespace.now) = around_there (shown c.namespace.now) in
+      refused_or (rightly.are a is.said m.0 m.1 b.0 b.1 around)
+      (λ wants. (let idle = wants_nothing told c k a is m.0 m.1 b.0 b.1 around values names fits log log_left.events answers integers none in
+      let wanted = wants log_left.events (prefix_refl log_left.events) in
+      let never : false ≡ true = sym idle ∙ wanted in absurd cc))
+    where
+      refused_or : {A B : Type 0} → A ⊎ B → (B → ⊥) → A
+      refused_or (inl a) never = a
+      refused_or (inr b) never = absurd (never b)
+
+  pub refused_told : (answer : Result Outcome NoMemory) → Answers c k values names log answer names_left log_left → WantsRightly c k values names log answer log_left →
+      OnErr (value_answered answer) (IsRefused c k values names log log_left)
+  refused_told (Ok (outcome.Done value)) did rightly = tt
+  refused_told (Ok (outcome.AmlError e)) did rightly = λ told a is integers none fits answers. absurd (is_done c k values names log names_left log_left told a is fits answers (outcome.AmlError e) did)
+  refused_told (Ok outcome.OutOfSteps) did rightly = λ told a is integers none fits answers. absurd (is_done c k values names log names_left log_left told a is fits answers outcome.OutOfSteps did)
+  refused_told (Err e) did rightly = refused e rightly
 
 pub headline : Headline
 headline = record {

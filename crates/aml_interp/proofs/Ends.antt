@@ -19,7 +19,7 @@ use Rattle.aml_namespace.specs.Load.{Shown}
 use Rattle.aml_objects.specs.Widths.{bits_of}
 use Rattle.aml_operators.specs.Tree.{Trees}
 use Rattle.aml_paths.specs.declared.memory.NoMemory.{NoMemory}
-use Rattle.aml_regions.specs.Events.{Event}
+use Rattle.aml_regions.specs.Events.{Event, Log}
 use Rattle.aml_steady.proofs.Methods.{keeps_framed, keeps_mean_method}
 use Rattle.aml_steady.specs.Steady.{CallsKeepKinds}
 use Rattle.aml_values.specs.Values.{Value}
@@ -61,13 +61,13 @@ module _ (ns : Shown) (a : judged.Accepted) where
 untold : (o : Outcome) (e : NoMemory) (run : ℕ → Out (Option Value)) (fuel : ℕ) (names : Names) (log : List Event) → Tells (Ok o) run fuel names log → Tells (Err e) run fuel names log
 untold o e run fuel names log told = (fuel, omega arith, told.1)
 
-module _ (here : Setting) (body : Trees) (values : List Value) (fuel : ℕ) (names : Names) (log : List Event) where
-  pub body_untold : (o : Outcome) (e : NoMemory) (names_left : Names) (log_left : List Event) →
+module _ (here : Setting) (body : Trees) (values : List Value) (fuel : ℕ) (names : Names) (log : Log) where
+  pub body_untold : (o : Outcome) (e : NoMemory) (names_left : Names) (log_left : Log) →
       EvaluatesBody here body values fuel names log (Ok o) names_left log_left → EvaluatesBody here body values fuel names log (Err e) names_left log_left
   body_untold o e names_left log_left did = record {
     grows = did.grows;
     words = did.words;
-    tells = λ script begins. untold o e (λ k. evaluated here body values script (before names k log)) fuel names_left log_left (did.tells script begins);
+    tells = λ script begins. untold o e (λ k. evaluated here body values script (before names k log)) fuel names_left log_left.events (did.tells script begins);
   }
 
   -- the kinds of names are as they were, however it ended
@@ -78,10 +78,10 @@ module _ (here : Setting) (body : Trees) (values : List Value) (fuel : ℕ) (nam
         sym (ap (λ (n : Names). n.kinds) leaves.names)
         ∙ keeps_framed here.table values (mean_method here body) (keeps_mean_method here calls body) script (before names k log)
 
-    pub kinds_kept : (answer : Result Outcome NoMemory) (names_left : Names) (log_left : List Event) →
+    pub kinds_kept : (answer : Result Outcome NoMemory) (names_left : Names) (log_left : Log) →
         EvaluatesBody here body values fuel names log answer names_left log_left → names_left.kinds ≡ names.kinds
     kinds_kept (Ok o) names_left log_left did =
-        kinds_behind fuel log_left names_left log_left (did.tells log_left (prefix_refl log_left)).1
+        kinds_behind fuel log_left.events names_left log_left.events (did.tells log_left.events (prefix_refl log_left.events)).1
     kinds_kept (Err e) names_left log_left did =
-        let t = did.tells log_left (prefix_refl log_left) in
-        kinds_behind t.0 log_left names_left log_left t.2
+        let t = did.tells log_left.events (prefix_refl log_left.events) in
+        kinds_behind t.0 log_left.events names_left log_left.events t.2

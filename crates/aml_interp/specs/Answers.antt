@@ -2,7 +2,7 @@
 use Rattle.std.specs.Prelude.{◌≡◌, ℕ, List, Option, Some, None, IsSome, Result, Ok, Err}
 use Rattle.aml_bodies.specs.Kept.{kept_at}
 use Rattle.aml_quick.specs.Keeps.{AreSound}
-use Rattle.aml_direct.specs.Methods.{Evaluates}
+use Rattle.aml_direct.specs.Methods.{Evaluates, Spares}
 use Rattle.aml_meaning.specs.State.{Names}
 use Rattle.aml_meaning.specs.declared.outcome.Outcome.{Outcome}
 use Rattle.aml_meaning.specs.declared.outcome.Outcome.TheVariants as outcome
@@ -12,7 +12,7 @@ use Rattle.aml_namespace.specs.Shows.{shown}
 use Rattle.aml_objects.specs.declared.object.Method.{Method}
 use Rattle.aml_operators.specs.Tree.{Tree, trees}
 use Rattle.aml_paths.specs.declared.memory.NoMemory.{NoMemory}
-use Rattle.aml_regions.specs.Events.{Event}
+use Rattle.aml_regions.specs.Events.{Log}
 use Rattle.aml_values.specs.Values.{Value}
 use Rattle.aml_values.specs.declared.value.Value as program_value
 use Rattle.aml_known.specs.declared.accepted.Accepted.{Accepted}
@@ -48,11 +48,11 @@ value_answered (Err e) = Err e
 
 -- an evaluation of an accepted method with these arguments, from what names hold and the events so
 -- far
-module _ (c : Checked) (k : ℕ) (values : List Value) (names : Names) (log : List Event) where
+module _ (c : Checked) (k : ℕ) (values : List Value) (names : Names) (log : Log) where
   -- its answer, what names hold and the events afterwards are those of the meaning of the
   -- statements that the grammar ties to the method's bytes, with as many steps as its verdict says
   pub record Answers (answer : Result Outcome NoMemory) (names_left : Names)
-      (log_left : List Event) : Type 0 where
+      (log_left : Log) : Type 0 where
     pub are :
         (a : Accepted) → verdict_at c.verdicts.items k ≡ Some (verdict.Accepted a) →
         (m : Method) → method_at (shown c.namespace.now) k ≡ Some m →
@@ -61,9 +61,17 @@ module _ (c : Checked) (k : ℕ) (values : List Value) (names : Names) (log : Li
         log_left
 
   -- it is done, with this value or none
-  abbrev pub IsDone : Option program_value.Value → Names → List Event → Type 0
+  abbrev pub IsDone : Option program_value.Value → Names → Log → Type 0
   IsDone value names_left log_left = Answers (Ok (outcome.Done value)) names_left log_left
 
   -- it went no further than some number of those steps takes it
-  abbrev pub IsCutShort : Names → List Event → Type 0
+  abbrev pub IsCutShort : Names → Log → Type 0
   IsCutShort names_left log_left = Answers (Err (record {})) names_left log_left
+
+  -- memory was wanted only where the world refused a call, or where that meaning wants it
+  pub record WantsRightly (answer : Result Outcome NoMemory) (log_left : Log) : Type 0 where
+    pub are :
+        (a : Accepted) → verdict_at c.verdicts.items k ≡ Some (verdict.Accepted a) →
+        (m : Method) → method_at (shown c.namespace.now) k ≡ Some m →
+        (ts : List Tree) → IsBodyOf (shown c.namespace.now) k m ts →
+        Spares (shown c.namespace.now) k m (trees ts) values a.bound names log answer log_left

@@ -1,8 +1,9 @@
 -- The headline: what the verifier accepts is evaluated without an error, within the steps that its
 -- verdict says, and just as the definition says.
-use Rattle.std.specs.Prelude.{◌≡◌, ℕ, List, Option, Some, Ok}
+use Rattle.std.specs.Prelude.{◌≡◌, ℕ, List, None, Option, Some, Ok, true}
 use Rattle.aml_bodies.specs.Methods.{Around}
 use Rattle.aml_contents.specs.FirstContents.{first_kinds}
+use Rattle.aml_integers.specs.Known.{marked}
 use Rattle.aml_interp.specs.Answers.{Answers}
 use Rattle.aml_judged.specs.Judged as judged
 use Rattle.aml_judged.specs.Safe.{FitAll, FitNames, FitScript, FitsYield}
@@ -11,6 +12,7 @@ use Rattle.aml_known.specs.declared.accepted.Accepted.{Accepted}
 use Rattle.aml_literal_laws.specs.Laws.{TablesAreBytes}
 use Rattle.aml_machine.specs.Views.{value_of}
 use Rattle.aml_meaning.specs.Methods.{setting_in}
+use Rattle.aml_meaning.specs.Runs.{HasRefused}
 use Rattle.aml_meaning.specs.State.{Names, Out, Goes, Halts, NoAnswer, Spent}
 use Rattle.aml_meaning.specs.Whole.{before, evaluated}
 use Rattle.aml_meaning.specs.declared.outcome.Outcome.{Outcome}
@@ -22,7 +24,7 @@ use Rattle.aml_namespace.specs.Shows.{shown}
 use Rattle.aml_objects.specs.Widths.{bits_of}
 use Rattle.aml_objects.specs.declared.object.Method.{Method}
 use Rattle.aml_operators.specs.Tree.{Tree, trees}
-use Rattle.aml_regions.specs.Events.{Event}
+use Rattle.aml_regions.specs.Events.{Event, Log}
 use Rattle.aml_shapes.specs.Numbers.{numbered}
 use Rattle.aml_values.specs.Values.{Value}
 use Rattle.aml_verify.specs.Said.{verdict_at}
@@ -70,6 +72,17 @@ module _ (ns : Shown) (a : judged.Accepted) where
 abbrev pub verdict_of : Checked → Accepted → judged.Accepted
 verdict_of c a = accepted_of (numbered c.shapes) a
 
+-- memory was wanted in a method that evaluates integers alone and takes no mutex, with arguments
+-- and names of its kinds and answers that fit: the world refused a call meanwhile, or its count of
+-- them stands at its last value
+abbrev pub IsRefused : Checked → ℕ → List Value → Names → Log → Log → Type 0
+IsRefused c k values names log log_left =
+    (told : Told) (a : Accepted) → IsAccepted told c k a →
+    marked c.integers.items k ≡ true → a.least ≡ None →
+    AreOfKinds (shown c.namespace.now) (verdict_of c a) values names →
+    AreAnswers (shown c.namespace.now) (verdict_of c a) log_left.events →
+    HasRefused log.refusals log_left.refusals
+
 pub record Headline : Type 0 where
   -- the meaning of the statements that the grammar ties to the method's bytes, with as many steps
   -- as its verdict says, ends well, whatever is answered
@@ -80,7 +93,7 @@ pub record Headline : Type 0 where
       (around : Around (shown c.namespace.now)) →
       (values : List Value) (names : Names) →
       AreOfKinds (shown c.namespace.now) (verdict_of c a) values names →
-      (log script : List Event) → AreAnswers (shown c.namespace.now) (verdict_of c a) script →
+      (log : Log) (script : List Event) → AreAnswers (shown c.namespace.now) (verdict_of c a) script →
       EndsWell (shown c.namespace.now) (verdict_of c a)
       (evaluated (setting_in (shown c.namespace.now) around.bodies k m (trees ts)) (trees ts) values
       script (before names a.bound log))
@@ -90,7 +103,7 @@ pub record Headline : Type 0 where
       (told : Told) (c : Checked) (k : ℕ) (a : Accepted) → IsAccepted told c k a →
       (values : List Value) (names : Names) →
       AreOfKinds (shown c.namespace.now) (verdict_of c a) values names →
-      (log : List Event) (o : Outcome) (names_left : Names) (log_left : List Event) →
-      AreAnswers (shown c.namespace.now) (verdict_of c a) log_left →
+      (log : Log) (o : Outcome) (names_left : Names) (log_left : Log) →
+      AreAnswers (shown c.namespace.now) (verdict_of c a) log_left.events →
       Answers c k values names log (Ok o) names_left log_left →
       IsDoneWell (shown c.namespace.now) (verdict_of c a) o names_left

@@ -7,11 +7,17 @@ use Rattle.aml_interp.specs.Answers.{IsDone}
 use Rattle.aml_machine.specs.Views.{names_of}
 use Rattle.aml_namespace.specs.Shows.{shown}
 use Rattle.aml_paths.specs.declared.scope.ObjectId.{ObjectId}
-use Rattle.aml_regions.specs.Events.{Event}
+use Rattle.aml_regions.specs.EventViews.{events_of}
+use Rattle.aml_regions.specs.Events.{Log}
+use Rattle.aml_regions.specs.declared.registers.RegisterFile.{RegisterFile}
 use Rattle.aml_values.specs.declared.value.Value as program_value
 use Rattle.aml_verify.specs.Accepts.{takes}
 use Rattle.aml_verify.specs.Said.{verdict_at}
 use Rattle.aml_verify.specs.declared.checked.Checked.{Checked}
+
+-- what registers have kept
+abbrev pub log_of : RegisterFile → Log
+log_of file = record { events = events_of file.events.items; refusals = file.refusals }
 
 -- methods that are accepted and take no arguments
 abbrev pub AreCallable : Checked → List ObjectId → Type 0
@@ -20,7 +26,7 @@ AreCallable c methods =
     takes (verdict_at c.verdicts.items id.0) [] ≡ true
 
 module _ (c : Checked) (methods : List ObjectId) (n : ℕ) (names : program_names.Names)
-    (log log_left : List Event) where
+    (log log_left : Log) where
   -- what names hold behind the run of a method, which is the definition's, from those names and fed
   -- with the answers among the events that its world gained; and it is done
   pub record IsTurn (left : program_names.Names) : Type 0 where

@@ -5,6 +5,7 @@ ghost use Rattle.std.specs.Option.{option_map};
 ghost use Rattle.aml_contents.specs.Belongs.{Belong};
 ghost use Rattle.aml_contents.specs.Held.{content_kinds};
 ghost use Rattle.aml_interp.specs.Answers.{IsCutShort, IsDone, IsReady, WereChecked, bound_of, value_answered};
+ghost use Rattle.aml_interp.specs.Headline.{IsRefused};
 ghost use Rattle.aml_machine.specs.Views.{names_of};
 ghost use Rattle.aml_namespace.specs.Shows.{shown};
 ghost use Rattle.aml_values.specs.Views.{view};
@@ -31,7 +32,9 @@ use std::alloc::Global;
 /// # Errors
 ///
 /// `NoMemory`, where memory is wanted: names and events are then those of the definition with some
-/// of those steps, and the names may be used again.
+/// of those steps, and the names may be used again. In a method that evaluates integers alone and
+/// takes no mutex it comes only where the world refused a call, or its count of refusals stands at
+/// its last value.
 pub fn evaluate<W: World>(
     alloc: Global,
     checked: &Checked<'_>,
@@ -48,6 +51,8 @@ pub fn evaluate<W: World>(
         (names_of names.old) (W.log world.old) value (names_of names.new) (W.log world.new)) }
     ensures memory { OnErr result (IsCutShort checked.now method.0 (map view arguments.items)
         (names_of names.old) (W.log world.old) (names_of names.new) (W.log world.new)) }
+    ensures refused { OnErr result (IsRefused checked.now method.0 (map view arguments.items)
+        (names_of names.old) (W.log world.old) (W.log world.new)) }
     ensures names { Belong (shown checked.now.namespace.now) (content_kinds names.new) }
 {
     evaluate_ready(alloc, checked, names, method, arguments, world)
@@ -70,6 +75,8 @@ pub(crate) fn evaluate_ready<W: World>(
         (names_of names.old) (W.log world.old) value (names_of names.new) (W.log world.new)) }
     ensures memory { OnErr result (IsCutShort checked.now method.0 (map view arguments.items)
         (names_of names.old) (W.log world.old) (names_of names.new) (W.log world.new)) }
+    ensures refused { OnErr result (IsRefused checked.now method.0 (map view arguments.items)
+        (names_of names.old) (W.log world.old) (W.log world.new)) }
     ensures names { Belong (shown checked.now.namespace.now) (content_kinds names.new) }
 {
     let Some(steps) = bound_of(checked.verdict(method)) else {

@@ -5,7 +5,7 @@ ghost use Rattle.aml_bodies.specs.TreeSets.{body_props};
 ghost use Rattle.std.specs.Option.{option_map};
 ghost use Rattle.aml_contents.specs.Held.{contents};
 ghost use Rattle.aml_interp.specs.Answers.{IsReady, WereChecked};
-ghost use Rattle.aml_interp.specs.Turns.{AreCallable, Turns};
+ghost use Rattle.aml_interp.specs.Turns.{AreCallable, Turns, log_of};
 ghost use Rattle.aml_regions.specs.EventViews.{events_of};
 ghost use Rattle.aml_regions.specs.Worlds.{counted};
 
@@ -91,7 +91,7 @@ impl<'a> Others<'a> {
     /// `NoMemory`, where memory is wanted.
     pub fn turn(&mut self, n: usize, names: &Names) -> Result<Option<Names>, NoMemory>
         ensures turned { IfOk result (Turns self.old.checked.now self.old.methods.items n names.now
-            (events_of self.old.theirs.events.items) (events_of self.new.theirs.events.items)) }
+            (log_of self.old.theirs) (log_of self.new.theirs)) }
         ensures checked { self.new.checked ≡ self.old.checked }
         ensures methods { self.new.methods ≡ self.old.methods }
         ensures mine { self.new.mine ≡ self.old.mine }
@@ -130,9 +130,10 @@ impl<'a> Others<'a> {
 }
 
 impl World for Others<'_> {
-    ghost log = { λ it. events_of it.mine.events.items };
-
-    ghost refusals = { λ it. it.refused };
+    ghost log = { λ it. record {
+      events = events_of it.mine.events.items;
+      refusals = it.refused;
+    } };
 
     fn read(&mut self, access: Access) -> Result<u64, NoMemory> {
         match self.mine.read(access) {

@@ -15,7 +15,7 @@ use Rattle.aml_regions.specs.declared.field.OtherBits.TheVariants.{Preserve, One
 use Rattle.aml_regions.specs.declared.field.RegionField.{RegionField}
 use Rattle.aml_meaning.specs.State as state
 use Rattle.aml_meaning.specs.State.{State, Out, Halts, NoAnswer, Spent, with_steps}
-use Rattle.aml_meaning.specs.Parts.{M, ◌>>=◌, give, paid, take_step, then_do, read_unit, make_event, answer, with_event}
+use Rattle.aml_meaning.specs.Parts.{M, ◌>>=◌, give, paid, take_step, then_do, with_memory, read_unit, make_event, answer, with_event}
 use Rattle.aml_meaning.specs.Fields.{UnitPlan, read_from, integer_read, bytes_read, others_of, others_cost, cost_from, write_from, bits_written, plan_reads, plan_writes, region_plan, banked_plan, indexed_plan, bank_chosen, index_chosen, plan_of, read_integer, read_bytes, read_value, value_read, write_bits, read_count, write_count}
 use Rattle.aml_judged.specs.Events.{Costs, FieldsCost}
 
@@ -132,7 +132,7 @@ plan_costs (Indexed x) = indexed_costs x
 value_costs : (narrow : Bool) (f : AnyField) → AlwaysCosts (plan_reads (plan_of f)) (value_read narrow f)
 unfolding read_integer read_bytes
 value_costs true f = same_cost (plan_reads (plan_of f) + 0) (plan_reads (plan_of f)) (value_read true f) (omega arith) (both_cost (plan_reads (plan_of f)) 0 (integer_read (plan_of f)) _ (integer_costs (plan_of f) (plan_costs f)) (λ n. give_costs _))
-value_costs false f = same_cost (plan_reads (plan_of f) + 0) (plan_reads (plan_of f)) (value_read false f) (omega arith) (both_cost (plan_reads (plan_of f)) 0 (bytes_read (plan_of f)) _ (bytes_cost (plan_of f) (plan_costs f)) (λ n. give_costs _))
+value_costs false f = same_cost (plan_reads (plan_of f) + 0) (plan_reads (plan_of f)) (value_read false f) (omega arith) (both_cost (plan_reads (plan_of f)) 0 (with_memory (bytes_read (plan_of f))) _ (bytes_cost (plan_of f) (plan_costs f)) (λ n. give_costs _))
 
 pub fields_cost : FieldsCost
 unfolding read_value write_bits read_count write_count

@@ -1,4 +1,4 @@
--- Integer-only methods evaluate integers alone.
+-- Integer-only methods evaluate integers alone, and want no memory where no mutex may be taken.
 use Rattle.std.proofs.Common.{◌≡◌, ℕ, zero, suc, ◌+◌, ◌/◌, ◌^◌, ◌-◌, List, [], ◌∷◌, Option, Some, None, Result, Ok, Err, refl, sym, ap, ◌∙◌, subst}
 use Rattle.std.specs.Prelude.{Bool, true, false, ◌==◌, ◌&&◌, if◌then◌else◌, nat_le, slice_get, slice_set, length}
 use Rattle.std.proofs.lemmas.Bool.{and_parts}
@@ -34,27 +34,28 @@ use Rattle.aml_meaning.specs.declared.buffer_field.BufferField.{BufferField}
 use Rattle.aml_meaning.specs.Actions.{action}
 use Rattle.aml_meaning.specs.BufferFields.{read_buffer_field, written_buffer_field, bytes_around}
 use Rattle.aml_meaning.specs.Calls.{framed, inside, left}
-use Rattle.aml_meaning.specs.Changes.{change, changed_or, held_by, holding, peek, peeked_or}
+use Rattle.aml_meaning.specs.Changes.{change, changed_or, held_by, holding, peek, peeked_or, result_takes_memory}
 use Rattle.aml_meaning.specs.Conversions.{converted}
 use Rattle.aml_meaning.specs.Definitions.{definition, mean_body, mean_method, statement, stated}
 use Rattle.aml_meaning.specs.Fields.{read_value, write_bits, read_count, write_count}
 use Rattle.aml_meaning.specs.FieldValues.{given_bits, wanted_field}
-use Rattle.aml_meaning.specs.Loops.{turned, turn_end, turns, loop, spent}
-use Rattle.aml_meaning.specs.Meaning.{Setting, at_of, act, mean, value, values, mean_all, block, otherwise, is_else, want, store, stored, put, named, named_target, invoked, held, field_stored, bits_stored, buffer_field_read, buffer_field_changed, asked, condition, is_there, notified_name, notified, tested, gives_value, changed_in_place, operator_action, place, place_at, outside, mutex, mutex_named, mutex_numbered}
+use Rattle.aml_meaning.specs.Loops.{turned, behind_turn, turn_end, turns, loop, spent}
+use Rattle.aml_meaning.specs.Meaning.{Setting, converting, at_of, act, mean, value, values, mean_all, block, otherwise, is_else, want, store, stored, put, named, named_target, invoked, held, field_stored, bits_stored, buffer_field_read, buffer_field_changed, asked, condition, is_there, notified_name, notified, tested, gives_value, changed_in_place, operator_action, place, place_at, outside, mutex, mutex_named, mutex_numbered}
 use Rattle.aml_meaning.specs.Mutexes.{acquire, acquired_or, ended_or, none_held, release, released_or, without_last}
 use Rattle.aml_meaning.specs.Notices.{notice, paused}
-use Rattle.aml_meaning.specs.Parts.{M, ◌>>=◌, give, stop_with, lift, tick, paid, take_step, then_do, get_local, get_arg, get_name, set_local, set_arg, set_name, make_event, sleep, woken, woken_or, content_or, stored_or, may_store}
+use Rattle.aml_meaning.specs.Parts.{M, ◌>>=◌, behind, give, stop_with, lift, tick, paid, take_step, then_do, takes_memory, copy_takes_memory, behind_copy, get_local, get_arg, get_name, set_local, set_arg, set_name, make_event, sleep, woken, woken_or, content_or, stored_or, may_store}
 use Rattle.aml_meaning.specs.Rules as rules
 use Rattle.aml_meaning.specs.Rules.{Place, Division, integer, divisor, second, combined, transformed, compared, equal, negated, divided, truth}
 use Rattle.aml_meaning.specs.State as state
 use Rattle.aml_meaning.specs.State.{State, Frame, Error, Returned, Broke, Continued, Out, Halts, NoAnswer, Spent, entered, held_level, slots, with_steps}
 use Rattle.aml_meaning.specs.Within.{Callee, Methods, call_within, callee_or, setting_for}
 use Rattle.aml_judged.specs.Events.{Costs}
-use Rattle.aml_judged.specs.Integers.{is_integer, are_integers, is_narrow, is_narrow_buffer_field, makes_nothing, integer_name, integer_called, integers, integers_by, integers_in, integer_only_by, AreIntegerOnly, IsInteger, IsIntegerIfAny, AreIntegersIfAny, AreIntegers, HoldIntegers, LeavesIntegers, IsIntegral, StaysIntegral, GivesInteger, IntegersAlone}
+use Rattle.aml_judged.specs.Integers.{is_integer, are_integers, is_narrow, is_narrow_buffer_field, makes_nothing, integer_name, integer_called, integers_if, integers_by_if, integers_in_if, integer_only_if, AreIntegerOnly, IsInteger, IsIntegerIfAny, AreIntegersIfAny, AreIntegers, HoldIntegers, LeavesIntegers, IsIntegral, StaysIntegral, GivesInteger, IntegersAlone, SparingMethodsWantNone}
 use Rattle.aml_judged.specs.Judged.{Accepted}
 use Rattle.aml_judged.specs.Verdicts.{Judging}
 use Rattle.aml_judged.proofs.Events.{fields_cost}
 use Rattle.aml_judged.proofs.FieldValues.{Makes, field_made}
+use Rattle.aml_judged.proofs.FieldWants.{narrow_read_wants, neither, write_wants}
 use Rattle.aml_judged.proofs.Tame.{else_action}
 use Rattle.aml_judged.specs.KindRules.{field_kind}
 use Rattle.aml_judged.specs.Safe.{IsOf}
@@ -91,6 +92,22 @@ converted_int width op p (Int n) h = tt
 converted_int width op p (Buf xs) h = absurd h
 converted_int width op p (Str xs) h = absurd h
 converted_int width op p (Pkg es) h = absurd h
+
+-- integers take no memory
+int_spares : (v : Value) → IsInteger v → takes_memory v ≡ false
+int_spares (Int n) h = refl
+int_spares (Buf xs) h = absurd h
+int_spares (Str xs) h = absurd h
+int_spares (Pkg es) h = absurd h
+
+copy_spares : (o : Option (Option Value)) → ((v : Value) → o ≡ Some (Some v) → IsInteger v) → copy_takes_memory o ≡ false
+copy_spares (Some (Some v)) h = int_spares v (h v refl)
+copy_spares (Some None) h = refl
+copy_spares None h = refl
+
+result_spares : (r : Result Value AmlError) → GivesInt r → result_takes_memory r ≡ false
+result_spares (Ok v) h = int_spares v h
+result_spares (Err e) h = refl
 
 record AreQuotients (d : Division) : Type 0 where
   quotient : IsInteger d.quotient
@@ -165,15 +182,20 @@ makes_more P Q (Halts stop s) f h = tt
 makes_more P Q (NoAnswer s) f h = tt
 makes_more P Q (Spent s) f h = tt
 
-module _ (kinds : ContentKinds) (script : List Event) (slept : LeavesIntegers kinds script) where
+-- where mutexes may be taken, or may not
+module _ (may : Bool) (kinds : ContentKinds) (script : List Event) (slept : LeavesIntegers kinds script) where
   abbrev Good : State → Type 0
   Good = IsIntegral kinds
 
   abbrev Stays : {V : Type 0} → (V → Type 0) → Out V → Type 0
   Stays P o = StaysIntegral kinds P o
 
+  -- no memory is wanted, where they may not
+  abbrev Spares : Bool → Type 0
+  Spares wanted = may ≡ false → wanted ≡ false
+
   abbrev Always : {V : Type 0} → (V → Type 0) → M V → Type 0
-  Always P m = (s : State) → Good s → Stays P (m.run script s)
+  Always P m = (s : State) → Good s → Stays P (m.run script s) × Spares (m.wants script s)
 
   abbrev Any : {V : Type 0} → V → Type 0
   Any v = Unit {0}
@@ -194,17 +216,34 @@ module _ (kinds : ContentKinds) (script : List Event) (slept : LeavesIntegers ki
   then_stays P Q (NoAnswer s) f h g = tt
   then_stays P Q (Spent s) f h g = tt
 
+  then_spares : {V : Type 0} (P : V → Type 0) (o : Out V) (f : V → State → Bool) → Stays P o → ((v : V) (s : State) → P v → Good s → Spares (f v s)) → Spares (behind o f)
+  then_spares P (state.Goes v s) f h g = g v s h.0 h.1
+  then_spares P (Halts stop s) f h g = λ t. refl
+  then_spares P (NoAnswer s) f h g = λ t. refl
+  then_spares P (Spent s) f h g = λ t. refl
+
   both : {V W : Type 0} (P : V → Type 0) (Q : W → Type 0) (m : M V) (f : V → M W) → Always P m → ((v : V) → P v → Always Q (f v)) → Always Q (m >>= f)
   unfolding ◌>>=◌
-  both P Q m f h g s fits = then_stays P Q (m.run script s) _ (h s fits) (λ v next p fits2. g v p next fits2)
+  both P Q m f h g s fits = (
+    then_stays P Q (m.run script s) _ (h s fits).0 (λ v next p fits2. (g v p next fits2).0),
+    λ t. neither (m.wants script s) _ ((h s fits).1 t) (then_spares P (m.run script s) _ (h s fits).0 (λ v next p fits2. (g v p next fits2).1) t),
+  )
 
   gives : {V : Type 0} (P : V → Type 0) (v : V) → P v → Always P (give v)
   unfolding give
-  gives P v h s fits = (h, fits)
+  gives P v h s fits = ((h, fits), λ t. refl)
 
   errs : (V : Type 0) (P : V → Type 0) (e : AmlError) → Always P (stop_with {V = V} (Error e))
   unfolding stop_with
-  errs V P e s fits = tt
+  errs V P e s fits = (tt, λ t. refl)
+
+  -- an integer takes no memory where it is copied
+  copies : {V : Type 0} (P : V → Type 0) (v : Value) (m : M V) → IsInteger v → Always P m → Always P (behind_copy v m)
+  copies P v m h g s fits = ((g s fits).0, λ t. neither (takes_memory v) _ (int_spares v h) ((g s fits).1 t))
+
+  -- no buffer is made
+  converts : (m : M Value) → Always IsInteger m → Always IsInteger (converting conversion.ToInteger m)
+  converts m h s fits = ((h s fits).0, λ t. refl)
 
   lifts : (r : Result Value AmlError) → GivesInt r → Always IsInteger (lift r)
   lifts (Ok v) h = gives IsInteger v h
@@ -227,7 +266,7 @@ module _ (kinds : ContentKinds) (script : List Event) (slept : LeavesIntegers ki
 
   ticks : Always Any tick
   unfolding tick paid
-  ticks s fits = step_stays Any s.steps s _ (λ k. (tt, stepped s k fits))
+  ticks s fits = (step_stays Any s.steps s _ (λ k. (tt, stepped s k fits)), λ t. refl)
 
   steps_out : (V : Type 0) (P : V → Type 0) (e : AmlError) → Always P (tick >>= (λ u. stop_with {V = V} (Error e)))
   steps_out V P e = both Any P tick _ ticks (λ u p. errs V P e)
@@ -239,26 +278,26 @@ module _ (kinds : ContentKinds) (script : List Event) (slept : LeavesIntegers ki
 
   gets_local : (table at k : ℕ) → Always IsInteger (get_local table at k)
   unfolding get_local
-  gets_local table at k s fits = content_stays table at (slice_get s.frame.locals k) s (get_int s.frame.locals k (slice_get s.frame.locals k) refl fits.locals) fits
+  gets_local table at k s fits = let int = get_int s.frame.locals k (slice_get s.frame.locals k) refl fits.locals in (content_stays table at (slice_get s.frame.locals k) s int fits, λ t. copy_spares (slice_get s.frame.locals k) int)
 
   gets_arg : (table at k : ℕ) → Always IsInteger (get_arg table at k)
   unfolding get_arg
-  gets_arg table at k s fits = content_stays table at (slice_get s.frame.args k) s (get_int s.frame.args k (slice_get s.frame.args k) refl fits.args) fits
+  gets_arg table at k s fits = let int = get_int s.frame.args k (slice_get s.frame.args k) refl fits.args in (content_stays table at (slice_get s.frame.args k) s int fits, λ t. copy_spares (slice_get s.frame.args k) int)
 
   if_some : (o : Option Value) → IsIntegerIfAny o → (v : Value) → Some o ≡ Some (Some v) → IsInteger v
   if_some o h v e = let same : o ≡ Some v = cc in subst IsIntegerIfAny same h
 
   gets_name : (table at k : ℕ) → is_integer (kind_at kinds k) ≡ true → Always IsInteger (get_name table at k)
   unfolding get_name
-  gets_name table at k e s fits = content_stays table at (Some (content_at s.names.contents k)) s (if_some (content_at s.names.contents k) (fits.names k e)) fits
+  gets_name table at k e s fits = let int = if_some (content_at s.names.contents k) (fits.names k e) in (content_stays table at (Some (content_at s.names.contents k)) s int fits, λ t. copy_spares (Some (content_at s.names.contents k)) int)
 
   sets_local : (k : ℕ) (v : Value) → IsInteger v → Always Any (set_local k v)
   unfolding set_local
-  sets_local k v h s fits = (tt, record { locals = set_ints s.frame.locals k v h fits.locals; args = fits.args; names = fits.names })
+  sets_local k v h s fits = ((tt, record { locals = set_ints s.frame.locals k v h fits.locals; args = fits.args; names = fits.names }), λ t. refl)
 
   sets_arg : (k : ℕ) (v : Value) → IsInteger v → Always Any (set_arg k v)
   unfolding set_arg
-  sets_arg k v h s fits = (tt, record { locals = fits.locals; args = set_ints s.frame.args k v h fits.args; names = fits.names })
+  sets_arg k v h s fits = ((tt, record { locals = fits.locals; args = set_ints s.frame.args k v h fits.args; names = fits.names }), λ t. refl)
 
   stored_stays : (b : Bool) (table at k : ℕ) (v : Value) (s : State) → IsInteger v → Good s → Stays Any (stored_or b table at k v s)
   stored_stays true table at k v s h fits = (tt, record { locals = fits.locals; args = fits.args; names = λ i e. changed_content IsIntegerIfAny s.names.contents k i (Some v) (λ same. h) (fits.names i e) })
@@ -266,7 +305,7 @@ module _ (kinds : ContentKinds) (script : List Event) (slept : LeavesIntegers ki
 
   sets_name : (table at k : ℕ) (v : Value) → IsInteger v → Always Any (set_name table at k v)
   unfolding set_name paid
-  sets_name table at k v h s fits = step_stays Any s.steps s _ (λ n. stored_stays (may_store s.names.kinds k v) table at k v (with_steps s n) h (stepped s n fits))
+  sets_name table at k v h s fits = (step_stays Any s.steps s _ (λ n. stored_stays (may_store s.names.kinds k v) table at k v (with_steps s n) h (stepped s n fits)), λ t. refl)
 
   -- fields of regions
   cost_stays : {V : Type 0} (P : V → Type 0) (n : ℕ) (s : State) (o : Out V) → Costs n s o → Makes P o → Good s → Stays P o
@@ -278,7 +317,7 @@ module _ (kinds : ContentKinds) (script : List Event) (slept : LeavesIntegers ki
   -- events
   makes_event : (event : Event) → Always Any (make_event event)
   unfolding make_event paid
-  makes_event event s fits = step_stays Any s.steps s _ (λ n. (tt, record { locals = fits.locals; args = fits.args; names = fits.names }))
+  makes_event event s fits = (step_stays Any s.steps s _ (λ n. (tt, record { locals = fits.locals; args = fits.args; names = fits.names })), λ t. refl)
 
   behind_sleeps : (i n : ℕ) (left : Option Contents) (old : Contents) → slice_get script i ≡ Some (Slept n left) → HoldIntegers kinds old → HoldIntegers kinds (behind_sleep left old)
   behind_sleeps i n None old e h = h
@@ -298,20 +337,21 @@ module _ (kinds : ContentKinds) (script : List Event) (slept : LeavesIntegers ki
 
   sleeps : (n : ℕ) → Always Any (sleep n)
   unfolding sleep paid
-  sleeps n s fits = step_stays Any s.steps s _ (λ k. wakes (length s.log) n (slice_get script (length s.log)) (with_steps s k) refl (stepped s k fits))
+  sleeps n s fits = (step_stays Any s.steps s _ (λ k. wakes (length s.log) n (slice_get script (length s.log)) (with_steps s k) refl (stepped s k fits)), λ t. refl)
 
   pauses : (f : PauseKind) (n : ℕ) → Always Any (paused f n)
   pauses pause.Sleep n = sleeps n
   pauses pause.Stall n = makes_event (Stalled n)
 
   -- mutexes
-  takes_by : (b : Bool) (table at : ℕ) (m : TakenMutex) (s : State) → Good s → Stays Any (acquired_or b table at m s)
-  takes_by true table at m s fits = (tt, record { locals = fits.locals; args = fits.args; names = fits.names })
-  takes_by false table at m s fits = tt
+  acquires_by : (b : Bool) (table at : ℕ) (m : TakenMutex) (s : State) → Good s → Stays Any (acquired_or b table at m s)
+  acquires_by true table at m s fits = (tt, record { locals = fits.locals; args = fits.args; names = fits.names })
+  acquires_by false table at m s fits = tt
 
-  takes : (table at : ℕ) (m : TakenMutex) → Always Any (acquire table at m)
+  -- memory is wanted for a mutex that is taken
+  acquires : (table at : ℕ) (m : TakenMutex) → may ≡ true → Always Any (acquire table at m)
   unfolding acquire
-  takes table at m s fits = takes_by (nat_le (held_level s.frame) m.level) table at m s fits
+  acquires table at m e s fits = (acquires_by (nat_le (held_level s.frame) m.level) table at m s fits, λ t. sym e ∙ t)
 
   drops_by : (o : Option (List TakenMutex)) (table at : ℕ) (s : State) → Good s → Stays Any (released_or o table at s)
   drops_by (Some ms) table at s fits = (tt, record { locals = fits.locals; args = fits.args; names = fits.names })
@@ -319,7 +359,7 @@ module _ (kinds : ContentKinds) (script : List Event) (slept : LeavesIntegers ki
 
   drops : (table at : ℕ) (m : TakenMutex) → Always Any (release table at m)
   unfolding release
-  drops table at m s fits = drops_by (without_last m.object.0 s.frame.held) table at s fits
+  drops table at m s fits = (drops_by (without_last m.object.0 s.frame.held) table at s fits, λ t. refl)
 
   ends_by : (ms : List TakenMutex) (table at : ℕ) (s : State) → Good s → Stays Any (ended_or ms table at s)
   ends_by [] table at s fits = (tt, fits)
@@ -327,7 +367,7 @@ module _ (kinds : ContentKinds) (script : List Event) (slept : LeavesIntegers ki
 
   ends : (table at : ℕ) → Always Any (none_held table at)
   unfolding none_held
-  ends table at s fits = ends_by s.frame.held table at s fits
+  ends table at s fits = (ends_by s.frame.held table at s fits, λ t. refl)
 
   -- loops
   choices : {V : Type 0} (P : V → Type 0) (b : Bool) (m n : M V) → Always P m → Always P n → Always P (if b then m else n)
@@ -343,13 +383,25 @@ module _ (kinds : ContentKinds) (script : List Event) (slept : LeavesIntegers ki
   turn_stays (NoAnswer s) rest h g = tt
   turn_stays (Spent s) rest h g = tt
 
+  turn_spares : (o : Out (Unit {0})) (f : State → Bool) → Stays Any o → ((s : State) → Good s → Spares (f s)) → Spares (behind_turn o f)
+  turn_spares (state.Goes v s) f h g = g s h.1
+  turn_spares (Halts (Error e) s) f h g = λ t. refl
+  turn_spares (Halts (Returned v) s) f h g = λ t. refl
+  turn_spares (Halts (Broke at) s) f h g = λ t. refl
+  turn_spares (Halts (Continued at) s) f h g = g s h
+  turn_spares (NoAnswer s) f h g = λ t. refl
+  turn_spares (Spent s) f h g = λ t. refl
+
   turned_stays : (body rest : M (Unit {0})) → Always Any body → Always Any rest → Always Any (turned body rest)
   unfolding turned
-  turned_stays body rest h g s fits = turn_stays (body.run script s) (rest.run script) (h s fits) g
+  turned_stays body rest h g s fits = (
+    turn_stays (body.run script s) (rest.run script) (h s fits).0 (λ next fits2. (g next fits2).0),
+    λ t. neither (body.wants script s) _ ((h s fits).1 t) (turn_spares (body.run script s) (rest.wants script) (h s fits).0 (λ next fits2. (g next fits2).1) t),
+  )
 
   spends : Always Any spent
   unfolding spent
-  spends s fits = tt
+  spends s fits = (tt, λ t. refl)
 
   turns_stay : (n : ℕ) (test : M ℕ) (body : M (Unit {0})) → Always Any test → Always Any body → Always Any (turns n test body)
   turns_stay zero test body h g = spends
@@ -369,7 +421,7 @@ module _ (kinds : ContentKinds) (script : List Event) (slept : LeavesIntegers ki
 
   peeks : (width : ℕ) (p : Place) (f : BufferField) → nat_le f.bits width ≡ true → Always IsInteger (peek f.source (read_buffer_field width p f))
   unfolding peek
-  peeks width p f e s fits = peeked_stays (read_buffer_field width p f (held_by f.source s)) s (buffer_field_int width p f (held_by f.source s) e) fits
+  peeks width p f e s fits = let int = buffer_field_int width p f (held_by f.source s) e in (peeked_stays (read_buffer_field width p f (held_by f.source s)) s int fits, λ t. result_spares (read_buffer_field width p f (held_by f.source s)) int)
 
   changed_good : (l : Link) (width : ℕ) (p : Place) (f : BufferField) (v u : Value) (s : State) → written_buffer_field width p f v (held_by l s) ≡ Ok u → Good s → Good (holding l s u)
   changed_good (link.Data id) width p f v u s e fits = record { locals = fits.locals; args = fits.args; names = λ i g. changed_content IsIntegerIfAny s.names.contents id.0 i (Some u) (λ same. absurd (written_elsewhere width p f v (content_at s.names.contents id.0) u e (fits.names id.0 (subst (λ k. is_integer (kind_at kinds k) ≡ true) (sym same) g)))) (fits.names i g) }
@@ -382,20 +434,20 @@ module _ (kinds : ContentKinds) (script : List Event) (slept : LeavesIntegers ki
 
   changes : (l : Link) (width : ℕ) (p : Place) (f : BufferField) (v : Value) → Always Any (change l (written_buffer_field width p f v))
   unfolding change paid
-  changes l width p f v s fits = step_stays Any s.steps s _ (λ n. changed_stays (written_buffer_field width p f v (held_by l (with_steps s n))) l width p f v (with_steps s n) refl (stepped s n fits))
+  changes l width p f v s fits = (step_stays Any s.steps s _ (λ n. changed_stays (written_buffer_field width p f v (held_by l (with_steps s n))) l width p f v (with_steps s n) refl (stepped s n fits)), λ t. refl)
 
   reads_narrow : (width : ℕ) (f : AnyField) → nat_le (layout_of f).bits width ≡ true → Always IsInteger (read_value width f)
-  reads_narrow width f e s fits = cost_stays IsInteger (read_count f) s _ (fields_cost.read width f script s) (makes_more _ IsInteger _ (λ v h. made_int width (layout_of f).bits v e h) (field_made width f script s)) fits
+  reads_narrow width f e s fits = (cost_stays IsInteger (read_count f) s _ (fields_cost.read width f script s) (makes_more _ IsInteger _ (λ v h. made_int width (layout_of f).bits v e h) (field_made width f script s)) fits, λ t. narrow_read_wants width f e script s)
 
   writes_bits : (f : AnyField) (bit : ℕ → ℕ) → Always Any (write_bits f bit)
-  writes_bits f bit s fits = cost_stays Any (write_count f) s _ (fields_cost.write f bit script s) (any_made _) fits
+  writes_bits f bit s fits = (cost_stays Any (write_count f) s _ (fields_cost.write f bit script s) (any_made _) fits, λ t. write_wants f bit script s)
 
-  module _ (methods : Methods) (m : Callee) (only : ℕ → Bool) (call : Place → ℕ → List Value → M (Option Value)) (calls : (p : Place) (k : ℕ) (vs : List Value) (s : State) → only k ≡ true → AreIntegers vs → HoldIntegers kinds s.names.contents → GivesInteger kinds s.frame ((call p k vs).run script s)) where
+  module _ (methods : Methods) (m : Callee) (only : ℕ → Bool) (call : Place → ℕ → List Value → M (Option Value)) (calls : (p : Place) (k : ℕ) (vs : List Value) (s : State) → only k ≡ true → AreIntegers vs → HoldIntegers kinds s.names.contents → GivesInteger kinds s.frame ((call p k vs).run script s) × Spares ((call p k vs).wants script s)) where
     abbrev here : Setting
     here = setting_for methods call m
 
     abbrev IntegersAt : Tree → Type 0
-    IntegersAt t = integers methods m kinds only t ≡ true
+    IntegersAt t = integers_if methods m kinds only may t ≡ true
 
     outsides : (V : Type 0) (P : V → Type 0) (at : ℕ) → Always P (outside here {V = V} at)
     outsides V P at = errs V P (record { table = here.table; at = at; cause = why.Outside })
@@ -403,9 +455,9 @@ module _ (kinds : ContentKinds) (script : List Event) (slept : LeavesIntegers ki
     yields_int : (v : Value) → IsInteger v → Always IsIntegerIfAny (give (Some v))
     yields_int v h = gives IsIntegerIfAny (Some v) h
 
-    wants : (at : ℕ) (v : Option Value) → IsIntegerIfAny v → Always IsInteger (want here at v)
-    wants at (Some v) h = gives IsInteger v h
-    wants at None h = errs Value IsInteger (record { table = here.table; at = at; cause = why.NoValue })
+    wanted_int : (at : ℕ) (v : Option Value) → IsIntegerIfAny v → Always IsInteger (want here at v)
+    wanted_int at (Some v) h = gives IsInteger v h
+    wanted_int at None h = errs Value IsInteger (record { table = here.table; at = at; cause = why.NoValue })
 
     holds_int : (k at : ℕ) → is_integer (kind_at kinds k) ≡ true → Always IsIntegerIfAny (held here k at)
     holds_int k at e = both IsInteger IsIntegerIfAny _ _ (gets_name here.table at k e) (λ v h. yields_int v h)
@@ -448,7 +500,7 @@ module _ (kinds : ContentKinds) (script : List Event) (slept : LeavesIntegers ki
     targets_int (link.Object id) at v e h = absurd cc
     targets_int link.Missing at v e h = absurd cc
 
-    puts : (a : Action) (at : ℕ) (parts : Trees) (v : Value) → integers_by methods m kinds only a at parts ≡ true → IsInteger v → Always Any (put here a at v)
+    puts : (a : Action) (at : ℕ) (parts : Trees) (v : Value) → integers_by_if methods m kinds only may a at parts ≡ true → IsInteger v → Always Any (put here a at v)
     puts (Local k) at parts v e h = both Any Any tick _ ticks (λ u p. sets_local k v h)
     puts (Argument k) at parts v e h = both Any Any tick _ ticks (λ u p. sets_arg k v h)
     puts NoTarget at parts v e h = gives Any tt tt
@@ -466,7 +518,7 @@ module _ (kinds : ContentKinds) (script : List Event) (slept : LeavesIntegers ki
     called_stays s (Spent next) fits h = tt
 
     invokes : (l : Link) (at from : ℕ) (arguments : M (List Value)) → integer_called methods m kinds only l ≡ true → Always AreIntegers arguments → Always IsIntegerIfAny (invoked here l at from arguments)
-    invokes (link.Method id) at from arguments e h = both AreIntegers IsIntegerIfAny arguments _ h (λ vs p s fits. called_stays s _ fits (calls (record { table = here.table; at = at }) id.0 vs s e p fits.names))
+    invokes (link.Method id) at from arguments e h = both AreIntegers IsIntegerIfAny arguments _ h (λ vs p s fits. let called = calls (record { table = here.table; at = at }) id.0 vs s e p fits.names in (called_stays s _ fits called.0, called.1))
     invokes (link.Data id) at from arguments e h = holds_int id.0 at e
     invokes (link.Field id) at from arguments e h = reads_field (methods.field id.0) at e
     invokes (link.BufferField id) at from arguments e h = reads_buffer_field (methods.buffer_field id.0) at e
@@ -520,37 +572,37 @@ module _ (kinds : ContentKinds) (script : List Event) (slept : LeavesIntegers ki
 
     breaks : (at : ℕ) → Always IsIntegerIfAny (stop_with {V = Option Value} (Broke at))
     unfolding stop_with
-    breaks at s fits = fits
+    breaks at s fits = (fits, λ t. refl)
 
     continues : (at : ℕ) → Always IsIntegerIfAny (stop_with {V = Option Value} (Continued at))
     unfolding stop_with
-    continues at s fits = fits
+    continues at s fits = (fits, λ t. refl)
 
     returns : (v : Value) → IsInteger v → Always IsIntegerIfAny (stop_with {V = Option Value} (Returned v))
     unfolding stop_with
-    returns v h s fits = (h, fits)
+    returns v h s fits = ((h, fits), λ t. refl)
 
     tests : (p : Place) (test : M Value) → Always IsInteger test → Always Any (tested here p test)
     tests p test h = both IsInteger Any test _ h (λ v q. lifts_any (integer p v))
 
-    in_parts : (a : Action) (at : ℕ) (t : Tree) (ts : Trees) → (integers methods m kinds only t && integers_in methods m kinds only ts) ≡ true → IntegersAt t × (integers_in methods m kinds only ts ≡ true)
-    in_parts a at t ts e = and_parts (integers methods m kinds only t) (integers_in methods m kinds only ts) e
+    in_parts : (a : Action) (at : ℕ) (t : Tree) (ts : Trees) → (integers_if methods m kinds only may t && integers_in_if methods m kinds only may ts) ≡ true → IntegersAt t × (integers_in_if methods m kinds only may ts ≡ true)
+    in_parts a at t ts e = and_parts (integers_if methods m kinds only may t) (integers_in_if methods m kinds only may ts) e
 
-    unwritten_in : (at : ℕ) (parts : Trees) → integers_by methods m kinds only Unwritten at parts ≡ true → integers_in methods m kinds only parts ≡ true
+    unwritten_in : (at : ℕ) (parts : Trees) → integers_by_if methods m kinds only may Unwritten at parts ≡ true → integers_in_if methods m kinds only may parts ≡ true
     unwritten_in at none e = refl
     unwritten_in at (more t ts) e = e
 
-    else_in : (o : Op) (at : ℕ) (parts : Trees) → is_else o ≡ true → integers_by methods m kinds only (action o) at parts ≡ true → integers_in methods m kinds only parts ≡ true
-    else_in o at parts e h = unwritten_in at parts (subst (λ a. integers_by methods m kinds only a at parts ≡ true) (else_action o e) h)
+    else_in : (o : Op) (at : ℕ) (parts : Trees) → is_else o ≡ true → integers_by_if methods m kinds only may (action o) at parts ≡ true → integers_in_if methods m kinds only may parts ≡ true
+    else_in o at parts e h = unwritten_in at parts (subst (λ a. integers_by_if methods m kinds only may a at parts ≡ true) (else_action o e) h)
 
     eithers : (b : Bool) (i j : M (Unit {0})) → (b ≡ true → Always Any i) → Always Any j → Always Any (if b then i else j)
     eithers true i j h g = h refl
     eithers false i j h g = g
 
-    by_node : (o : Op) (at : ℕ) (parts : Trees) → (makes_nothing (definition o) && integers_by methods m kinds only (action o) at parts) ≡ true → integers_by methods m kinds only (action o) at parts ≡ true
-    by_node o at parts e = (and_parts (makes_nothing (definition o)) (integers_by methods m kinds only (action o) at parts) e).1
+    by_node : (o : Op) (at : ℕ) (parts : Trees) → (makes_nothing (definition o) && integers_by_if methods m kinds only may (action o) at parts) ≡ true → integers_by_if methods m kinds only may (action o) at parts ≡ true
+    by_node o at parts e = (and_parts (makes_nothing (definition o)) (integers_by_if methods m kinds only may (action o) at parts) e).1
 
-    stored_ints : (a : Action) (at : ℕ) (parts : Trees) (v : Value) → integers_by methods m kinds only a at parts ≡ true → IsInteger v → Always Any (stored here a at parts v)
+    stored_ints : (a : Action) (at : ℕ) (parts : Trees) (v : Value) → integers_by_if methods m kinds only may a at parts ≡ true → IsInteger v → Always Any (stored here a at parts v)
     stored_ints Index at parts v e h = absurd cc
     stored_ints a at parts v e h = puts a at parts v e h
 
@@ -564,9 +616,9 @@ module _ (kinds : ContentKinds) (script : List Event) (slept : LeavesIntegers ki
       pub value_ints : (t : Tree) → IntegersAt t → Always IsInteger (value here t)
       value_ints (Node o at stop parts) e = both Any IsInteger tick _ ticks (λ u p.
           both IsIntegerIfAny IsInteger (if gives_value here (action o) parts then act here (action o) at parts else outside here at) _
-          (choices IsIntegerIfAny (gives_value here (action o) parts) (act here (action o) at parts) (outside here at) (act_ints (action o) at parts (by_node o at parts e)) (outsides (Option Value) IsIntegerIfAny at)) (λ v q. wants at v q))
+          (choices IsIntegerIfAny (gives_value here (action o) parts) (act here (action o) at parts) (outside here at) (act_ints (action o) at parts (by_node o at parts e)) (outsides (Option Value) IsIntegerIfAny at)) (λ v q. wanted_int at v q))
 
-      act_ints : (a : Action) (at : ℕ) (parts : Trees) → integers_by methods m kinds only a at parts ≡ true → Always IsIntegerIfAny (act here a at parts)
+      act_ints : (a : Action) (at : ℕ) (parts : Trees) → integers_by_if methods m kinds only may a at parts ≡ true → Always IsIntegerIfAny (act here a at parts)
       act_ints (Literal o) at parts e = yields_int _ tt
       act_ints (Data o) at parts e = absurd cc
       act_ints (Local i) at parts e = both IsInteger IsIntegerIfAny _ _ (gets_local here.table at i) (λ v h. yields_int v h)
@@ -592,14 +644,14 @@ module _ (kinds : ContentKinds) (script : List Event) (slept : LeavesIntegers ki
       act_ints (Convert conversion.ToBuffer) at parts e = absurd cc
       act_ints (Convert conversion.ToInteger) at (more a (more g none)) e =
           let e1 = in_parts (Convert conversion.ToInteger) at a (more g none) e in let e2 = in_parts (Convert conversion.ToInteger) at g none e1.1 in
-          both IsInteger IsIntegerIfAny (value here a) _ (value_ints a e1.0) (λ x p. both IsInteger IsIntegerIfAny _ _ (lifts _ (converted_int methods.width (place_at here at) (place here a) x p)) (λ v h. both Any IsIntegerIfAny (store here g v) _ (store_ints g v e2.0 h) (λ u r. yields_int v h)))
+          both IsInteger IsIntegerIfAny (value here a) _ (value_ints a e1.0) (λ x p. both IsInteger IsIntegerIfAny _ _ (converts (lift (converted methods.width conversion.ToInteger (place_at here at) (place here a) x)) (lifts _ (converted_int methods.width (place_at here at) (place here a) x p))) (λ v h. copies IsIntegerIfAny v (store here g v >>= (λ u. give (Some v))) h (both Any IsIntegerIfAny (store here g v) (λ u. give (Some v)) (store_ints g v e2.0 h) (λ u r. yields_int v h))))
       act_ints Concatenate at parts e = absurd cc
       act_ints SizeOf at parts e = absurd cc
       act_ints Dereference at parts e = absurd cc
       act_ints CondRefOf at (more a (more g none)) e = conditions at a g
       act_ints Store at (more a (more g none)) e =
           let e1 = in_parts Store at a (more g none) e in let e2 = in_parts Store at g none e1.1 in
-          both IsInteger IsIntegerIfAny (value here a) _ (value_ints a e1.0) (λ v h. both Any IsIntegerIfAny (store here g v) _ (store_ints g v e2.0 h) (λ u r. yields_int v h))
+          both IsInteger IsIntegerIfAny (value here a) _ (value_ints a e1.0) (λ v h. copies IsIntegerIfAny v (store here g v >>= (λ u. give (Some v))) h (both Any IsIntegerIfAny (store here g v) (λ u. give (Some v)) (store_ints g v e2.0 h) (λ u r. yields_int v h)))
       act_ints Return at (more a none) e =
           let e1 = in_parts Return at a none e in
           both IsInteger IsIntegerIfAny (value here a) _ (value_ints a e1.0) (λ v h. both Any IsIntegerIfAny (none_held here.table at) _ (ends here.table at) (λ u r. returns v h))
@@ -614,7 +666,7 @@ module _ (kinds : ContentKinds) (script : List Event) (slept : LeavesIntegers ki
       act_ints Nothing at parts e = gives IsIntegerIfAny None tt
       act_ints Name at parts e = names_int (m.link at) at e
       act_ints Invoke at (more name arguments) e =
-          let two = and_parts (integer_called methods m kinds only (m.link (at_of name))) (integers_in methods m kinds only arguments) e in
+          let two = and_parts (integer_called methods m kinds only (m.link (at_of name))) (integers_in_if methods m kinds only may arguments) e in
           invokes (m.link (at_of name)) (at_of name) _ (values here arguments) two.0 (values_ints arguments two.1)
       act_ints Notify at (more o (more a none)) e =
           let e1 = in_parts Notify at a none e in
@@ -623,26 +675,26 @@ module _ (kinds : ContentKinds) (script : List Event) (slept : LeavesIntegers ki
           let e1 = in_parts (Pause f) at a none e in
           both IsInteger IsIntegerIfAny (value here a) _ (value_ints a e1.0) (λ v q. both Any IsIntegerIfAny _ _ (lifts_any (integer (place here a) v)) (λ n t. both Any IsIntegerIfAny _ _ (pauses f n) (λ u z. gives IsIntegerIfAny None tt)))
       act_ints Acquire at (more o (more timeout none)) e =
-          both Any IsIntegerIfAny _ _ (mutexes at (action (operator_of o)) (at_of o)) (λ x p. both Any IsIntegerIfAny _ _ (takes here.table at x) (λ u q. yields_int (Int 0) tt))
+          both Any IsIntegerIfAny _ _ (mutexes at (action (operator_of o)) (at_of o)) (λ x p. both Any IsIntegerIfAny _ _ (acquires here.table at x e) (λ u q. yields_int (Int 0) tt))
       act_ints Release at (more o none) e =
           both Any IsIntegerIfAny _ _ (mutexes at (action (operator_of o)) (at_of o)) (λ x p. both Any IsIntegerIfAny _ _ (drops here.table at x) (λ u q. gives IsIntegerIfAny None tt))
       act_ints a at parts e = outsides (Option Value) IsIntegerIfAny at
 
-      values_ints : (ts : Trees) → integers_in methods m kinds only ts ≡ true → Always AreIntegers (values here ts)
+      values_ints : (ts : Trees) → integers_in_if methods m kinds only may ts ≡ true → Always AreIntegers (values here ts)
       values_ints none e = gives AreIntegers [] tt
       values_ints (more t ts) e =
           let e1 = in_parts Invoke 0 t ts e in
           both IsInteger AreIntegers (value here t) _ (value_ints t e1.0) (λ v h. both AreIntegers AreIntegers (values here ts) _ (values_ints ts e1.1) (λ vs g. gives AreIntegers (v ∷ vs) (h, g)))
 
-      all_ints : (ts : Trees) → integers_in methods m kinds only ts ≡ true → Always Any (mean_all here ts)
+      all_ints : (ts : Trees) → integers_in_if methods m kinds only may ts ≡ true → Always Any (mean_all here ts)
       all_ints none e = gives Any tt tt
       all_ints (more t ts) e = let e1 = in_parts Invoke 0 t ts e in both IsIntegerIfAny Any (mean here t) _ (mean_ints t e1.0) (λ v h. all_ints ts e1.1)
 
-      block_ints : (ts : Trees) → integers_in methods m kinds only ts ≡ true → Always Any (block here ts)
+      block_ints : (ts : Trees) → integers_in_if methods m kinds only may ts ≡ true → Always Any (block here ts)
       block_ints none e = gives Any tt tt
       block_ints (more t ts) e = let e1 = in_parts Invoke 0 t ts e in choices Any (is_else (operator_of t)) (give tt) (mean here t >>= (λ v. block here ts)) (gives Any tt tt) (both IsIntegerIfAny Any (mean here t) _ (mean_ints t e1.0) (λ v h. block_ints ts e1.1))
 
-      otherwise_ints : (ts : Trees) → integers_in methods m kinds only ts ≡ true → Always Any (otherwise here ts)
+      otherwise_ints : (ts : Trees) → integers_in_if methods m kinds only may ts ≡ true → Always Any (otherwise here ts)
       otherwise_ints none e = gives Any tt tt
       otherwise_ints (more (Node o at stop parts) ts) e = let e1 = in_parts Invoke 0 (Node o at stop parts) ts e in eithers (is_else o) (mean_all here parts) (otherwise here ts) (λ z. all_ints parts (else_in o at parts z (by_node o at parts e1.0))) (otherwise_ints ts e1.1)
 
@@ -652,13 +704,13 @@ module _ (kinds : ContentKinds) (script : List Event) (slept : LeavesIntegers ki
     stated_ints d t z e = absurd cc
 
     statement_ints : (t : Tree) → IntegersAt t → Always Any (statement here t)
-    statement_ints (Node o at stop parts) e = stated_ints (definition o) (Node o at stop parts) (and_parts (makes_nothing (definition o)) (integers_by methods m kinds only (action o) at parts) e).0 e
+    statement_ints (Node o at stop parts) e = stated_ints (definition o) (Node o at stop parts) (and_parts (makes_nothing (definition o)) (integers_by_if methods m kinds only may (action o) at parts) e).0 e
 
-    body_ints : (ts : Trees) → integers_in methods m kinds only ts ≡ true → Always Any (mean_body here ts)
+    body_ints : (ts : Trees) → integers_in_if methods m kinds only may ts ≡ true → Always Any (mean_body here ts)
     body_ints none e = gives Any tt tt
     body_ints (more t ts) e = let e1 = in_parts Invoke 0 t ts e in both Any Any (statement here t) _ (statement_ints t e1.0) (λ u h. body_ints ts e1.1)
 
-    pub method_ints : integers_in methods m kinds only m.body ≡ true → Always Any (mean_method here m.body)
+    pub method_ints : integers_in_if methods m kinds only may m.body ≡ true → Always Any (mean_method here m.body)
     method_ints e = both Any Any (mean_body here m.body) _ (body_ints m.body e) (λ u h. ends here.table here.opcode)
 
 slots_ints : (n : ℕ) (vs : List Value) → AreIntegers vs → AreIntegersIfAny (slots n vs)
@@ -675,34 +727,51 @@ left_ints kinds table frame (Halts (Continued at) s) h = tt
 left_ints kinds table frame (NoAnswer s) h = tt
 left_ints kinds table frame (Spent s) h = tt
 
-module _ (all : Judging) (known : ℕ → Option Accepted) (only : ℕ → Bool) (are : AreIntegerOnly all known only) (script : List Event) (slept : LeavesIntegers all.kinds script) where
-  abbrev Calls : (Place → ℕ → List Value → M (Option Value)) → Type 0
-  Calls call = (p : Place) (k : ℕ) (vs : List Value) (s : State) → only k ≡ true → AreIntegers vs → HoldIntegers all.kinds s.names.contents → GivesInteger all.kinds s.frame ((call p k vs).run script s)
+module _ (may : Bool) (all : Judging) (known : ℕ → Option Accepted) (only : ℕ → Bool) (are : (k : ℕ) → only k ≡ true → integer_only_if all may only k (known k) (all.methods.callee k) ≡ true) (script : List Event) (slept : LeavesIntegers all.kinds script) where
+  -- of an evaluation in a frame
+  abbrev Gives : Frame → M (Option Value) → State → Type 0
+  Gives frame m s = GivesInteger all.kinds frame (m.run script s) × (may ≡ false → m.wants script s ≡ false)
 
-  only_says : (k : ℕ) (a : Option Accepted) (m : Callee) → integer_only_by all only k a (Some m) ≡ true → integers_in all.methods m all.kinds only m.body ≡ true
-  only_says k (Some a) m e = (and_parts (are_integers (all.args k)) (integers_in all.methods m all.kinds only m.body) e).1
+  abbrev Calls : (Place → ℕ → List Value → M (Option Value)) → Type 0
+  Calls call = (p : Place) (k : ℕ) (vs : List Value) (s : State) → only k ≡ true → AreIntegers vs → HoldIntegers all.kinds s.names.contents → Gives s.frame (call p k vs) s
+
+  only_says : (k : ℕ) (a : Option Accepted) (m : Callee) → integer_only_if all may only k a (Some m) ≡ true → integers_in_if all.methods m all.kinds only may m.body ≡ true
+  only_says k (Some a) m e = (and_parts (are_integers (all.args k)) (integers_in_if all.methods m all.kinds only may m.body) e).1
   only_says k None m e = absurd cc
 
-  entered_ints : (d k : ℕ) (p : Place) (o : Option Callee) (vs : List Value) (s : State) → Calls (call_within all.methods d) → all.methods.callee k ≡ o → only k ≡ true → AreIntegers vs → HoldIntegers all.kinds s.names.contents → GivesInteger all.kinds s.frame ((callee_or p o (λ m. framed m.table vs (mean_method (setting_for all.methods (call_within all.methods d) m) m.body))).run script s)
+  entered_ints : (d k : ℕ) (p : Place) (o : Option Callee) (vs : List Value) (s : State) → Calls (call_within all.methods d) → all.methods.callee k ≡ o → only k ≡ true → AreIntegers vs → HoldIntegers all.kinds s.names.contents → Gives s.frame (callee_or p o (λ m. framed m.table vs (mean_method (setting_for all.methods (call_within all.methods d) m) m.body))) s
   unfolding framed stop_with
-  entered_ints d k p None vs s calls is e h names = tt
+  entered_ints d k p None vs s calls is e h names = (tt, λ t. refl)
   entered_ints d k p (Some m) vs s calls is e h names =
-      let says : integer_only_by all only k (known k) (Some m) ≡ true = subst (λ o. integer_only_by all only k (known k) o ≡ true) is (sym (are.each k) ∙ e) in
-      left_ints all.kinds m.table s.frame _ (method_ints all.kinds script slept all.methods m only (call_within all.methods d) calls (only_says k (known k) m says) (inside vs s) (record { locals = slots_ints 8 [] tt; args = slots_ints 7 vs h; names = names }))
+      let says : integer_only_if all may only k (known k) (Some m) ≡ true = subst (λ o. integer_only_if all may only k (known k) o ≡ true) is (are k e) in
+      let body = method_ints may all.kinds script slept all.methods m only (call_within all.methods d) calls (only_says k (known k) m says) (inside vs s) (record { locals = slots_ints 8 [] tt; args = slots_ints 7 vs h; names = names }) in
+      (left_ints all.kinds m.table s.frame _ body.0, body.1)
 
-  none_within : (p : Place) (o : Option Callee) (frame : Frame) (s : State) → GivesInteger all.kinds frame ((callee_or p o (λ m. stop_with (Error (record { table = p.table; at = p.at; cause = why.Depth })))).run script s)
+  none_within : (p : Place) (o : Option Callee) (frame : Frame) (s : State) → Gives frame (callee_or p o (λ m. stop_with (Error (record { table = p.table; at = p.at; cause = why.Depth })))) s
   unfolding stop_with
-  none_within p None frame s = tt
-  none_within p (Some m) frame s = tt
+  none_within p None frame s = (tt, λ t. refl)
+  none_within p (Some m) frame s = (tt, λ t. refl)
 
   calls_ints : (d : ℕ) → Calls (call_within all.methods d)
   unfolding call_within
   calls_ints zero p k vs s e h names = none_within p (all.methods.callee k) s.frame s
   calls_ints (suc d) p k vs s e h names = entered_ints d k p (all.methods.callee k) vs s (calls_ints d) refl e h names
 
+module _ (all : Judging) (known : ℕ → Option Accepted) (only : ℕ → Bool) where
+  only_are : AreIntegerOnly all known only → (k : ℕ) → only k ≡ true → integer_only_if all true only k (known k) (all.methods.callee k) ≡ true
+  only_are are k e = sym (are.each k) ∙ e
+
 pub integers_alone : IntegersAlone
 integers_alone = record {
-  statements = λ all known only are d m t e script slept s fits. mean_ints all.kinds script slept all.methods m only (call_within all.methods d) (calls_ints all known only are script slept d) t e s fits;
-  operands = λ all known only are d m t e script slept s fits. value_ints all.kinds script slept all.methods m only (call_within all.methods d) (calls_ints all known only are script slept d) t e s fits;
-  calls = λ all known only are d p k values e h script slept s names. calls_ints all known only are script slept d p k values s e h names;
+  statements = λ all known only are d m t e script slept s fits. (mean_ints true all.kinds script slept all.methods m only (call_within all.methods d) (calls_ints true all known only (only_are all known only are) script slept d) t e s fits).0;
+  operands = λ all known only are d m t e script slept s fits. (value_ints true all.kinds script slept all.methods m only (call_within all.methods d) (calls_ints true all known only (only_are all known only are) script slept d) t e s fits).0;
+  calls = λ all known only are d p k values e h script slept s names. (calls_ints true all known only (only_are all known only are) script slept d p k values s e h names).0;
+}
+
+pub sparing_methods_want_none : SparingMethodsWantNone
+sparing_methods_want_none = record {
+  statements = λ all known spare are d m t e script slept s fits. (mean_ints false all.kinds script slept all.methods m spare (call_within all.methods d) (calls_ints false all known spare are.each script slept d) t e s fits).1 refl;
+  operands = λ all known spare are d m t e script slept s fits. (value_ints false all.kinds script slept all.methods m spare (call_within all.methods d) (calls_ints false all known spare are.each script slept d) t e s fits).1 refl;
+  calls = λ all known spare are d p k values e h script slept s names. (calls_ints false all known spare are.each script slept d p k values s e h names).1 refl;
+  methods = λ all known spare are d k m values is e h script slept s names. (entered_ints false all known spare are.each script slept d k (record { table = 0; at = 0 }) (Some m) values s (calls_ints false all known spare are.each script slept d) is e h names).1 refl;
 }

@@ -10,6 +10,7 @@ pub mod Shapes
 pub mod Loops
 pub mod Words
 pub mod FieldValues
+pub mod FieldWants
 pub mod FieldsSafe
 pub mod IndexSafe
 pub mod BufferFieldsSafe
@@ -39,6 +40,9 @@ pub mod LoopPlaces
 pub mod Sums
 pub mod SumExamples
 pub mod Seen
+pub mod Mutexless
+pub mod AllJudged
+pub mod MutexlessExamples
 pub mod Fine
 pub mod InPlace
 pub mod Mutexes

@@ -9,7 +9,7 @@ use Rattle.aml_namespace.specs.declared.link.Link.TheVariants as link
 use Rattle.aml_objects.specs.declared.width.Width.TheVariants as width_of
 use Rattle.aml_values.specs.Values.{Int}
 use Rattle.aml_kinds.specs.Kinds.{IntUpTo}
-use Rattle.aml_regions.specs.Events.{Event}
+use Rattle.aml_regions.specs.Events.{Event, Log}
 use Rattle.aml_meaning.specs.State.{Names}
 use Rattle.aml_meaning.specs.Within.{Callee}
 use Rattle.aml_meaning.specs.Whole.{before}
@@ -83,10 +83,14 @@ are_verdicts = record { width = width_of.Bits64; bits = refl; small = are_small;
 abbrev second : Accepted
 second = record { args = []; result = Always (IntUpTo 18446744073709551615); bound = 35; least = None }
 
-callable : (script : List Event) (names : Names) → FitNames 64 [] names → FitScript 64 [] script → IsCallable all known 1 second calls_it [] script (before names 35 [])
+-- a world that kept no event yet, and refused no call
+abbrev nothing_yet : Log
+nothing_yet = record { events = []; refusals = 0 }
+
+callable : (script : List Event) (names : Names) → FitNames 64 [] names → FitScript 64 [] script → IsCallable all known 1 second calls_it [] script (before names 35 nothing_yet)
 callable script names shared slept = record { accepted = refl; there = refl; arguments = tt; names = shared; answers = slept }
 
 -- with 35 steps, whatever the script, the second method is done with an integer
-calling_is_done : (script : List Event) (names : Names) → FitNames 64 [] names → FitScript 64 [] script → IsDone all second (evaluation all calls_it [] script (before names 35 []))
+calling_is_done : (script : List Event) (names : Names) → FitNames 64 [] names → FitScript 64 [] script → IsDone all second (evaluation all calls_it [] script (before names 35 nothing_yet))
 calling_is_done script names shared slept =
-    verdicts_mean.done all known are_verdicts 1 second calls_it [] script (before names 35 []) (callable script names shared slept) tt (omega arith)
+    verdicts_mean.done all known are_verdicts 1 second calls_it [] script (before names 35 nothing_yet) (callable script names shared slept) tt (omega arith)

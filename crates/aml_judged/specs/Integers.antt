@@ -1,6 +1,6 @@
 -- Methods that evaluate integers alone: each term of such a method that has a value has an integer,
 -- names, locals and arguments that are read or written by what they hold, and it makes no own name
--- (own).
+-- (own). Where none of them takes a mutex either, they want memory nowhere.
 use Rattle.std.specs.Prelude.{◌≡◌, ℕ, ◌&&◌, nat_le, List, [], ◌∷◌, Option, Some, None, slice_get, Bool, true, false}
 use Rattle.aml_operators.specs.Tree.{Tree, Trees, Node, none, more}
 use Rattle.aml_namespace.specs.declared.link.Link.{Link}
@@ -18,7 +18,8 @@ use Rattle.aml_meaning.specs.declared.definition.Definition.{Definition}
 use Rattle.aml_meaning.specs.declared.definition.Definition.TheVariants as makes
 use Rattle.aml_meaning.specs.declared.buffer_field.BufferField.{BufferField}
 use Rattle.aml_meaning.specs.Actions.{action}
-use Rattle.aml_meaning.specs.Definitions.{definition}
+use Rattle.aml_meaning.specs.Calls.{framed}
+use Rattle.aml_meaning.specs.Definitions.{definition, mean_method}
 use Rattle.aml_meaning.specs.Meaning.{Setting, at_of, mean, value}
 use Rattle.aml_meaning.specs.Rules.{Place}
 use Rattle.aml_meaning.specs.State as state
@@ -72,41 +73,65 @@ module _ (methods : Methods) (m : Callee) (kinds : ContentKinds) (only : ℕ →
   integer_asked (link.Own k) = false
   integer_asked l = true
 
-  abbrev mutual
-    pub integers : Tree → Bool
-    integers (Node o at stop parts) =
-        makes_nothing (definition o) && integers_by (action o) at parts
+  -- where mutexes may be taken, or may not
+  module _ (takes : Bool) where
+    abbrev mutual
+      pub integers_if : Tree → Bool
+      integers_if (Node o at stop parts) =
+          makes_nothing (definition o) && integers_by_if (action o) at parts
 
-    pub integers_by : Action → ℕ → Trees → Bool
-    integers_by (Data o) at parts = false
-    integers_by Concatenate at parts = false
-    integers_by SizeOf at parts = false
-    integers_by Dereference at parts = false
-    integers_by Index at parts = false
-    integers_by (Convert conversion.ToBuffer) at parts = false
-    integers_by Name at parts = integer_name (m.link at)
-    integers_by Invoke at (more name arguments) =
-        integer_called (m.link (at_of name)) && integers_in arguments
-    integers_by CondRefOf at (more (Node o from stop parts) ts) = integer_asked (m.link from)
-    integers_by Notify at (more o ts) = integers_in ts
-    integers_by Acquire at parts = true
-    integers_by Release at parts = true
-    integers_by a at none = true
-    integers_by a at (more t ts) = integers t && integers_in ts
+      pub integers_by_if : Action → ℕ → Trees → Bool
+      integers_by_if (Data o) at parts = false
+      integers_by_if Concatenate at parts = false
+      integers_by_if SizeOf at parts = false
+      integers_by_if Dereference at parts = false
+      integers_by_if Index at parts = false
+      integers_by_if (Convert conversion.ToBuffer) at parts = false
+      integers_by_if Name at parts = integer_name (m.link at)
+      integers_by_if Invoke at (more name arguments) =
+          integer_called (m.link (at_of name)) && integers_in_if arguments
+      integers_by_if CondRefOf at (more (Node o from stop parts) ts) =
+          integer_asked (m.link from)
+      integers_by_if Notify at (more o ts) = integers_in_if ts
+      integers_by_if Acquire at parts = takes
+      integers_by_if Release at parts = true
+      integers_by_if a at none = true
+      integers_by_if a at (more t ts) = integers_if t && integers_in_if ts
 
-    pub integers_in : Trees → Bool
-    integers_in none = true
-    integers_in (more t ts) = integers t && integers_in ts
+      pub integers_in_if : Trees → Bool
+      integers_in_if none = true
+      integers_in_if (more t ts) = integers_if t && integers_in_if ts
+
+  -- where they may be taken
+  abbrev pub integers : Tree → Bool
+  integers t = integers_if true t
+
+  abbrev pub integers_by : Action → ℕ → Trees → Bool
+  integers_by a at parts = integers_by_if true a at parts
+
+  abbrev pub integers_in : Trees → Bool
+  integers_in ts = integers_in_if true ts
 
 module _ (all : Judging) where
+  -- of an accepted method, whose mutexes may be taken, or may not
+  abbrev pub integer_only_if : Bool → (ℕ → Bool) → ℕ → Option Accepted → Option Callee → Bool
+  integer_only_if takes only k (Some a) (Some m) =
+      are_integers (all.args k) && integers_in_if all.methods m all.kinds only takes m.body
+  integer_only_if takes only k known m = false
+
   abbrev pub integer_only_by : (ℕ → Bool) → ℕ → Option Accepted → Option Callee → Bool
-  integer_only_by only k (Some a) (Some m) =
-      are_integers (all.args k) && integers_in all.methods m all.kinds only m.body
-  integer_only_by only k known m = false
+  integer_only_by only k known m = integer_only_if true only k known m
 
   -- the accepted methods that are integer-only, by those that they call
   pub record AreIntegerOnly (known : ℕ → Option Accepted) (only : ℕ → Bool) : Type 0 where
     pub each : (k : ℕ) → only k ≡ integer_only_by only k (known k) (all.methods.callee k)
+
+  -- accepted methods that are integer-only and take no mutex, nor do those that they call; not all
+  -- such methods need be among them
+  pub record AreSparing (known : ℕ → Option Accepted) (spare : ℕ → Bool) : Type 0 where
+    pub each :
+        (k : ℕ) → spare k ≡ true →
+        integer_only_if false spare k (known k) (all.methods.callee k) ≡ true
 
 abbrev pub IsInteger : Value → Type 0
 IsInteger (Int n) = Unit {0}
@@ -190,3 +215,38 @@ pub record IntegersAlone : Type 0 where
       (script : List Event) → LeavesIntegers all.kinds script →
       (s : State) → HoldIntegers all.kinds s.names.contents →
       GivesInteger all.kinds s.frame ((call_within all.methods d p k values).run script s)
+
+-- in a sparing method memory is wanted by no statement and by no operand, nor by a call of it, nor
+-- by the whole of it
+pub record SparingMethodsWantNone : Type 0 where
+  pub statements :
+      (all : Judging) (known : ℕ → Option Accepted) (spare : ℕ → Bool) →
+      AreSparing all known spare →
+      (d : ℕ) (m : Callee) (t : Tree) →
+      integers_if all.methods m all.kinds spare false t ≡ true →
+      (script : List Event) → LeavesIntegers all.kinds script →
+      (s : State) → IsIntegral all.kinds s →
+      (mean (setting_within all d m) t).wants script s ≡ false
+  pub operands :
+      (all : Judging) (known : ℕ → Option Accepted) (spare : ℕ → Bool) →
+      AreSparing all known spare →
+      (d : ℕ) (m : Callee) (t : Tree) →
+      integers_if all.methods m all.kinds spare false t ≡ true →
+      (script : List Event) → LeavesIntegers all.kinds script →
+      (s : State) → IsIntegral all.kinds s →
+      (value (setting_within all d m) t).wants script s ≡ false
+  pub calls :
+      (all : Judging) (known : ℕ → Option Accepted) (spare : ℕ → Bool) →
+      AreSparing all known spare →
+      (d : ℕ) (p : Place) (k : ℕ) (values : List Value) → spare k ≡ true → AreIntegers values →
+      (script : List Event) → LeavesIntegers all.kinds script →
+      (s : State) → HoldIntegers all.kinds s.names.contents →
+      (call_within all.methods d p k values).wants script s ≡ false
+  pub methods :
+      (all : Judging) (known : ℕ → Option Accepted) (spare : ℕ → Bool) →
+      AreSparing all known spare →
+      (d k : ℕ) (m : Callee) (values : List Value) → all.methods.callee k ≡ Some m →
+      spare k ≡ true → AreIntegers values →
+      (script : List Event) → LeavesIntegers all.kinds script →
+      (s : State) → HoldIntegers all.kinds s.names.contents →
+      (framed m.table values (mean_method (setting_within all d m) m.body)).wants script s ≡ false

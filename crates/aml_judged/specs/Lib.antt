@@ -11,6 +11,7 @@ pub mod Safe
 pub mod Small
 pub mod Laws
 pub mod Sums
+pub mod Mutexless
 pub mod Events
 pub mod Fine
 pub mod Keeps

@@ -1,4 +1,5 @@
 pub mod Bytes
+pub mod Plain
 pub mod Tables
 pub mod Counted
 pub mod Words

@@ -8,7 +8,7 @@ ghost use Rattle.aml_values.specs.Views.{view};
 ghost use Rattle.aml_contents.specs.Contents.{content_at, with_content};
 ghost use Rattle.aml_contents.specs.Held.{contents, content_kinds};
 ghost use Rattle.aml_regions.specs.BufferFields.{stored};
-ghost use Rattle.aml_regions.specs.Events.{Event};
+ghost use Rattle.aml_regions.specs.Events.{Log};
 ghost use Rattle.aml_meaning.specs.BufferFields.{IsLaidOut, first_bit};
 ghost use Rattle.aml_meaning.specs.Changes.{held_by};
 ghost use Rattle.aml_machine.specs.Views.{buffer_of, now};
@@ -23,7 +23,7 @@ use aml_values::Value;
 
 /// What the source of a field holds.
 pub fn held_by(machine: &Machine, source: Link) -> Option<&Value>
-    ensures { (log : List Event) → option_map (λ v. view v.now) result
+    ensures { (log : Log) → option_map (λ v. view v.now) result
         ≡ held_by source (now machine.now log) }
 {
     match source {

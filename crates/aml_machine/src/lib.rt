@@ -8,6 +8,7 @@
 #![tactic(auto)]
 
 mod arguments;
+mod copies;
 mod elements;
 mod frame;
 mod growth;
@@ -17,6 +18,7 @@ mod mutexes;
 mod slots;
 
 pub use arguments::Arguments;
+pub use copies::copied;
 pub use elements::{element_in, inner};
 pub use frame::Frame;
 pub use growth::grow_slot;

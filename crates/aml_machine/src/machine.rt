@@ -3,7 +3,7 @@
 ghost use Rattle.std.specs.Prelude.{◌≡◌, List, None, Option, Some};
 ghost use Rattle.aml_values.specs.Values as values;
 ghost use Rattle.aml_values.specs.Views.{view};
-ghost use Rattle.aml_regions.specs.Events.{Event};
+ghost use Rattle.aml_regions.specs.Events.{Log};
 ghost use Rattle.aml_objects.specs.Widths.{bits_of};
 ghost use Rattle.aml_meaning.specs.Calls.{inside};
 ghost use Rattle.aml_meaning.specs.Owns.{define_field, define_own, field_at, make_own};
@@ -38,7 +38,7 @@ impl Machine {
     /// frame lies on the stack of the call twice.
     #[inline(never)]
     pub fn enter(&mut self, alloc: Global, arguments: Arguments) -> Machine
-        ensures enters { (log : List Event) (given : List values.Value) →
+        ensures enters { (log : Log) (given : List values.Value) →
             AreSlotsOf arguments given →
             now result log ≡ inside given (now self.old log) }
         ensures frame { self.new.frame ≡ self.old.frame }
@@ -54,7 +54,7 @@ impl Machine {
     /// Goes on in this frame where a method that it called has ended, with the names and the steps
     /// that this one left.
     pub fn take_back(&mut self, alloc: Global, ended: &mut Machine)
-        ensures back { (log : List Event) →
+        ensures back { (log : Log) →
             now self.new log ≡ with_frame (now ended.old log) (frame_of self.old.frame) }
         ensures steps { self.new.steps ≡ ended.old.steps }
     {
@@ -64,7 +64,7 @@ impl Machine {
 
     /// Puts a value into a local.
     pub fn set_local(&mut self, k: u8, value: Value)
-        ensures holds { (log : List Event) →
+        ensures holds { (log : Log) →
             now self.new log ≡ with_local (now self.old log) k (view value) }
         ensures steps { self.new.steps ≡ self.old.steps }
     {
@@ -73,7 +73,7 @@ impl Machine {
 
     /// Puts an integer into a local: over the integer there, if one is.
     pub fn set_local_integer(&mut self, k: u8, number: u64)
-        ensures holds { (log : List Event) →
+        ensures holds { (log : Log) →
             now self.new log ≡ with_local (now self.old log) k (values.Int number) }
         ensures steps { self.new.steps ≡ self.old.steps }
     {
@@ -82,7 +82,7 @@ impl Machine {
 
     /// Puts a value into an argument.
     pub fn set_argument(&mut self, k: u8, value: Value)
-        ensures holds { (log : List Event) →
+        ensures holds { (log : Log) →
             now self.new log ≡ with_arg (now self.old log) k (view value) }
         ensures steps { self.new.steps ≡ self.old.steps }
     {
@@ -91,7 +91,7 @@ impl Machine {
 
     /// The field of a buffer that an own name is.
     pub fn own_field(&self, number: usize) -> Option<BufferField>
-        ensures { (log : List Event) →
+        ensures { (log : Log) →
             result ≡ field_at (now self.now log).frame.fields number }
     {
         *self.frame.fields.get(number)?
@@ -105,7 +105,7 @@ impl Machine {
         held: Option<Value>,
         field: Option<BufferField>,
     ) -> Result<(), NoMemory>
-        ensures means { (log : List Event) → Runs (made result)
+        ensures means { (log : Log) → Runs (made result)
             (make_own (bits_of width) (value_of held) field)
             (now self.old log) (now self.new log) }
         ensures steps { self.new.steps ≡ self.old.steps }
@@ -119,7 +119,7 @@ impl Machine {
 
     /// Makes an own name more, which holds this value first.
     pub fn define_own(&mut self, alloc: Global, width: Width, value: Value) -> Result<(), NoMemory>
-        ensures means { (log : List Event) → Runs (made result)
+        ensures means { (log : Log) → Runs (made result)
             (define_own (bits_of width) (view value))
             (now self.old log) (now self.new log) }
         ensures steps { self.new.steps ≡ self.old.steps }
@@ -134,7 +134,7 @@ impl Machine {
         width: Width,
         field: BufferField,
     ) -> Result<(), NoMemory>
-        ensures means { (log : List Event) → Runs (made result)
+        ensures means { (log : Log) → Runs (made result)
             (define_field (bits_of width) field)
             (now self.old log) (now self.new log) }
         ensures steps { self.new.steps ≡ self.old.steps }

@@ -8,7 +8,7 @@ use Rattle.aml_values.specs.Values.{Buf, Int}
 use Rattle.aml_namespace.specs.declared.link.Link.TheVariants.{Data, Missing, Own}
 use Rattle.aml_meaning.specs.declared.error.AmlCause.TheVariants as cause
 use Rattle.aml_meaning.specs.State.{State, Goes, Halts, NoAnswer, Spent, error}
-use Rattle.aml_regions.specs.Events.{Slept}
+use Rattle.aml_regions.specs.Events.{Event, Log, Slept}
 use Rattle.aml_meaning.specs.Parts.{◌>>=◌, give, stop_with, tick, paid, get_local, get_arg, set_local, set_arg, sleep}
 use Rattle.aml_meaning.specs.Mutexes.{none_held}
 use Rattle.aml_meaning.specs.Owns.{get_own, make_own, own_field}
@@ -21,9 +21,13 @@ use Rattle.aml_meaning.specs.Whole.{before, evaluated}
 abbrev of_width : ℕ → Setting
 of_width bits = record { table = 0; opcode = 0; width = bits; link = λ at. Missing; lone = λ at. true; field = λ k. None; buffer_field = λ k. None; object = λ id. None; literal = λ op parts. Int 0; call = λ p k values. stop_with (error cause.Outside p.table p.at); is_interface = λ text. false }
 
+-- a world that kept these events, and refused no call
+abbrev heard : List Event → Log
+heard events = record { events = events; refusals = 0 }
+
 -- so many steps, and nothing else
 abbrev steps : ℕ → State
-steps n = before (record { contents = []; kinds = [] }) n []
+steps n = before (record { contents = []; kinds = [] }) n (heard [])
 
 -- Return (Add (Arg0, One))
 abbrev sum_of_two : Trees
@@ -153,12 +157,12 @@ its_else = refl
 abbrev asleep : Trees
 asleep = more (Node Sleep 0 3 (more (Node One 2 3 none) none)) none
 
-a_sleep : evaluated (of_width 64) asleep [] (Slept 1 None ∷ []) (steps 3) ≡ Goes None (before (record { contents = []; kinds = [] }) 0 (Slept 1 None ∷ []))
+a_sleep : evaluated (of_width 64) asleep [] (Slept 1 None ∷ []) (steps 3) ≡ Goes None (before (record { contents = []; kinds = [] }) 0 (heard (Slept 1 None ∷ [])))
 unfolding framed none_held ◌>>=◌ give stop_with tick paid sleep
 a_sleep = refl
 
 -- others left other contents
-a_sleep_with_others : evaluated (of_width 64) asleep [] (Slept 1 (Some (Some (Int 6) ∷ [])) ∷ []) (before (record { contents = Some (Int 5) ∷ []; kinds = [] }) 3 []) ≡ Goes None (before (record { contents = Some (Int 6) ∷ []; kinds = [] }) 0 (Slept 1 (Some (Some (Int 6) ∷ [])) ∷ []))
+a_sleep_with_others : evaluated (of_width 64) asleep [] (Slept 1 (Some (Some (Int 6) ∷ [])) ∷ []) (before (record { contents = Some (Int 5) ∷ []; kinds = [] }) 3 (heard [])) ≡ Goes None (before (record { contents = Some (Int 6) ∷ []; kinds = [] }) 0 (heard (Slept 1 (Some (Some (Int 6) ∷ [])) ∷ [])))
 unfolding framed none_held ◌>>=◌ give stop_with tick paid sleep
 a_sleep_with_others = refl
 
@@ -216,7 +220,7 @@ over_data = record (of_width 64) { link = λ at. Data (record { 0 = 0 }) }
 
 -- so many steps, and a buffer that this name holds
 abbrev over_buffer : List ℕ → ℕ → State
-over_buffer bytes n = before (record { contents = Some (Buf bytes) ∷ []; kinds = [] }) n []
+over_buffer bytes n = before (record { contents = Some (Buf bytes) ∷ []; kinds = [] }) n (heard [])
 
 -- Store (One, Index (BUF0, at)), by the opcode of the index
 abbrev byte_stored_at : Op → Trees

@@ -5,7 +5,7 @@ use Rattle.aml_operators.specs.Tree.{Trees}
 use Rattle.aml_values.specs.Values.{Value}
 use Rattle.aml_contents.specs.Contents.{Contents}
 use Rattle.aml_regions.specs.declared.access.Access.{Access}
-use Rattle.aml_regions.specs.Events.{Event, Read, Slept}
+use Rattle.aml_regions.specs.Events.{Event, Log, Read, Slept}
 use Rattle.aml_meaning.specs.declared.error.AmlError.{AmlError}
 use Rattle.aml_meaning.specs.declared.action.Bitwise.TheVariants as bitwise
 use Rattle.aml_meaning.specs.Rules.{transform}
@@ -15,9 +15,15 @@ use Rattle.aml_meaning.specs.Calls.{framed}
 use Rattle.aml_meaning.specs.Meaning.{Setting}
 use Rattle.aml_meaning.specs.Definitions.{mean_method}
 
--- before a method begins: what names hold, so many steps, and the events so far
-abbrev pub before : Names → ℕ → List Event → State
-before names n log = record { frame = entered 0 []; names = names; steps = n; log = log }
+-- before a method begins: what names hold, so many steps, and what the world keeps
+abbrev pub before : Names → ℕ → Log → State
+before names n log = record {
+  frame = entered 0 [];
+  names = names;
+  steps = n;
+  log = log.events;
+  refusals = log.refusals;
+}
 
 -- a method's evaluation where its body stands, with its arguments, fed with a script of answers,
 -- from a state

@@ -1,3 +1,6 @@
+pub mod Roughly
+pub mod Loops
+pub mod Outcomes
 pub mod Forms
 pub mod Statements
 pub mod Methods

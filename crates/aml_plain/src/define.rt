@@ -1,8 +1,8 @@
 // Fields of buffers that a body makes itself (ACPI 6.5, 19.6, CreateField and its kin).
 
-ghost use Rattle.std.specs.Prelude.{◌≡◌, ◌≤◌, List};
+ghost use Rattle.std.specs.Prelude.{◌≡◌, ◌≤◌};
 ghost use Rattle.aml_operators.specs.Tree.{view, views};
-ghost use Rattle.aml_regions.specs.Events.{Event};
+ghost use Rattle.aml_regions.specs.Events.{Log};
 ghost use Rattle.aml_meaning.specs.declared.definition.Definition.TheVariants as makes;
 ghost use Rattle.aml_meaning.specs.Definitions.{defined, source_of};
 ghost use Rattle.aml_meaning.specs.Runs.{Runs};
@@ -46,7 +46,7 @@ pub fn sized_field(
     machine: &mut Machine,
 ) -> Result<(), Halt>
     requires { HasParts sized_field (views parts.now) }
-    ensures means { (around : _) (log : List Event) → Runs (went result)
+    ensures means { (around : _) (log : Log) → Runs (went result)
         (defined (setting_of here.entry around) (makes.Field size) at (views parts.now))
         (now machine.old log) (now machine.new log) }
     ensures falls { machine.new.steps ≤ machine.old.steps }
@@ -79,7 +79,7 @@ pub fn counted_field(
     machine: &mut Machine,
 ) -> Result<(), Halt>
     requires { HasParts counted_field (views parts.now) }
-    ensures means { (around : _) (log : List Event) → Runs (went result)
+    ensures means { (around : _) (log : Log) → Runs (went result)
         (defined (setting_of here.entry around) makes.CountedField at (views parts.now))
         (now machine.old log) (now machine.new log) }
     ensures falls { machine.new.steps ≤ machine.old.steps }

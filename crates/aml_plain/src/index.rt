@@ -1,11 +1,11 @@
 // A store into an Index: the name that it is of.
 
-ghost use Rattle.std.specs.Prelude.{◌≤◌, List};
+ghost use Rattle.std.specs.Prelude.{◌≤◌};
 ghost use Rattle.aml_operators.specs.declared.row.Code.TheVariants as code;
 ghost use Rattle.aml_operators.specs.Shape.{IsShaped};
 ghost use Rattle.aml_operators.specs.Tree.{view, views};
 ghost use Rattle.aml_operators.specs.declared.term.Term.TheViews.{out-Term};
-ghost use Rattle.aml_regions.specs.Events.{Event};
+ghost use Rattle.aml_regions.specs.Events.{Log};
 ghost use Rattle.aml_meaning.specs.Meaning.{indexed, name_indexed};
 ghost use Rattle.aml_meaning.specs.Actions.{action};
 ghost use Rattle.aml_meaning.specs.Runs.{Runs};
@@ -29,7 +29,7 @@ fn name_indexed(
     machine: &mut Machine,
 ) -> Result<usize, Halt>
     requires { IsShaped code.Body (view source.now) }
-    ensures means { (around : _) (log : List Event) → let t = out-Term source.now in
+    ensures means { (around : _) (log : Log) → let t = out-Term source.now in
         Runs (told itself result)
         (name_indexed (setting_of here.entry around) at (action t.op) t.at (views t.parts.items))
         (now machine.old log) (now machine.new log) }
@@ -55,7 +55,7 @@ pub fn indexed(
     machine: &mut Machine,
 ) -> Result<usize, Halt>
     requires { IsShaped code.Body (view source.now) }
-    ensures means { (around : _) (log : List Event) → Runs (told itself result)
+    ensures means { (around : _) (log : Log) → Runs (told itself result)
         (indexed (setting_of here.entry around) at target (view source.now))
         (now machine.old log) (now machine.new log) }
     ensures falls { machine.new.steps ≤ machine.old.steps }

@@ -1,8 +1,8 @@
 // Acquire and Release (ACPI 6.5, 19.6).
 
-ghost use Rattle.std.specs.Prelude.{◌≤◌, List};
+ghost use Rattle.std.specs.Prelude.{◌≤◌};
 ghost use Rattle.aml_operators.specs.Tree.{views};
-ghost use Rattle.aml_regions.specs.Events.{Event};
+ghost use Rattle.aml_regions.specs.Events.{Log};
 ghost use Rattle.aml_meaning.specs.declared.action.Action.TheVariants as does;
 ghost use Rattle.aml_meaning.specs.Meaning.{act};
 ghost use Rattle.aml_meaning.specs.Runs.{Runs};
@@ -27,7 +27,7 @@ pub fn eval_acquire(
     machine: &mut Machine,
 ) -> Result<Option<Value>, Halt>
     requires { HasParts name_and_word (views parts.now) }
-    ensures means { (around : _) (log : List Event) → Runs (told value_of result)
+    ensures means { (around : _) (log : Log) → Runs (told value_of result)
         (act (setting_of here.entry around) does.Acquire at (views parts.now))
         (now machine.old log) (now machine.new log) }
     ensures falls { machine.new.steps ≤ machine.old.steps }
@@ -44,7 +44,7 @@ pub fn eval_release(
     machine: &mut Machine,
 ) -> Result<Option<Value>, Halt>
     requires { HasParts one_name (views parts.now) }
-    ensures means { (around : _) (log : List Event) → Runs (told value_of result)
+    ensures means { (around : _) (log : Log) → Runs (told value_of result)
         (act (setting_of here.entry around) does.Release at (views parts.now))
         (now machine.old log) (now machine.new log) }
     ensures falls { machine.new.steps ≤ machine.old.steps }

@@ -1,9 +1,9 @@
 // Terms whose value asks for no other term's.
 
-ghost use Rattle.std.specs.Prelude.{◌≤◌, IsSome, List};
+ghost use Rattle.std.specs.Prelude.{◌≤◌, IsSome};
 ghost use Rattle.aml_operators.specs.Literal.{literal_in};
 ghost use Rattle.aml_operators.specs.Tree.{views};
-ghost use Rattle.aml_regions.specs.Events.{Event};
+ghost use Rattle.aml_regions.specs.Events.{Log};
 ghost use Rattle.aml_meaning.specs.declared.action.Action.TheVariants as does;
 ghost use Rattle.aml_meaning.specs.Meaning.{act};
 ghost use Rattle.aml_meaning.specs.Runs.{Runs};
@@ -39,7 +39,7 @@ pub fn size(
     machine: &mut Machine,
 ) -> Result<Option<Value>, Halt>
     requires { HasParts one_name (views parts.now) }
-    ensures means { (around : _) (log : List Event) → Runs (told value_of result)
+    ensures means { (around : _) (log : Log) → Runs (told value_of result)
         (act (setting_of here.entry around) does.SizeOf at (views parts.now))
         (now machine.old log) (now machine.new log) }
     ensures falls { machine.new.steps ≤ machine.old.steps }

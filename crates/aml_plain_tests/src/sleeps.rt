@@ -83,9 +83,10 @@ impl Others {
 }
 
 impl World for Others {
-    ghost log = { λ it. events_of it.file.events.items };
-
-    ghost refusals = { λ it. it.refused };
+    ghost log = { λ it. record {
+      events = events_of it.file.events.items;
+      refusals = it.refused;
+    } };
 
     fn read(&mut self, access: Access) -> Result<u64, NoMemory> {
         match self.file.read(access) {

@@ -28,3 +28,8 @@ pub record AreWords (kinds : ContentKinds) (log : List Event) : Type 0 where
 -- whether two accesses are of the same unit
 abbrev pub same_access : Access → Access → Bool
 same_access a b = (a.space == b.space) && ((a.address == b.address) && (a.width == b.width))
+
+-- what a world keeps: the events so far, and how many calls it refused
+pub record Log : Type 0 where
+  pub events : List Event
+  pub refusals : ℕ

@@ -71,9 +71,10 @@ fn ones(access: Access) -> u64
 }
 
 impl World for AllOnes {
-    ghost log = { λ world. events_of world.events.items };
-
-    ghost refusals = { λ world. world.refusals };
+    ghost log = { λ world. record {
+      events = events_of world.events.items;
+      refusals = world.refusals;
+    } };
 
     fn read(&mut self, access: Access) -> Result<u64, NoMemory>
         requires { IsUnit access }

@@ -76,18 +76,19 @@ impl<W: World> Refusing<W> {
 }
 
 impl<W: World> World for Refusing<W> {
-    ghost log = { λ world. W.log world.inner };
-
-    ghost refusals = { λ world. world.refusals };
+    ghost log = { λ world. record {
+      events = (W.log world.inner).events;
+      refusals = world.refusals;
+    } };
 
     fn read(&mut self, access: Access) -> Result<u64, NoMemory>
         requires { IsUnit access }
         ensures fits { IfOk result (λ value. value < 2 ^ access.width) }
         ensures event { MakesEvent result (Read access)
-            (W.log self.old.inner) (W.log self.new.inner) }
+            (W.log self.old.inner).events (W.log self.new.inner).events }
         ensures refusal { CountsRefusal result self.old.refusals self.new.refusals }
         ensures passes { PassesOn result self.old.passes self.new.passes
-            (W.refusals self.old.inner) (W.refusals self.new.inner) }
+            (W.log self.old.inner).refusals (W.log self.new.inner).refusals }
     {
         self.pass()?;
         let answer = self.inner.read(access);
@@ -98,10 +99,10 @@ impl<W: World> World for Refusing<W> {
         requires unit { IsUnit access }
         requires fits { value < 2 ^ access.width }
         ensures event { MakesEvent result (λ _. Written access value)
-            (W.log self.old.inner) (W.log self.new.inner) }
+            (W.log self.old.inner).events (W.log self.new.inner).events }
         ensures refusal { CountsRefusal result self.old.refusals self.new.refusals }
         ensures passes { PassesOn result self.old.passes self.new.passes
-            (W.refusals self.old.inner) (W.refusals self.new.inner) }
+            (W.log self.old.inner).refusals (W.log self.new.inner).refusals }
     {
         self.pass()?;
         let answer = self.inner.write(access, value);
@@ -110,10 +111,10 @@ impl<W: World> World for Refusing<W> {
 
     fn notify(&mut self, object: ObjectId, value: u64) -> Result<(), NoMemory>
         ensures event { MakesEvent result (λ _. Notified object value)
-            (W.log self.old.inner) (W.log self.new.inner) }
+            (W.log self.old.inner).events (W.log self.new.inner).events }
         ensures refusal { CountsRefusal result self.old.refusals self.new.refusals }
         ensures passes { PassesOn result self.old.passes self.new.passes
-            (W.refusals self.old.inner) (W.refusals self.new.inner) }
+            (W.log self.old.inner).refusals (W.log self.new.inner).refusals }
     {
         self.pass()?;
         let answer = self.inner.notify(object, value);
@@ -122,11 +123,11 @@ impl<W: World> World for Refusing<W> {
 
     fn sleep(&mut self, milliseconds: u64, names: &mut Names) -> Result<(), NoMemory>
         ensures event { MakesSleep result milliseconds (contents names.old) (contents names.new)
-            (W.log self.old.inner) (W.log self.new.inner) }
+            (W.log self.old.inner).events (W.log self.new.inner).events }
         ensures kinds { content_kinds names.new ≡ content_kinds names.old }
         ensures refusal { CountsRefusal result self.old.refusals self.new.refusals }
         ensures passes { PassesOn result self.old.passes self.new.passes
-            (W.refusals self.old.inner) (W.refusals self.new.inner) }
+            (W.log self.old.inner).refusals (W.log self.new.inner).refusals }
     {
         self.pass()?;
         let answer = self.inner.sleep(milliseconds, names);
@@ -135,10 +136,10 @@ impl<W: World> World for Refusing<W> {
 
     fn stall(&mut self, microseconds: u64) -> Result<(), NoMemory>
         ensures event { MakesEvent result (λ _. Stalled microseconds)
-            (W.log self.old.inner) (W.log self.new.inner) }
+            (W.log self.old.inner).events (W.log self.new.inner).events }
         ensures refusal { CountsRefusal result self.old.refusals self.new.refusals }
         ensures passes { PassesOn result self.old.passes self.new.passes
-            (W.refusals self.old.inner) (W.refusals self.new.inner) }
+            (W.log self.old.inner).refusals (W.log self.new.inner).refusals }
     {
         self.pass()?;
         let answer = self.inner.stall(microseconds);

@@ -160,9 +160,10 @@ impl RegisterFile {
 }
 
 impl World for RegisterFile {
-    ghost log = { λ file. events_of file.events.items };
-
-    ghost refusals = { λ file. file.refusals };
+    ghost log = { λ file. record {
+      events = events_of file.events.items;
+      refusals = file.refusals;
+    } };
 
     fn read(&mut self, access: Access) -> Result<u64, NoMemory>
         requires { IsUnit access }

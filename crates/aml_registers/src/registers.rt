@@ -61,9 +61,10 @@ impl Registers {
 }
 
 impl World for Registers {
-    ghost log = { λ r. start_of r.text.items ∷ events_of r.file.events.items };
-
-    ghost refusals = { λ r. r.file.refusals };
+    ghost log = { λ r. record {
+      events = start_of r.text.items ∷ events_of r.file.events.items;
+      refusals = r.file.refusals;
+    } };
 
     fn read(&mut self, access: Access) -> Result<u64, NoMemory> {
         self.file.read(access)

@@ -9,3 +9,4 @@ pub mod Known
 pub mod OwnFields
 pub mod Within
 pub mod Written
+pub mod Copied

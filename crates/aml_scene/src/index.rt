@@ -1,10 +1,10 @@
 // A store into an Index: the name that it is of, and the byte that is written.
 
-ghost use Rattle.std.specs.Prelude.{◌≤◌, List};
+ghost use Rattle.std.specs.Prelude.{◌≤◌};
 ghost use Rattle.aml_values.specs.Views as values;
 ghost use Rattle.aml_contents.specs.Contents.{content_at};
 ghost use Rattle.aml_contents.specs.Held.{contents};
-ghost use Rattle.aml_regions.specs.Events.{Event};
+ghost use Rattle.aml_regions.specs.Events.{Log};
 ghost use Rattle.aml_meaning.specs.Changes.{change};
 ghost use Rattle.aml_meaning.specs.Elements.{byte_written};
 ghost use Rattle.aml_meaning.specs.Meaning.{bound, refused};
@@ -30,7 +30,7 @@ pub fn refused(
     at: usize,
     machine: &mut Machine,
 ) -> Result<usize, Halt>
-    ensures means { (call : _) (log : List Event) → Runs (told itself result)
+    ensures means { (call : _) (log : Log) → Runs (told itself result)
         (refused (setting_in scene.now call) cause at)
         (now machine.old log) (now machine.new log) }
     ensures falls { machine.new.steps ≤ machine.old.steps }
@@ -41,7 +41,7 @@ pub fn refused(
 
 /// The place of a name that names something. A5 at the name, with a step, where it names nothing.
 pub fn bound(scene: &Scene<'_>, at: usize, machine: &mut Machine) -> Result<usize, Halt>
-    ensures means { (call : _) (log : List Event) → let s = setting_in scene.now call in
+    ensures means { (call : _) (log : Log) → let s = setting_in scene.now call in
         Runs (told itself result) (bound s (s.link at) at)
         (now machine.old log) (now machine.new log) }
     ensures falls { machine.new.steps ≤ machine.old.steps }
@@ -87,7 +87,7 @@ pub fn write_byte(
     stored: &Value,
     machine: &mut Machine,
 ) -> Result<(), Halt>
-    ensures means { (call : _) (log : List Event) → let s = setting_in scene.now call in
+    ensures means { (call : _) (log : Log) → let s = setting_in scene.now call in
         Runs (went result) (change (s.link name) (byte_written (place_in scene.now at)
         (place_in scene.now name) (place_in scene.now operand)
         (values.view index.now) (values.view stored.now)))

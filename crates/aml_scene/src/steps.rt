@@ -1,7 +1,7 @@
 // The steps that are left.
 
-ghost use Rattle.std.specs.Prelude.{◌≡◌, ◌≤◌, suc, List, OnOk};
-ghost use Rattle.aml_regions.specs.Events.{Event};
+ghost use Rattle.std.specs.Prelude.{◌≡◌, ◌≤◌, suc, OnOk};
+ghost use Rattle.aml_regions.specs.Events.{Log};
 ghost use Rattle.aml_meaning.specs.Parts.{tick};
 ghost use Rattle.aml_meaning.specs.Runs.{Runs};
 ghost use Rattle.aml_machine.specs.Views.{now};
@@ -12,7 +12,7 @@ use aml_machine::Machine;
 
 /// Takes a step, where one is left.
 pub fn take_step(machine: &mut Machine) -> Result<(), Halt>
-    ensures means { (log : List Event) →
+    ensures means { (log : Log) →
         Runs (went result) tick (now machine.old log) (now machine.new log) }
     ensures takes { OnOk result (machine.old.steps ≡ suc machine.new.steps) }
     ensures falls { machine.new.steps ≤ machine.old.steps }

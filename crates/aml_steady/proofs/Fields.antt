@@ -13,7 +13,7 @@ use Rattle.aml_regions.specs.declared.field.IndexedField.{IndexedField}
 use Rattle.aml_regions.specs.declared.field.OtherBits.{OtherBits}
 use Rattle.aml_regions.specs.declared.field.OtherBits.TheVariants.{Preserve, Ones, Zeros}
 use Rattle.aml_regions.specs.declared.field.RegionField.{RegionField}
-use Rattle.aml_meaning.specs.Parts.{M}
+use Rattle.aml_meaning.specs.Parts.{M, with_memory}
 use Rattle.aml_meaning.specs.Fields.{UnitPlan, banked_plan, banked_read, banked_write, bank_chosen, bits_written, bytes_in, bytes_read, index_chosen, indexed_plan, indexed_read, indexed_write, integer_read, other_bits, others_of, plan_of, read_all_units, read_bytes, read_from, read_integer, read_value, region_plan, unit_read, unit_write, value_read, write_bits, write_from}
 use Rattle.aml_steady.specs.Steady.{KeepsKinds}
 use Rattle.aml_steady.proofs.Parts.{keeps_then, keeps_give, keeps_read_unit, keeps_make_event}
@@ -121,7 +121,7 @@ keeps_write_bits f bit = keeps_bits_written (plan_of f) bit (keeps_plan_of f)
 
 pub keeps_value_read : (narrow : Bool) (f : AnyField) → KeepsKinds (value_read narrow f)
 keeps_value_read true f = keeps_then (read_integer f) _ (keeps_read_integer f) (λ number. keeps_give (Int number))
-keeps_value_read false f = keeps_then (read_bytes f) _ (keeps_read_bytes f) (λ bytes. keeps_give (Buf bytes))
+keeps_value_read false f = keeps_then (with_memory (read_bytes f)) _ (keeps_read_bytes f) (λ bytes. keeps_give (Buf bytes))
 
 pub keeps_read_value : (width : ℕ) (f : AnyField) → KeepsKinds (read_value width f)
 unfolding read_value

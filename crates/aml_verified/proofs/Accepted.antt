@@ -1,9 +1,8 @@
 -- What the verifier accepts is accepted, and the law of verdicts speaks of it.
-use Rattle.std.proofs.Common.{◌≡◌, ◌≤◌, ℕ, List, Option, Some, ap}
+use Rattle.std.proofs.Common.{◌≡◌, ◌≤◌, ℕ, List, Some, ap}
 use Rattle.aml_judged.proofs.Called.{verdicts_mean}
-use Rattle.aml_judged.specs.Judged as judged
 use Rattle.aml_judged.specs.Laws.{AreVerdicts, evaluation, HasNoError, IsCallable, IsDone}
-use Rattle.aml_judged.specs.Verdicts.{AreAccepted, Judging}
+use Rattle.aml_judged.specs.Verdicts.{Judging}
 use Rattle.aml_known.specs.declared.accepted.Accepted.{Accepted}
 use Rattle.aml_known.specs.Views.{accepted_of}
 use Rattle.aml_literal_laws.proofs.Literals.{literals_are_small}

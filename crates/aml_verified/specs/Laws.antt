@@ -1,17 +1,19 @@
 -- What it means that the verifier accepted a method: the law.
-use Rattle.std.specs.Prelude.{◌≡◌, ◌≤◌, ℕ, List, Some}
+use Rattle.std.specs.Prelude.{◌≡◌, ◌≤◌, ℕ, List, None, Option, Some, false, true}
+use Rattle.aml_integers.specs.Known.{marked}
 use Rattle.aml_judged.specs.Laws.{evaluation, HasNoError, IsDone}
 use Rattle.aml_judged.specs.Safe.{Allows, FitAll, FitNames, FitScript}
 use Rattle.aml_judged.specs.Verdicts.{Judging}
-use Rattle.aml_kinds.specs.Kinds.{Kind}
 use Rattle.aml_known.specs.declared.accepted.Accepted.{Accepted}
 use Rattle.aml_known.specs.Views.{accepted_of}
 use Rattle.aml_literal_laws.specs.Laws.{TablesAreBytes}
+use Rattle.aml_meaning.specs.Calls.{framed}
+use Rattle.aml_meaning.specs.Definitions.{mean_method}
+use Rattle.aml_meaning.specs.Parts.{M}
 use Rattle.aml_meaning.specs.State.{held_level, State}
-use Rattle.aml_meaning.specs.Within.{Callee}
+use Rattle.aml_meaning.specs.Within.{Callee, Methods, call_within, most_within, setting_for}
 use Rattle.aml_methods.specs.Judgings.{IsJudging, Told}
 use Rattle.aml_objects.specs.declared.object.Method.{Method}
-use Rattle.aml_namespace.specs.Load.{Shown}
 use Rattle.aml_namespace.specs.Names.{method_at}
 use Rattle.aml_namespace.specs.Shows.{shown}
 use Rattle.aml_regions.specs.Events.{Event}
@@ -58,3 +60,17 @@ pub record AcceptedMethodsRun : Type 0 where
       (values : List Value) (script : List Event) (s : State) → MayRun c all a values script s →
       a.bound ≤ s.steps →
       IsDone all (accepted_of (numbered c.shapes) a) (evaluation all callee values script s)
+
+-- what a method means as the first that is active, among others
+abbrev pub meant : Methods → Callee → List Value → M (Option Value)
+meant methods m values =
+    let here = setting_for methods (call_within methods most_within) m in
+    framed here.table values (mean_method here m.body)
+
+-- and where it evaluates integers alone and takes no mutex, memory is wanted nowhere
+pub record AcceptedIntegersSpare : Type 0 where
+  pub wants :
+      (told : Told) (c : Checked) (all : Judging) (k : ℕ) (callee : Callee) (a : Accepted) →
+      WasAccepted told c all k callee a → marked c.integers.items k ≡ true → a.least ≡ None →
+      (values : List Value) (script : List Event) (s : State) → MayRun c all a values script s →
+      (meant all.methods callee values).wants script s ≡ false

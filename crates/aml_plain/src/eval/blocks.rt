@@ -9,9 +9,9 @@ ghost use Rattle.aml_meaning.specs.declared.action.Action.TheVariants as does;
 ghost use Rattle.aml_meaning.specs.Meaning.{mean_all, tested, value};
 ghost use Rattle.aml_meaning.specs.Definitions.{statement};
 ghost use Rattle.aml_meaning.specs.Loops.{loop};
-ghost use Rattle.aml_meaning.specs.Runs.{Runs};
 ghost use Rattle.aml_scene.specs.Letters.{HasParts, branch, test_and_statements};
 ghost use Rattle.aml_machine.specs.Views.{now};
+ghost use Rattle.aml_plain.specs.Roughly.{Runs};
 ghost use Rattle.aml_plain.specs.Tells.{Acts, setting_of};
 ghost use Rattle.aml_scene.specs.Tells.{place_in, went};
 

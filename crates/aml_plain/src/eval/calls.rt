@@ -11,9 +11,9 @@ ghost use Rattle.aml_meaning.specs.declared.action.Action.TheVariants as does;
 ghost use Rattle.aml_meaning.specs.Meaning.{value, values};
 ghost use Rattle.aml_meaning.specs.declared.definition.Definition.TheVariants as makes;
 ghost use Rattle.aml_meaning.specs.Definitions.{made, mean_method, statement};
-ghost use Rattle.aml_meaning.specs.Runs.{Runs};
 ghost use Rattle.aml_scene.specs.Letters.{HasParts, invoked_name, name_and_data};
 ghost use Rattle.aml_machine.specs.Views.{now, value_of};
+ghost use Rattle.aml_plain.specs.Roughly.{Runs};
 ghost use Rattle.aml_plain.specs.Tells.{Acts, setting_of};
 ghost use Rattle.aml_scene.specs.Tells.{place_in, told, values_of, went};
 

@@ -5,10 +5,10 @@ ghost use Rattle.aml_values.specs.Values.{Int};
 ghost use Rattle.aml_operators.specs.Tree.{views};
 ghost use Rattle.aml_meaning.specs.declared.action.Action.TheVariants as does;
 ghost use Rattle.aml_meaning.specs.Meaning.{act, store, value};
-ghost use Rattle.aml_meaning.specs.Runs.{Runs};
 ghost use Rattle.aml_scene.specs.Letters.{HasParts, name_and_term, one_name, one_term, term_and_target, two_terms, two_terms_and_target, two_terms_and_two_targets};
 ghost use Rattle.aml_scene.specs.Stores.{dropped};
 ghost use Rattle.aml_machine.specs.Views.{now};
+ghost use Rattle.aml_plain.specs.Roughly.{Runs};
 ghost use Rattle.aml_plain.specs.Tells.{Acts, setting_of};
 ghost use Rattle.aml_scene.specs.Tells.{went};
 

@@ -33,7 +33,8 @@ returns c = λ a said m there.
       read = read.1;
       meant = record {
         names = _;
-        before = start_of first.text.items ∷ [];
+        before = record { events = start_of first.text.items ∷ []; refusals = first.file.refusals };
+        refusals = left.file.refusals;
         evaluates = rw same at held;
         answered = left.answers (contents first.file) (subst (λ text. TextSets text (contents first.file)) (sym same) c.requires.set);
       };

@@ -18,7 +18,8 @@ returns c = λ m is.
     let same : left.text.items ≡ first.text.items = same_text first.text.items left.text.items (events_of left.file.events.items) grown.growth grown.is in
     record {
       names = _;
-      before = start_of first.text.items ∷ [];
+      before = record { events = start_of first.text.items ∷ []; refusals = first.file.refusals };
+      refusals = left.file.refusals;
       evaluates = rw same at held;
       answered = left.answers (contents first.file) (subst (λ text. TextSets text (contents first.file)) (sym same) c.requires.set);
     }

@@ -18,7 +18,7 @@ returns c =
     let left = c.value_of.new.world in
     record {
       names = _;
-      before = start_of first.text.items ∷ [];
+      before = record { events = start_of first.text.items ∷ []; refusals = first.file.refusals };
       log = _;
       gives = gave;
       answered = λ events is.

@@ -6,7 +6,7 @@ use Rattle.aml_regions.specs.Registers.{contents}
 use Rattle.aml_registers.specs.Answers.{start_of}
 use Rattle.acpi_listing.specs.Commands.{names_first}
 use Rattle.acpi_listing.proofs.RoutesListed.{link_told}
-use Rattle.acpi_listing.proofs.Started.{answered}
+use Rattle.acpi_listing.proofs.Started.{answered, log_with}
 use Rattle.acpi_listing.proofs.objects.prt_over.Goals as goal
 
 -- the names are the namespace's
@@ -21,7 +21,7 @@ returns-in-Ok g c =
     let left = c.prt_noted.new.world in
     record {
       names = _;
-      before = start_of first.text.items ∷ [];
+      before = record { events = start_of first.text.items ∷ []; refusals = first.file.refusals };
       log = _;
       gives = gave;
       answered = answered first left c.requires.set;
@@ -34,8 +34,8 @@ returns g c =
     let checked = c.args.checked.now in
     let held : names_of c.in_ok-names.names ≡ names_first (shown checked.namespace.now) =
     rw (c.in_ok-names.ensures.contents, c.in_ok-names.ensures.kinds, c.namespace.ensures) in
-    let had : start_of first.text.items ∷ events_of first.file.events.items ≡ start_of first.text.items ∷ [] = rw c.requires.fresh in
+    let had : log_with first.text.items (events_of first.file.events.items) first.file.refusals ≡ log_with first.text.items [] first.file.refusals = rw c.requires.fresh in
     link_told (contents first.file) checked c.args.id.0 (names_of c.in_ok-names.names) (names_of c.prt_noted.new.names)
-    (start_of first.text.items ∷ events_of first.file.events.items) (start_of first.text.items ∷ [])
-    (start_of left.text.items ∷ events_of left.file.events.items) c.in-Err.fault (Err c.fault_of_link.result) c.fault_of_link.ensures
+    (log_with first.text.items (events_of first.file.events.items) first.file.refusals) (log_with first.text.items [] first.file.refusals)
+    (log_with left.text.items (events_of left.file.events.items) left.file.refusals) c.in-Err.fault (Err c.fault_of_link.result) c.fault_of_link.ensures
     c.in-Err.ensures held had (answered first left c.requires.set)

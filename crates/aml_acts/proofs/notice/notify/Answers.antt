@@ -8,4 +8,4 @@ returns-then-machine-eq0-clause-means g c = runs_no_event _ _ (Notified c.args.o
 
 pub returns-clause-means : goal.returns-clause-means
 returns-clause-means g c =
-    runs_event _ _ (Notified c.args.object c.args.value) _ _ _ _ (λ kinds. tt) (omega (arith, c.if-machine-eq0.false)) c.in_ok-notify.ensures.event
+    runs_event _ _ (Notified c.args.object c.args.value) _ _ _ _ (λ kinds. tt) (omega (arith, c.if-machine-eq0.false)) c.in_ok-notify.ensures.refusal c.in_ok-notify.ensures.event

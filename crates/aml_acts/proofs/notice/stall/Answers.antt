@@ -8,4 +8,4 @@ returns-then-machine-eq0-clause-means g c = runs_no_event _ _ _ _ _ _ (omega (ar
 
 pub returns-clause-means : goal.returns-clause-means
 returns-clause-means g c =
-    runs_event _ _ (Stalled c.args.microseconds) _ _ _ _ (λ kinds. tt) (omega (arith, c.if-machine-eq0.false)) c.in_ok-stall.ensures.event
+    runs_event _ _ (Stalled c.args.microseconds) _ _ _ _ (λ kinds. tt) (omega (arith, c.if-machine-eq0.false)) c.in_ok-stall.ensures.refusal c.in_ok-stall.ensures.event

@@ -1,18 +1,19 @@
 use Rattle.std.proofs.lemmas.Result.{err_from_is_err_and}
-use Rattle.aml_meaning.proofs.Runs.{runs_then, runs_stop, runs_give, runs_get_name, runs_stop_with}
+use Rattle.aml_meaning.proofs.Runs.{runs_then, runs_stop, runs_give, runs_stop_with}
 use Rattle.aml_acts.proofs.Elsewhere.{named_elsewhere}
-use Rattle.aml_scene.proofs.Ruled.{runs_or_memory}
+use Rattle.aml_machine.specs.Views.{now}
+use Rattle.aml_scene.proofs.Copied.{copied_name}
 use Rattle.aml_scene.specs.Tells.{setting_in}
 use Rattle.aml_acts.proofs.target.named.Goals as goal
 
 pub returns-in_err-content-in-Data-clause-means : goal.returns-in_err-content-in-Data-clause-means
 returns-in_err-content-in-Data-clause-means g c = λ call.
     let p = err_from_is_err_and c.from_residual.result c.from_residual.ensures.1 in
-    rw (← c.in-Data.ensures, p.1, p.2) (runs_stop _ (runs_or_memory _ _ _ _ (c.in_err-content-in-Data.ensures (g.W.World.log c.args.world.now)) (runs_get_name _ _ _ _)))
+    rw (← c.in-Data.ensures, p.1, p.2) (runs_stop _ (copied_name _ _ _ (now c.args.machine.now (g.W.World.log c.args.world.now)) (c.in_err-content-in-Data.ensures (g.W.World.log c.args.world.now))))
 
 pub returns-in_ok-content-in-Data-clause-means : goal.returns-in_ok-content-in-Data-clause-means
 returns-in_ok-content-in-Data-clause-means g c = λ call.
-    rw (← c.in-Data.ensures) (runs_then _ (runs_or_memory _ _ _ _ (c.in_ok-content-in-Data.ensures (g.W.World.log c.args.world.now)) (runs_get_name _ _ _ _)) (runs_give _ _))
+    rw (← c.in-Data.ensures) (runs_then _ (copied_name _ _ _ (now c.args.machine.now (g.W.World.log c.args.world.now)) (c.in_ok-content-in-Data.ensures (g.W.World.log c.args.world.now))) (runs_give _ _))
 
 pub returns-in-Own-clause-means : goal.returns-in-Own-clause-means
 returns-in-Own-clause-means g c = λ call. rw (← c.in-Own.ensures) (c.own_held.ensures call (g.W.World.log c.args.world.now))

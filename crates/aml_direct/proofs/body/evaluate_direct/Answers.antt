@@ -4,7 +4,7 @@ use Rattle.aml_own_names.specs.OwnNamesSeen.{owns_seen}
 use Rattle.aml_namespace.specs.Shows.{shown}
 use Rattle.aml_bodies.proofs.Around.{around_there}
 use Rattle.aml_bodies.proofs.Methods.{there}
-use Rattle.aml_direct.proofs.Bodies.{evaluates_there}
+use Rattle.aml_direct.proofs.Bodies.{evaluates_there, spares_there}
 use Rattle.aml_quick.proofs.Bodies.{body_lies, body_there}
 use Rattle.aml_direct.proofs.body.evaluate_direct.Goals as goal
 
@@ -33,15 +33,25 @@ eval_body-ended-requires g c =
     let bytes = c.body_bytes-bytes.ensures m.0 m.1 in
     record {
       it = body.0;
-      lies = body_lies ns c.args.method.0 m.0 c.body_bytes-bytes.result.now (owns_seen c.in-Some.body.now.owns) c.in-Some.body.now.start body.0 bytes (rw bytes (kept.owns m.0 m.1 body.0 body.2)) (kept.start m.0 m.1) body.2;
+      lies = body_lies ns c.args.method.0 m.0 c.body_bytes-bytes.result.now (owns_seen c.in-Some.body.now.owns) c.in-Some.body.now.links c.in-Some.body.now.start body.0 bytes (rw bytes (kept.owns m.0 m.1 body.0 body.2)) (kept.start m.0 m.1) body.2 (kept.takes m.0 m.1 body.0 body.2);
     }
 
-pub returns : goal.returns
-returns g c = λ m is ts body around.
+pub returns-clause-means : goal.returns-clause-means
+returns-clause-means g c = λ m is ts body around.
     let ns = shown c.args.namespace.now in
     let kept = c.requires.kept.are c.args.method.0 c.in-Some.body.now (sym c.in-Some.ensures) in
     let bytes = c.body_bytes-bytes.ensures m is in
     let owns : owns_seen c.in-Some.body.now.owns ≡ own_names c.body_bytes-bytes.result.now ts = rw bytes (kept.owns m is ts body) in
-    let lies = body_lies ns c.args.method.0 m c.body_bytes-bytes.result.now (owns_seen c.in-Some.body.now.owns) c.in-Some.body.now.start ts bytes owns (kept.start m is) body in
+    let lies = body_lies ns c.args.method.0 m c.body_bytes-bytes.result.now (owns_seen c.in-Some.body.now.owns) c.in-Some.body.now.links c.in-Some.body.now.start ts bytes owns (kept.start m is) body (kept.takes m is ts body) in
     let ran = rw (c.new.ensures _ c.of.ensures, c.replace.ensures.value) at (c.eval_body-ended.ensures.means around ts lies) in
     rw c.outcome_of.ensures (evaluates_there ns around.bodies c.args.method.0 m c.in-Some.body.now.table c.in-Some.body.now.opcode c.width.result c.body_bytes-bytes.result.now (owns_seen c.in-Some.body.now.owns) ts _ _ _ _ _ _ _ _ _ (kept.table m is) (kept.opcode m is) c.width.ensures bytes owns ran)
+
+pub returns-clause-spares : goal.returns-clause-spares
+returns-clause-spares g c = λ m is ts body around.
+    let ns = shown c.args.namespace.now in
+    let kept = c.requires.kept.are c.args.method.0 c.in-Some.body.now (sym c.in-Some.ensures) in
+    let bytes = c.body_bytes-bytes.ensures m is in
+    let owns : owns_seen c.in-Some.body.now.owns ≡ own_names c.body_bytes-bytes.result.now ts = rw bytes (kept.owns m is ts body) in
+    let lies = body_lies ns c.args.method.0 m c.body_bytes-bytes.result.now (owns_seen c.in-Some.body.now.owns) c.in-Some.body.now.links c.in-Some.body.now.start ts bytes owns (kept.start m is) body (kept.takes m is ts body) in
+    let ran = rw (c.new.ensures _ c.of.ensures, c.replace.ensures.value) at (c.eval_body-ended.ensures.means around ts lies) in
+    rw c.outcome_of.ensures (spares_there ns around.bodies c.args.method.0 m c.in-Some.body.now.table c.in-Some.body.now.opcode c.width.result c.body_bytes-bytes.result.now (owns_seen c.in-Some.body.now.owns) ts _ _ _ _ _ _ _ _ _ (kept.table m is) (kept.opcode m is) c.width.ensures bytes owns ran)

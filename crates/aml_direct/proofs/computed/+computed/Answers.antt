@@ -1,8 +1,7 @@
-use Rattle.std.proofs.Common.{◌≡◌, ◌+◌, ◌∙◌, ℕ, List, Option, Some, None, length, take, ap, sym, subst, refl, arith}
+use Rattle.std.proofs.Common.{◌≡◌, ◌∙◌, ℕ, List, Option, Some, None, length, take, ap, sym, subst, refl, arith}
 use Rattle.std.proofs.lemmas.List.{length-take-le}
 use Rattle.aml_lex.specs.Reading.{name_string_at}
 use Rattle.aml_operators.specs.declared.op.Op.{Op}
-use Rattle.aml_operators.specs.declared.op.Op.TheVariants as op
 use Rattle.aml_operators.specs.Tree.{stop_of, trees}
 use Rattle.aml_contents.specs.BodyData.{computed_size}
 use Rattle.aml_literals.specs.There.{PartsThere, computed_in}

@@ -1,4 +1,4 @@
-use Rattle.std.proofs.Common.{◌≡◌, ◌≤◌, ◌+◌, ◌-◌, ◌*◌, length}
+use Rattle.std.proofs.Common.{◌≤◌, ◌+◌, ◌-◌, ◌*◌, length}
 use Rattle.aml_direct.specs.Data.{ElementsLie}
 use Rattle.aml_direct.proofs.Sizes.{TellsAll}
 use Rattle.aml_direct.proofs.computed.+computed.Given as goal

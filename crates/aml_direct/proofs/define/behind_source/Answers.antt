@@ -23,7 +23,7 @@ returns-in-Data c = λ around t lies.
     let none = sym c.op_at.ensures.is ∙ found_none c.op_at.result (sym c.is_some.ensures ∙ c.if-is_some.false) in
     let is = rw c.link_of.ensures at c.in-Data.is in
     source_named (count_of c.args.here.scene.now) (setting_of c.args.here around) c.args.bytes.now c.args.at t lies c.name_end.result none
-    (λ name. data_takes (shown c.args.here.scene.now.namespace.now) c.args.here.scene.now.method.0 name c.args.at (link_in c.args.here.scene.now c.args.at) is) c.name_end.ensures.is
+    (λ name. data_takes (shown c.args.here.scene.now.namespace.now) c.args.here.scene.now.links.now c.args.at (link_in c.args.here.scene.now c.args.at) is) c.name_end.ensures.is
 
 pub returns-in_default : goal.returns-in_default
 returns-in_default c = λ around t lies.

@@ -1,8 +1,6 @@
 use Rattle.std.proofs.Common.{◌∙◌, refl, sym, ap, arith}
-use Rattle.std.specs.Option.{option_map}
 use Rattle.std.proofs.lemmas.Result.{err_from_is_err_and}
 use Rattle.aml_namespace.specs.Shows.{shown}
-use Rattle.aml_objects.specs.declared.object.CreatedFieldSize.TheVariants as size
 use Rattle.aml_operators.specs.Tree.{stop_of}
 use Rattle.aml_meaning.specs.Definitions.{makes_own}
 use Rattle.aml_meaning.proofs.Runs.{runs_stop, runs_then}

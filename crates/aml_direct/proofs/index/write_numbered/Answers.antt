@@ -1,4 +1,3 @@
-use Rattle.std.proofs.Common.{refl, sym}
 use Rattle.std.proofs.lemmas.Result.{err_from_is_err_and}
 use Rattle.aml_quick.specs.Settings.{calls_of}
 use Rattle.aml_direct.proofs.index.write_numbered.Goals as goal

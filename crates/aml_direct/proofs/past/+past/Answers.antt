@@ -1,36 +1,11 @@
-use Rattle.std.proofs.Common.{◌≡◌, ◌+◌, ◌-◌, ◌≤◌, ◌<◌, ℕ, List, [], ◌∷◌, length, length-take, length-drop, take, drop, Some, None, refl, sym, ap, ◌∙◌, subst, rules, arith}
+use Rattle.std.proofs.Common.{◌≡◌, ◌+◌, ◌-◌, ◌≤◌, ◌<◌, [], ◌∷◌, length, length-take, length-drop, take, drop, sym, ap, ◌∙◌, arith}
 use Rattle.std.proofs.lemmas.Grind.{common_steps}
-use Rattle.std.proofs.lemmas.Result.{err_from_is_err_and}
-use Rattle.std.proofs.Math.ListN.{drop_of_length-le}
-use Rattle.std.specs.Prelude.{IfOk, IsOk}
+use Rattle.std.specs.Prelude.{IsOk}
 use Rattle.aml_lex.specs.Reading.{pkg_length_at, string_data_at}
-use Rattle.aml_lex.specs.NameStrings.{NameString}
-use Rattle.aml_namespace.specs.declared.link.Link.{Link}
-use Rattle.aml_namespace.specs.declared.link.Link.TheVariants as link
-use Rattle.aml_namespace.specs.Load.{Shown}
-use Rattle.aml_namespace.specs.Names.{link_args}
-use Rattle.aml_namespace.specs.Shows.{shown}
-use Rattle.aml_counts.specs.Counts.{args_by}
-use Rattle.aml_scene.specs.Tells.{link_in}
-use Rattle.aml_operators.specs.Tree.{Tree, stop_of}
-use Rattle.aml_operators.specs.declared.row.Letter.{Letter}
 use Rattle.aml_operators.specs.declared.row.Letter.TheVariants.{One, Sized, Package, Branch, Terms, Fields, Bytes}
-use Rattle.aml_operators.specs.declared.row.Naming.TheVariants as named
-use Rattle.aml_operators.specs.declared.row.Piece.TheVariants as piece
-use Rattle.aml_operators.specs.declared.row.Spot.TheVariants as spot
-use Rattle.aml_places.specs.Lies.{Lies, LieArguments, LieParts, StandParts, Stands}
-use Rattle.aml_places.proofs.Inversion.{ends_within}
-use Rattle.aml_places.proofs.Past.{PieceLies, behind_branch, behind_piece, behind_size, bits_piece, bits_piece_ends, bits_there, branch_stands, connection_begins, connection_buffer, connection_name, argued, first_argument, first_piece, first_size, in_branch, in_length, in_package, last_argument, name_alone_ends, name_piece, name_piece_ends, name_stands, next_arguments, not_err, number_piece_ends, ok_as, package_stands, passed, piece_ends, piece_within, size_ends, text_piece, text_piece_ends, text_there}
+use Rattle.aml_places.proofs.Past.{behind_branch, behind_piece, behind_size, bits_piece, bits_piece_ends, bits_there, branch_stands, connection_begins, connection_buffer, connection_name, argued, first_argument, first_piece, first_size, in_branch, in_length, in_package, last_argument, name_alone_ends, name_piece, name_piece_ends, name_stands, next_arguments, not_err, number_piece_ends, package_stands, passed, piece_ends, size_ends, text_piece, text_piece_ends, text_there}
 use Rattle.aml_quick.specs.Settings.{count_of}
 use Rattle.aml_direct.proofs.past.+past.Goals as goal
-
--- a name that means something takes as many terms as that does
-as_many : (ns : Shown) (id : ℕ) (name : NameString) (at : ℕ) (l : Link) → (l ≡ link.Missing → ⊥) → args_by ns id name at l ≡ link_args ns l
-as_many ns id name at link.Missing other = absurd (other refl)
-as_many ns id name at l other = refl
-
-takes_by : (ns : Shown) (id : ℕ) (at : ℕ) (l m : Link) (number : ℕ) → (m ≡ link.Missing → ⊥) → m ≡ l → number ≡ link_args ns m → (name : NameString) → args_by ns id name at l ≡ number
-takes_by ns id at l m number other same is name = as_many ns id name at l (λ e. other (same ∙ e)) ∙ ap (link_args ns) (sym same) ∙ sym is
 
 -- past
 pub past-past_parts-requires : goal.past-past_parts-requires
@@ -47,7 +22,7 @@ past-returns-in-Some-clause-is t c = λ u lies.
 pub past-returns-in-Some-clause-ahead : goal.past-returns-in-Some-clause-ahead
 past-returns-in-Some-clause-ahead t c =
     let w = c.in-Some.ensures.within in
-    ok_as c.past_parts.result (λ n h. omega (arith, w, h)) c.past_parts.ensures.ahead
+    omega (arith, w, c.past_parts.ensures.ahead)
 
 pub past-past_name-requires : goal.past-past_name-requires
 past-past_name-requires t c = (omega arith, (sym c.op_at.ensures.is ∙ c.in-None.is, c.requires))
@@ -58,39 +33,33 @@ past_name-name_end-next-requires t c = name_stands (count_of c.args.scene.now) c
 
 pub past_name-past_arguments-requires : goal.past_name-past_arguments-requires
 past_name-past_arguments-requires t c =
-    let f = argued (count_of c.args.scene.now) c.args.bytes.now c.args.at c.requires.name c.args.spot c.requires.stands.it c.count.result c.name_end-next.result (sym c.naming_of.ensures ∙ c.in-Invoked.is) (takes_by (shown c.args.scene.now.namespace.now) c.args.scene.now.method.0 c.args.at (link_in c.args.scene.now c.args.at) c.link_of.result c.count.result c.in_default-link_of.not-Missing c.link_of.ensures c.count.ensures) c.name_end-next.ensures.is c.requires.stands.lies in
+    let f = argued (count_of c.args.scene.now) c.args.bytes.now c.args.at c.requires.name c.args.spot c.requires.stands.it c.taken.result c.name_end-next.result (sym c.naming_of.ensures ∙ c.in-Invoked.is) (λ name. sym (c.taken.ensures name)) c.name_end-next.ensures.is c.requires.stands.lies in
     (omega (arith, c.name_end-next.ensures), record { stop = f.stop; terms = f.terms; are = f.are; lie = f.lie })
 
-pub past_name-returns-in_default-link_of-clause-is : goal.past_name-returns-in_default-link_of-clause-is
-past_name-returns-in_default-link_of-clause-is t c = λ u lies.
-    let f = argued (count_of c.args.scene.now) c.args.bytes.now c.args.at c.requires.name c.args.spot u c.count.result c.name_end-next.result (sym c.naming_of.ensures ∙ c.in-Invoked.is) (takes_by (shown c.args.scene.now.namespace.now) c.args.scene.now.method.0 c.args.at (link_in c.args.scene.now c.args.at) c.link_of.result c.count.result c.in_default-link_of.not-Missing c.link_of.ensures c.count.ensures) c.name_end-next.ensures.is lies in
+pub past_name-returns-in-Invoked-clause-is : goal.past_name-returns-in-Invoked-clause-is
+past_name-returns-in-Invoked-clause-is t c = λ u lies.
+    let f = argued (count_of c.args.scene.now) c.args.bytes.now c.args.at c.requires.name c.args.spot u c.taken.result c.name_end-next.result (sym c.naming_of.ensures ∙ c.in-Invoked.is) (λ name. sym (c.taken.ensures name)) c.name_end-next.ensures.is lies in
     rw f.is (c.past_arguments.ensures.is f.stop f.terms f.lie f.are)
 
-pub past_name-returns-in_default-link_of-clause-ahead : goal.past_name-returns-in_default-link_of-clause-ahead
-past_name-returns-in_default-link_of-clause-ahead t c = ok_as c.past_arguments.result (λ n h. omega (arith, h, c.name_end-next.ensures)) c.past_arguments.ensures.ahead
+pub past_name-returns-in-Invoked-clause-ahead : goal.past_name-returns-in-Invoked-clause-ahead
+past_name-returns-in-Invoked-clause-ahead t c = omega (arith, c.past_arguments.ensures.ahead, c.name_end-next.ensures)
 
 pub past_name-returns-in_default-clause-is : goal.past_name-returns-in_default-clause-is
 past_name-returns-in_default-clause-is t c = λ u lies.
     name_alone_ends (count_of c.args.scene.now) c.args.bytes.now c.args.at c.requires.name c.args.spot u c.name_end-next.result (λ e. c.in_default.not-Invoked (c.naming_of.ensures ∙ e)) c.name_end-next.ensures.is lies
 
 -- past_arguments
-pub past_arguments-past-requires : goal.past_arguments-past-requires
-past_arguments-past-requires t c =
+pub past_arguments-past-at-requires : goal.past_arguments-past-at-requires
+past_arguments-past-at-requires t c =
     let few : c.arguments.counter < length c.requires.terms = omega (arith, c.arguments-test.true, c.requires.are) in
     (omega (arith, c.arguments.invariant.ahead), first_argument (count_of c.args.scene.now) c.args.bytes.now c.arguments.at c.requires.stop c.arguments.counter c.requires.terms few (c.arguments.invariant.left c.requires.stop c.requires.terms c.requires.lie c.requires.are))
 
-pub past_arguments-returns-in_err-at-clause-is : goal.past_arguments-returns-in_err-at-clause-is
-past_arguments-returns-in_err-at-clause-is t c = λ stop ts lie are. let p = err_from_is_err_and c.from_residual.result c.from_residual.ensures.1 in rw p.1 tt
-
-pub past_arguments-returns-in_err-at-clause-ahead : goal.past_arguments-returns-in_err-at-clause-ahead
-past_arguments-returns-in_err-at-clause-ahead t c = let p = err_from_is_err_and c.from_residual.result c.from_residual.ensures.1 in rw p.1 tt
-
 pub past_arguments-arguments-preserved : goal.past_arguments-arguments-preserved
 past_arguments-arguments-preserved t c = record {
-  ahead = omega (arith, c.arguments.invariant.ahead, c.in_ok-at.ensures.ahead);
+  ahead = omega (arith, c.arguments.invariant.ahead, c.past-at.ensures.ahead);
   left = λ stop ts lie are.
       let few : c.arguments.counter < length ts = omega (arith, c.arguments-test.true, are) in
-      next_arguments (count_of c.args.scene.now) c.args.bytes.now c.arguments.at stop c.arguments.counter c.in_ok-at.at ts few c.in_ok-at.ensures.is (c.arguments.invariant.left stop ts lie are);
+      next_arguments (count_of c.args.scene.now) c.args.bytes.now c.arguments.at stop c.arguments.counter c.past-at.result ts few c.past-at.ensures.is (c.arguments.invariant.left stop ts lie are);
 }
 
 pub past_arguments-returns-clause-is : goal.past_arguments-returns-clause-is
@@ -99,55 +68,43 @@ past_arguments-returns-clause-is t c = λ stop ts lie are.
     last_argument (count_of c.args.scene.now) c.args.bytes.now c.arguments.at stop c.arguments.counter ts all (c.arguments.invariant.left stop ts lie are)
 
 -- past_parts
-pub past_parts-past_piece-requires : goal.past_parts-past_piece-requires
-past_parts-past_piece-requires t c =
+pub past_parts-past_piece-next-requires : goal.past_parts-past_piece-next-requires
+past_parts-past_piece-next-requires t c =
     let e : c.args.letters.now ≡ One c.in-One.piece ∷ take (length c.args.letters.now - 1) (drop 1 c.args.letters.now) = grind (arith, common_steps) in
     let h = rw e at c.requires.stands in
     (omega (arith, c.in-One.len_at_least), first_piece (count_of c.args.scene.now) c.in-One.piece _ c.args.bytes.now c.args.at h)
-
-pub past_parts-returns-in_err-next-in-One-clause-is : goal.past_parts-returns-in_err-next-in-One-clause-is
-past_parts-returns-in_err-next-in-One-clause-is t c = λ own stop parts lie. let p = err_from_is_err_and c.from_residual.result c.from_residual.ensures.1 in rw p.1 tt
-
-pub past_parts-returns-in_err-next-in-One-clause-ahead : goal.past_parts-returns-in_err-next-in-One-clause-ahead
-past_parts-returns-in_err-next-in-One-clause-ahead t c = let p = err_from_is_err_and c.from_residual.result c.from_residual.ensures.1 in rw p.1 tt
 
 pub past_parts-past_parts-requires : goal.past_parts-past_parts-requires
 past_parts-past_parts-requires t c =
     let e : c.args.letters.now ≡ One c.in-One.piece ∷ take (length c.args.letters.now - 1) (drop 1 c.args.letters.now) = grind (arith, common_steps) in
     let h = rw e at c.requires.stands in
-    let ends = piece_ends (count_of c.args.scene.now) c.in-One.piece _ c.args.bytes.now h.own c.args.at h.stop h.parts h.lie c.in_ok-next-in-One.next c.in_ok-next-in-One.ensures.is c.requires.within in
-    (omega (arith, c.in-One.len_at_least, ends, simp (length-take, length-drop) at (ap length e)), (record { own = h.own; stop = h.stop; parts = h.lie.1.1; lie = behind_piece (count_of c.args.scene.now) c.in-One.piece _ c.args.bytes.now h.own c.args.at h.stop h.parts h.lie c.in_ok-next-in-One.next c.in_ok-next-in-One.ensures.is }, ends.1))
+    let ends = piece_ends (count_of c.args.scene.now) c.in-One.piece _ c.args.bytes.now h.own c.args.at h.stop h.parts h.lie c.past_piece-next.result c.past_piece-next.ensures.is c.requires.within in
+    (omega (arith, c.in-One.len_at_least, ends, simp (length-take, length-drop) at (ap length e)), (record { own = h.own; stop = h.stop; parts = h.lie.1.1; lie = behind_piece (count_of c.args.scene.now) c.in-One.piece _ c.args.bytes.now h.own c.args.at h.stop h.parts h.lie c.past_piece-next.result c.past_piece-next.ensures.is }, ends.1))
 
-pub past_parts-returns-in_ok-next-in-One-clause-is : goal.past_parts-returns-in_ok-next-in-One-clause-is
-past_parts-returns-in_ok-next-in-One-clause-is t c = λ own stop parts lie.
+pub past_parts-returns-in-One-clause-is : goal.past_parts-returns-in-One-clause-is
+past_parts-returns-in-One-clause-is t c = λ own stop parts lie.
     let e : c.args.letters.now ≡ One c.in-One.piece ∷ take (length c.args.letters.now - 1) (drop 1 c.args.letters.now) = grind (arith, common_steps) in
     let h = rw e at lie in
-    c.past_parts.ensures.is own stop h.1.1 (behind_piece (count_of c.args.scene.now) c.in-One.piece _ c.args.bytes.now own c.args.at stop parts h c.in_ok-next-in-One.next c.in_ok-next-in-One.ensures.is)
+    c.past_parts.ensures.is own stop h.1.1 (behind_piece (count_of c.args.scene.now) c.in-One.piece _ c.args.bytes.now own c.args.at stop parts h c.past_piece-next.result c.past_piece-next.ensures.is)
 
-pub past_parts-past-requires : goal.past_parts-past-requires
-past_parts-past-requires t c =
+pub past_parts-past-next-requires : goal.past_parts-past-next-requires
+past_parts-past-next-requires t c =
     let e : c.args.letters.now ≡ Sized c.in-Sized._limit ∷ take (length c.args.letters.now - 1) (drop 1 c.args.letters.now) = grind (arith, common_steps) in
     let h = rw e at c.requires.stands in
     (omega (arith, c.in-Sized.len_at_least), first_size (count_of c.args.scene.now) c.in-Sized._limit _ c.args.bytes.now c.args.at h)
-
-pub past_parts-returns-in_err-next-in-Sized-clause-is : goal.past_parts-returns-in_err-next-in-Sized-clause-is
-past_parts-returns-in_err-next-in-Sized-clause-is t c = λ own stop parts lie. let p = err_from_is_err_and c.from_residual-in_err-next-in-Sized.result c.from_residual-in_err-next-in-Sized.ensures.1 in rw p.1 tt
-
-pub past_parts-returns-in_err-next-in-Sized-clause-ahead : goal.past_parts-returns-in_err-next-in-Sized-clause-ahead
-past_parts-returns-in_err-next-in-Sized-clause-ahead t c = let p = err_from_is_err_and c.from_residual-in_err-next-in-Sized.result c.from_residual-in_err-next-in-Sized.ensures.1 in rw p.1 tt
 
 pub past_parts-past_parts-requires-in-Sized : goal.past_parts-past_parts-requires-in-Sized
 past_parts-past_parts-requires-in-Sized t c =
     let e : c.args.letters.now ≡ Sized c.in-Sized._limit ∷ take (length c.args.letters.now - 1) (drop 1 c.args.letters.now) = grind (arith, common_steps) in
     let h = rw e at c.requires.stands in
-    let ends = size_ends (count_of c.args.scene.now) c.in-Sized._limit _ c.args.bytes.now h.own c.args.at h.stop h.parts h.lie c.in_ok-next-in-Sized.next c.in_ok-next-in-Sized.ensures.is in
-    (omega (arith, c.in-Sized.len_at_least, ends, simp (length-take, length-drop) at (ap length e)), (record { own = h.own; stop = h.stop; parts = h.lie.1.1; lie = behind_size (count_of c.args.scene.now) c.in-Sized._limit _ c.args.bytes.now h.own c.args.at h.stop h.parts h.lie c.in_ok-next-in-Sized.next c.in_ok-next-in-Sized.ensures.is }, ends.1))
+    let ends = size_ends (count_of c.args.scene.now) c.in-Sized._limit _ c.args.bytes.now h.own c.args.at h.stop h.parts h.lie c.past-next.result c.past-next.ensures.is in
+    (omega (arith, c.in-Sized.len_at_least, ends, simp (length-take, length-drop) at (ap length e)), (record { own = h.own; stop = h.stop; parts = h.lie.1.1; lie = behind_size (count_of c.args.scene.now) c.in-Sized._limit _ c.args.bytes.now h.own c.args.at h.stop h.parts h.lie c.past-next.result c.past-next.ensures.is }, ends.1))
 
-pub past_parts-returns-in_ok-next-in-Sized-clause-is : goal.past_parts-returns-in_ok-next-in-Sized-clause-is
-past_parts-returns-in_ok-next-in-Sized-clause-is t c = λ own stop parts lie.
+pub past_parts-returns-in-Sized-clause-is : goal.past_parts-returns-in-Sized-clause-is
+past_parts-returns-in-Sized-clause-is t c = λ own stop parts lie.
     let e : c.args.letters.now ≡ Sized c.in-Sized._limit ∷ take (length c.args.letters.now - 1) (drop 1 c.args.letters.now) = grind (arith, common_steps) in
     let h = rw e at lie in
-    c.past_parts-in-Sized.ensures.is own stop h.1.1 (behind_size (count_of c.args.scene.now) c.in-Sized._limit _ c.args.bytes.now own c.args.at stop parts h c.in_ok-next-in-Sized.next c.in_ok-next-in-Sized.ensures.is)
+    c.past_parts-in-Sized.ensures.is own stop h.1.1 (behind_size (count_of c.args.scene.now) c.in-Sized._limit _ c.args.bytes.now own c.args.at stop parts h c.past-next.result c.past-next.ensures.is)
 
 pub past_parts-package-end-requires : goal.past_parts-package-end-requires
 past_parts-package-end-requires t c =
@@ -170,7 +127,7 @@ past_parts-returns-in-Package-clause-is t c = λ own stop parts lie.
     c.past_parts-in-Package.ensures.is own stop parts (in_package (count_of c.args.scene.now) _ c.args.bytes.now own c.args.at stop parts c.package-end.result c.package-end.ensures.is h)
 
 pub past_parts-returns-in-Package-clause-ahead : goal.past_parts-returns-in-Package-clause-ahead
-past_parts-returns-in-Package-clause-ahead t c = ok_as c.past_parts-in-Package.result (λ n h. omega (arith, h, c.package-end.ensures.ahead)) c.past_parts-in-Package.ensures.ahead
+past_parts-returns-in-Package-clause-ahead t c = omega (arith, c.past_parts-in-Package.ensures.ahead, c.package-end.ensures.ahead)
 
 pub past_parts-package-end-requires-in-Branch : goal.past_parts-package-end-requires-in-Branch
 past_parts-package-end-requires-in-Branch t c =
@@ -178,43 +135,37 @@ past_parts-package-end-requires-in-Branch t c =
     let h = rw e at c.requires.stands in
     branch_stands (count_of c.args.scene.now) _ c.args.bytes.now h.own c.args.at h.stop h.parts h.lie
 
-pub past_parts-past_parts-requires-in-Branch : goal.past_parts-past_parts-requires-in-Branch
-past_parts-past_parts-requires-in-Branch t c =
+pub past_parts-past_parts-inside-requires : goal.past_parts-past_parts-inside-requires
+past_parts-past_parts-inside-requires t c =
     let e : c.args.letters.now ≡ Branch ∷ take (length c.args.letters.now - 1) (drop 1 c.args.letters.now) = grind (arith, common_steps) in
     let h = rw e at c.requires.stands in
     let long = in_length (count_of c.args.scene.now) [] c.args.bytes.now 0 c.args.at 0 [] c.package-end-in-Branch.result c.package-end-in-Branch.ensures.is c.package-end-in-Branch.ensures.within in
     let lie = in_branch (count_of c.args.scene.now) _ c.args.bytes.now h.own c.args.at h.stop h.parts c.package-end-in-Branch.result c.package-end-in-Branch.ensures.is h.lie in
     (omega (arith, c.in-Branch.len_at_least, c.package-end-in-Branch.ensures, long, simp (length-take, length-drop) at (ap length e)), (record { own = h.own; stop = h.lie.1.2; parts = h.lie.1.3; lie = lie }, omega (arith, long, c.package-end-in-Branch.ensures.own)))
 
-pub past_parts-returns-in_err-inside-in-Branch-clause-is : goal.past_parts-returns-in_err-inside-in-Branch-clause-is
-past_parts-returns-in_err-inside-in-Branch-clause-is t c = λ own stop parts lie. let p = err_from_is_err_and c.from_residual-in_err-inside-in-Branch.result c.from_residual-in_err-inside-in-Branch.ensures.1 in rw p.1 tt
-
-pub past_parts-returns-in_err-inside-in-Branch-clause-ahead : goal.past_parts-returns-in_err-inside-in-Branch-clause-ahead
-past_parts-returns-in_err-inside-in-Branch-clause-ahead t c = let p = err_from_is_err_and c.from_residual-in_err-inside-in-Branch.result c.from_residual-in_err-inside-in-Branch.ensures.1 in rw p.1 tt
-
 pub past_parts-past_else-requires : goal.past_parts-past_else-requires
 past_parts-past_else-requires t c =
     let e : c.args.letters.now ≡ Branch ∷ take (length c.args.letters.now - 1) (drop 1 c.args.letters.now) = grind (arith, common_steps) in
     let h = rw e at c.requires.stands in
     let lie = in_branch (count_of c.args.scene.now) _ c.args.bytes.now h.own c.args.at h.stop h.parts c.package-end-in-Branch.result c.package-end-in-Branch.ensures.is h.lie in
-    let mid = c.in_ok-inside-in-Branch.ensures.is h.own h.lie.1.2 h.lie.1.3 lie in
-    record { count = count_of c.args.scene.now; stop = h.stop; parts = h.lie.1.4; lie = behind_branch (count_of c.args.scene.now) _ c.args.bytes.now h.own c.args.at h.stop h.parts c.package-end-in-Branch.result c.package-end-in-Branch.ensures.is h.lie c.in_ok-inside-in-Branch.inside mid }
+    let mid = c.past_parts-inside.ensures.is h.own h.lie.1.2 h.lie.1.3 lie in
+    record { count = count_of c.args.scene.now; stop = h.stop; parts = h.lie.1.4; lie = behind_branch (count_of c.args.scene.now) _ c.args.bytes.now h.own c.args.at h.stop h.parts c.package-end-in-Branch.result c.package-end-in-Branch.ensures.is h.lie c.past_parts-inside.result mid }
 
-pub past_parts-returns-in_ok-inside-in-Branch-clause-is : goal.past_parts-returns-in_ok-inside-in-Branch-clause-is
-past_parts-returns-in_ok-inside-in-Branch-clause-is t c = λ own stop parts lie.
+pub past_parts-returns-in-Branch-clause-is : goal.past_parts-returns-in-Branch-clause-is
+past_parts-returns-in-Branch-clause-is t c = λ own stop parts lie.
     let e : c.args.letters.now ≡ Branch ∷ take (length c.args.letters.now - 1) (drop 1 c.args.letters.now) = grind (arith, common_steps) in
     let h = rw e at lie in
     let inside = in_branch (count_of c.args.scene.now) _ c.args.bytes.now own c.args.at stop parts c.package-end-in-Branch.result c.package-end-in-Branch.ensures.is h in
-    let mid = c.in_ok-inside-in-Branch.ensures.is own h.1.2 h.1.3 inside in
-    sym (c.past_else.ensures.is (count_of c.args.scene.now) stop h.1.4 (behind_branch (count_of c.args.scene.now) _ c.args.bytes.now own c.args.at stop parts c.package-end-in-Branch.result c.package-end-in-Branch.ensures.is h c.in_ok-inside-in-Branch.inside mid))
+    let mid = c.past_parts-inside.ensures.is own h.1.2 h.1.3 inside in
+    sym (c.past_else.ensures.is (count_of c.args.scene.now) stop h.1.4 (behind_branch (count_of c.args.scene.now) _ c.args.bytes.now own c.args.at stop parts c.package-end-in-Branch.result c.package-end-in-Branch.ensures.is h c.past_parts-inside.result mid))
 
 pub past_parts-returns-in-empty-clause-is : goal.past_parts-returns-in-empty-clause-is
 past_parts-returns-in-empty-clause-is t c = λ own stop parts lie.
     let e : c.args.letters.now ≡ [] = grind (arith, common_steps) in
     let h = rw e at lie in h.1.1
 
-pub past_parts-returns-in_ok-inside-in-Branch-clause-ahead : goal.past_parts-returns-in_ok-inside-in-Branch-clause-ahead
-past_parts-returns-in_ok-inside-in-Branch-clause-ahead t c = omega (arith, c.package-end-in-Branch.ensures.ahead, c.in_ok-inside-in-Branch.ensures.ahead, c.past_else.ensures.ahead)
+pub past_parts-returns-in-Branch-clause-ahead : goal.past_parts-returns-in-Branch-clause-ahead
+past_parts-returns-in-Branch-clause-ahead t c = omega (arith, c.package-end-in-Branch.ensures.ahead, c.past_parts-inside.ensures.ahead, c.past_else.ensures.ahead)
 
 -- past_piece
 pub past_piece-past-requires : goal.past_piece-past-requires
@@ -300,11 +251,11 @@ past_piece-returns-else-bytes-at-eq17-clause-is t c = λ u lies.
     let h = rw c.in-Connection.is at lies in
     name_piece_ends (count_of c.args.scene.now) c.args.bytes.now c.args.at c.name_end-else-bytes-at-eq17.result u c.name_end-else-bytes-at-eq17.ensures.is (connection_name (count_of c.args.scene.now) c.args.bytes.now c.args.at u c.if-bytes-at-eq17.false h)
 
-pub past_parts-returns-in_ok-next-in-One-clause-ahead : goal.past_parts-returns-in_ok-next-in-One-clause-ahead
-past_parts-returns-in_ok-next-in-One-clause-ahead t c = ok_as c.past_parts.result (λ n h. omega (arith, h, c.in_ok-next-in-One.ensures.ahead)) c.past_parts.ensures.ahead
+pub past_parts-returns-in-One-clause-ahead : goal.past_parts-returns-in-One-clause-ahead
+past_parts-returns-in-One-clause-ahead t c = omega (arith, c.past_parts.ensures.ahead, c.past_piece-next.ensures.ahead)
 
-pub past_parts-returns-in_ok-next-in-Sized-clause-ahead : goal.past_parts-returns-in_ok-next-in-Sized-clause-ahead
-past_parts-returns-in_ok-next-in-Sized-clause-ahead t c = ok_as c.past_parts-in-Sized.result (λ n h. omega (arith, h, c.in_ok-next-in-Sized.ensures.ahead)) c.past_parts-in-Sized.ensures.ahead
+pub past_parts-returns-in-Sized-clause-ahead : goal.past_parts-returns-in-Sized-clause-ahead
+past_parts-returns-in-Sized-clause-ahead t c = omega (arith, c.past_parts-in-Sized.ensures.ahead, c.past-next.ensures.ahead)
 
 pub past_parts-returns-in-Terms-clause-is : goal.past_parts-returns-in-Terms-clause-is
 past_parts-returns-in-Terms-clause-is t c = λ own stop parts lie.

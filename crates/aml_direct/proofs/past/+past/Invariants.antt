@@ -1,4 +1,4 @@
-use Rattle.std.proofs.Common.{◌≡◌, ◌≤◌, ◌<◌, length, drop, ℕ, ◌+◌, ◌-◌, ◌*◌, List}
+use Rattle.std.proofs.Common.{◌≡◌, ◌≤◌, length, drop, ℕ, ◌+◌, ◌-◌, ◌*◌, List}
 use Rattle.aml_operators.specs.Tree.{Tree}
 use Rattle.aml_places.specs.Lies.{LieArguments}
 use Rattle.aml_quick.specs.Settings.{count_of}

@@ -19,7 +19,7 @@ invariant-loop-unit g l =
       last : l.unit-end ≡ end f;
       done : l.done ≡ min f.bits (l.unit * bits_of f.width - f.at);
       steps : l.left - (end f - l.unit) * p.read_events ≡ l.fn.left - plan_reads p;
-      kept : g.W.World.refusals l.world ≡ g.W.World.refusals l.fn.world;
+      kept : (log l.world).refusals ≡ (log l.fn.world).refusals;
       name : g.G.Gathers.name l.gathered ≡ g.G.Gathers.name l.fn.gathered;
       size : g.G.Gathers.size l.gathered ≡ g.G.Gathers.size l.fn.gathered;
       read : (answers : List ℕ) × (length answers ≡ l.unit - first f) × (g.G.Gathers.value l.gathered ≡ made l.done (field_bit f answers))

@@ -5,7 +5,7 @@ use Rattle.std.proofs.lemmas.Result.{err_from_is_err_and}
 use Rattle.aml_objects.specs.Widths.{bits_of}
 use Rattle.aml_regions.specs.Fields.{layout_of}
 use Rattle.aml_meaning.specs.Runs as runs
-use Rattle.aml_fields.proofs.Values.{narrow_value, narrow_stops, wide_value, wide_stops}
+use Rattle.aml_fields.proofs.Values.{narrow_value, narrow_stops, wide_memory, wide_value, wide_stops}
 use Rattle.aml_fields.proofs.value.read_field.Goals as goal
 
 pub returns-in_err-number-clause-means : goal.returns-in_err-number-clause-means
@@ -46,3 +46,9 @@ returns-clause-means g c = λ frame names.
     let lt : bits_of c.args.width < (layout_of c.args.field.now).bits = omega (arith, bits, c.from.ensures, c.bits.ensures, c.if-bits-from.false) in
     let len : c.in-Ok.bytes.len ≡ length c.read_wide_field.new.bytes = omega arith in
     rw (c.new.ensures, len, take-append_seam c.read_wide_field.new.bytes (drop (length c.read_wide_field.new.bytes) c.in-Ok.bytes.items)) (wide_value (bits_of c.args.width) c.args.field.now _ _ _ lt (rw c.if-not-branch.false at (c.in_ok-read_wide_field.ensures.means frame names)))
+
+pub returns-in_default-clause-means : goal.returns-in_default-clause-means
+returns-in_default-clause-means g c = λ frame names.
+    let bits : c.layout-bits.result.bits ≡ (layout_of c.args.field.now).bits = ap (λ l. l.bits) c.layout-bits.ensures in
+    let lt : bits_of c.args.width < (layout_of c.args.field.now).bits = omega (arith, bits, c.from.ensures, c.bits.ensures, c.if-bits-from.false) in
+    wide_memory (bits_of c.args.width) c.args.field.now _ _ (omega arith) lt

@@ -18,7 +18,7 @@ invariant-loop-unit g l =
       last : l.unit-end ≡ end f;
       done : l.done ≡ min f.bits (l.unit * bits_of f.width - f.at);
       steps : l.left - cost_from f p.read_events p.write_events (end f - l.unit) l.unit ≡ l.fn.left - plan_writes p;
-      kept : g.W.World.refusals l.world ≡ g.W.World.refusals l.fn.world;
+      kept : (log l.world).refusals ≡ (log l.fn.world).refusals;
       written : (frame : Frame) (names : Names) (r : Result (Unit {0}) Halt) (last : State) →
           Runs r (write_from f p.read p.write bit (end f - l.unit) l.unit) (state frame names l.left (log l.world)) last →
           Runs r (bits_written p bit) (state frame names l.fn.left (log l.fn.world)) last;

@@ -1,4 +1,4 @@
-use Rattle.aml_scene.proofs.Outcomes.{evaluates}
+use Rattle.aml_plain.proofs.Outcomes.{evaluates}
 use Rattle.aml_plain.proofs.body.evaluate_body.Goals as goal
 
 pub returns : goal.returns

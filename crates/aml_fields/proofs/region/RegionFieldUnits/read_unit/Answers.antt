@@ -17,7 +17,7 @@ pub returns-clause-means : goal.returns-clause-means
 unfolding region_plan
 returns-clause-means g c = λ frame names.
     runs_read frame names (access c.args.self.now c.args.unit) c.in_ok-answer.answer _ _ _ _ (omega arith)
-    (rw c.access_of.ensures at c.in_ok-answer.ensures.fits) (rw c.access_of.ensures at c.in_ok-answer.ensures.event)
+    (rw c.access_of.ensures at c.in_ok-answer.ensures.fits) c.in_ok-answer.ensures.refusal (rw c.access_of.ensures at c.in_ok-answer.ensures.event)
 
 pub returns-clause-fits : goal.returns-clause-fits
 unfolding access region_plan

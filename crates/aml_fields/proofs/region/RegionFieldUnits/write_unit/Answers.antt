@@ -20,4 +20,4 @@ write-requires-clause-fits g c = rw c.access_of.ensures c.requires.fits
 pub returns-clause-means : goal.returns-clause-means
 unfolding region_plan
 returns-clause-means g c = λ frame names.
-    runs_write frame names (access c.args.self.now c.args.unit) c.args.value _ _ _ _ (omega arith) (rw c.access_of.ensures at c.in_ok-write.ensures.event)
+    runs_write frame names (access c.args.self.now c.args.unit) c.args.value _ _ _ _ (omega arith) c.in_ok-write.ensures.refusal (rw c.access_of.ensures at c.in_ok-write.ensures.event)
