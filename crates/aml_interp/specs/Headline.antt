@@ -93,7 +93,8 @@ pub record Headline : Type 0 where
       (around : Around (shown c.namespace.now)) →
       (values : List Value) (names : Names) →
       AreOfKinds (shown c.namespace.now) (verdict_of c a) values names →
-      (log : Log) (script : List Event) → AreAnswers (shown c.namespace.now) (verdict_of c a) script →
+      (log : Log) (script : List Event) →
+      AreAnswers (shown c.namespace.now) (verdict_of c a) script →
       EndsWell (shown c.namespace.now) (verdict_of c a)
       (evaluated (setting_in (shown c.namespace.now) around.bodies k m (trees ts)) (trees ts) values
       script (before names a.bound log))
