@@ -18,6 +18,9 @@ use Rattle.aml_meaning.specs.State as State
 use Rattle.aml_regions.specs.Events.{Event, Log}
 use Rattle.aml_regions.specs.Registers.{contents}
 use Rattle.aml_registers.specs.Answers.{AnswerReads}
+use Rattle.aml_bodies.specs.Methods.{Around}
+use Rattle.aml_interp.specs.Answers.{AnswersBody}
+use Rattle.aml_meaning.specs.Methods.{setting_in}
 use Rattle.aml_plain.specs.Methods.{Evaluates}
 use Rattle.aml_meaning.specs.declared.outcome.Outcome.{Outcome}
 use Rattle.aml_meaning.specs.declared.outcome.Outcome.TheVariants.{Done, AmlError, OutOfSteps}
@@ -156,6 +159,18 @@ IsMeant ns bytes id m body arguments steps (Ok (outcome, events)) =
     IsOutcome ns bytes id m body arguments steps outcome events
 IsMeant ns bytes id m body arguments steps (Err f) = f ≡ nowhere cause.NoMemory
 
+-- the same, where mutexes are not watched
+pub record IsAnswered (ns : Shown) (bytes : ℕ → ℕ → ℕ) (id : ℕ) (m : Method) (body : Trees)
+    (arguments : List Value) (steps : ℕ) (outcome : Outcome) (events : List Event) : Type 0 where
+  pub names : State.Names
+  pub before : Log
+  pub refusals : ℕ
+  pub answers : (around : Around ns) →
+      AnswersBody (setting_in ns around.bodies id m body) body arguments steps (names_first ns)
+      before (Ok outcome) names
+      (record { events = before.events ++ events; refusals = refusals })
+  pub answered : AnswerReads bytes events
+
 -- an accepted method's outcome and the events until then: it is done, and both are those of the
 -- statements that the grammar ties to its bytes
 pub record IsDoneOver (bytes : ℕ → ℕ → ℕ) (ns : Shown) (id : ℕ) (m : Method)
@@ -164,7 +179,7 @@ pub record IsDoneOver (bytes : ℕ → ℕ → ℕ) (ns : Shown) (id : ℕ) (m :
   pub done : outcome ≡ Done value
   pub body : List Tree
   pub read : IsBodyOf ns id m body
-  pub meant : IsOutcome ns bytes id m (trees body) arguments steps outcome events
+  pub meant : IsAnswered ns bytes id m (trees body) arguments steps outcome events
 
 -- the same; or memory is wanted
 abbrev pub IsDone : (ℕ → ℕ → ℕ) → Shown → ℕ × Method → List Value → ℕ →

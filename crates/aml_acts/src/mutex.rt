@@ -92,13 +92,17 @@ fn mutex_of(
     }
 }
 
-/// Takes a mutex. A10 at the operator where its level is below one that is held.
+/// Takes a mutex, where they are watched. A10 at the operator where its level is below one that is
+/// held.
 fn take(scene: &Scene<'_>, at: usize, mutex: TakenMutex, machine: &mut Machine) -> Result<(), Halt>
     ensures means { (log : Log) → Runs (went result)
         (acquire scene.now.table at mutex)
         (now machine.old log) (now machine.new log) }
     ensures steps { machine.new.steps ≡ machine.old.steps }
 {
+    if !machine.frame.mutexes.are_watched() {
+        return Ok(());
+    }
     if mutex.level < machine.frame.mutexes.level() {
         return Err(fails(AmlCause::Level, scene, at));
     }
@@ -106,7 +110,8 @@ fn take(scene: &Scene<'_>, at: usize, mutex: TakenMutex, machine: &mut Machine) 
     Ok(())
 }
 
-/// Releases a mutex. A11 at the operator where it is not the one that was taken last.
+/// Releases a mutex, where they are watched. A11 at the operator where it is not the one that was
+/// taken last.
 fn give_back(
     scene: &Scene<'_>,
     at: usize,
@@ -118,6 +123,9 @@ fn give_back(
         (now machine.old log) (now machine.new log) }
     ensures steps { machine.new.steps ≡ machine.old.steps }
 {
+    if !machine.frame.mutexes.are_watched() {
+        return Ok(());
+    }
     if machine.frame.mutexes.release(mutex.object) {
         Ok(())
     } else {
@@ -125,11 +133,15 @@ fn give_back(
     }
 }
 
-/// That a method which ends at a place holds no mutex. A12 there where it does.
+/// That a method which ends at a place holds no mutex, where they are watched. A12 there where it
+/// does.
 pub fn none_held(scene: &Scene<'_>, at: usize, machine: &Machine) -> Result<(), Halt>
     ensures { (log : Log) → Runs (went result)
         (none_held scene.now.table at) (now machine.now log) (now machine.now log) }
 {
+    if !machine.frame.mutexes.are_watched() {
+        return Ok(());
+    }
     if machine.frame.mutexes.is_empty() {
         Ok(())
     } else {

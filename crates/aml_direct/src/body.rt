@@ -14,7 +14,7 @@ ghost use Rattle.aml_direct.specs.Methods.{Evaluates, Spares};
 use crate::eval::calls::eval_body;
 use aml_bodies::Kept;
 use aml_contents::Names;
-use aml_machine::{Arguments, Frame, Machine};
+use aml_machine::{Arguments, Frame, Machine, Mutexes};
 use aml_meaning::Outcome;
 use aml_namespace::Namespace;
 use aml_paths::{NoMemory, ObjectId};
@@ -32,11 +32,11 @@ const MOST_WITHIN: u8 = 63;
 /// Evaluates a method straight from the bytes of its table, with its arguments and at most so many
 /// steps, over what names hold and a world. No tree is made.
 ///
-/// The outcome is the definition's of the tree that the grammar ties to those bytes: its value or
-/// none, its error at its table and place, or out of steps; and so are what names hold afterwards
-/// and the events that the world gained. Want of memory comes where the world refuses a call, or
-/// where the meaning says that memory is wanted: names and events are then those of the definition
-/// with fewer steps. Arguments behind the seventh are not looked at.
+/// The outcome is that of the meaning of the tree that the grammar ties to those bytes, where
+/// mutexes are not watched: its value or none, its error at its table and place, or out of steps;
+/// and so are what names hold afterwards and the events that the world gained. Want of memory comes
+/// where the world refuses a call, or where the meaning says that memory is wanted: names and events
+/// are then those of the meaning with fewer steps. Arguments behind the seventh are not looked at.
 pub fn evaluate_direct<W: World>(
     alloc: Global,
     namespace: &Namespace<'_>,
@@ -83,7 +83,7 @@ pub fn evaluate_direct<W: World>(
         asks_calls: true,
     };
     let mut machine = Machine {
-        frame: Frame::new(alloc, 0, Arguments::of(arguments)),
+        frame: Frame::new(alloc, Mutexes::unwatched(alloc), Arguments::of(arguments)),
         names: mem::replace(names, Names::new(alloc)),
         steps: fuel,
     };

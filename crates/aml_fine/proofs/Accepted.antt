@@ -28,7 +28,7 @@ module _ (all : Judging) (known : ℕ → Option Accepted) (are : AreVerdicts al
     words = may.answers;
     runs = λ script pre fit. done_good all a (evaluation all m values script s)
         (verdicts_mean.done all known are k a m values script s
-        (record { accepted = may.accepted; there = may.there; arguments = may.arguments; names = may.names; answers = fit })
+        (record { accepted = may.accepted; there = may.there; arguments = may.arguments; names = may.names; answers = fit; watched = may.watched })
         may.levels may.steps);
   }
 

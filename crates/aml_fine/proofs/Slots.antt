@@ -1,10 +1,8 @@
 -- What is read or stored in a frame and in names, where that is fine.
-use Rattle.std.proofs.Common.{◌≡◌, ℕ, suc, List, [], ◌∷◌, Option, Some, None, refl}
+use Rattle.std.proofs.Common.{◌≡◌, ℕ, suc, Option, Some, None, refl}
 use Rattle.std.specs.Prelude.{slice_get, Bool, true, false}
 use Rattle.aml_values.specs.Values.{Value}
 use Rattle.aml_contents.specs.Contents.{content_at}
-use Rattle.aml_meaning.specs.declared.mutex.TakenMutex.{TakenMutex}
-use Rattle.aml_meaning.specs.Mutexes.{none_held, ended_or}
 use Rattle.aml_meaning.specs.Parts.{get_local, get_arg, get_name, set_name, content_or, may_store, stored_or}
 use Rattle.aml_meaning.specs.State.{State, with_steps}
 use Rattle.aml_meaning.proofs.Runs.{prefix_refl}
@@ -47,13 +45,3 @@ unfolding set_name
 fine_set_name table at k v s h =
     let q = fine_paid _ s h in
     (q.0, q.1, may_there _ table at k v (with_steps s q.0) (q.2 s.log (prefix_refl s.log) h.words))
-
--- and where no mutex may be held, none is
-
-none_there : (held : List TakenMutex) (table at : ℕ) (s : State) → IsGood (ended_or held table at s) → held ≡ []
-none_there [] table at s h = refl
-none_there (m ∷ ms) table at s h = absurd h
-
-pub fine_none_held : (table at : ℕ) (s : State) → Fine (none_held table at) s → s.frame.held ≡ []
-unfolding none_held
-fine_none_held table at s h = none_there s.frame.held table at s (h.runs s.log (prefix_refl s.log) h.words)

@@ -1,6 +1,6 @@
 -- What an evaluation that meets no error lends to its parts, to the turns of its loops and to the
 -- methods that it calls; and that a verdict gives one to begin with: the laws.
-use Rattle.std.specs.Prelude.{◌≡◌, ◌≤◌, ◌<◌, ◌^◌, ℕ, suc, List, [], ◌∷◌, Option, Some, None, Result, Ok, Err}
+use Rattle.std.specs.Prelude.{◌≡◌, ◌≤◌, ◌<◌, ◌^◌, ℕ, suc, true, List, [], ◌∷◌, Option, Some, None, Result, Ok, Err}
 use Rattle.aml_operators.specs.Tree.{Tree}
 use Rattle.aml_values.specs.Values.{Value}
 use Rattle.aml_kinds.specs.Kinds.{IntUpTo}
@@ -110,7 +110,7 @@ pub record CallsAreFine : Type 0 where
 
 -- an accepted method with arguments and names that fit, whose callers hold no level above the
 -- least that it takes, with as many steps as its verdict says or more, behind events whose
--- answers fit
+-- answers fit, where mutexes are watched
 pub record MayBegin (all : Judging) (known : ℕ → Option Accepted) (k : ℕ) (a : Accepted)
     (m : Callee) (values : List Value) (s : State) : Type 0 where
   pub accepted : known k ≡ Some a
@@ -120,6 +120,7 @@ pub record MayBegin (all : Judging) (known : ℕ → Option Accepted) (k : ℕ) 
   pub levels : Allows a.least (held_level s.frame)
   pub steps : a.bound ≤ s.steps
   pub answers : FitScript all.methods.width all.kinds s.log
+  pub watched : s.frame.watched ≡ true
 
 -- what a Sleep leaves, where it fits the kinds of names, has integers of the width, bytes, and
 -- packages with no more elements than they may have: whether this is so is up to the kinds and

@@ -17,7 +17,7 @@ use Rattle.aml_known.specs.Views.{accepted_of}
 use Rattle.aml_known.specs.declared.accepted.Accepted.{Accepted}
 use Rattle.aml_meaning.specs.Methods.{callee_in, callee_of, methods_of}
 use Rattle.aml_meaning.specs.State.{Names, Out, State}
-use Rattle.aml_meaning.specs.Whole.{before, evaluated}
+use Rattle.aml_meaning.specs.Whole.{before, begun, evaluated}
 use Rattle.aml_meaning.specs.Within.{Callee, Methods, call_within, most_within, setting_for}
 use Rattle.aml_methods.proofs.Judgings.{callee_there}
 use Rattle.aml_methods.proofs.JudgingsThere.{judgings_are_there}
@@ -125,6 +125,7 @@ module _ (told : Told) (c : Checked) (k : ℕ) (a : Accepted) (is : IsAccepted t
       answers = subst (λ (kinds : ContentKinds). FitScript all.methods.width kinds script) (sym judging.kinds)
           (subst (λ (ms : Methods). FitScript ms.width (first_kinds (shown c.namespace.now)) script) width answers);
       levels = allowed a.least;
+      watched = refl;
     }
 
     done : IsDone all (verdict_of c a) (evaluation all callee values script start)
@@ -135,16 +136,17 @@ module _ (told : Told) (c : Checked) (k : ℕ) (a : Accepted) (is : IsAccepted t
         (judging.methods ∙ same_methods (shown c.namespace.now) (record { bodies = judging.bodies; are = judging.are }) around)
         (ends_well (shown c.namespace.now) (verdict_of c a) all (ap (λ (ms : Methods). ms.width) judging.methods) judging.kinds (run all.methods) done)
 
-  -- of these methods, whether memory is wanted somewhere
+  -- of these methods, whether memory is wanted somewhere, where mutexes are not watched
   abbrev wanting : Methods → Bool
-  wanting ms = (meant ms callee values).wants script start
+  wanting ms = (meant ms callee values).wants script (begun false names a.bound log)
 
-  module _ (integers : marked c.integers.items k ≡ true) (none : a.least ≡ None) where
+  module _ (integers : marked c.integers.items k ≡ true) where
     idle : (all : Judging) → IsJudging (shown c.namespace.now) told all → wanting (methods_of (shown c.namespace.now) around.bodies) ≡ false
     idle all judging =
+        let may = may all judging in
         subst (λ ms. wanting ms ≡ false)
         (judging.methods ∙ same_methods (shown c.namespace.now) (record { bodies = judging.bodies; are = judging.are }) around)
-        (accepted_integers_spare.wants told c all k callee a (was all judging) integers none values script start (may all judging))
+        (accepted_integers_spare.wants told c all k callee a (was all judging) integers values script (begun false names a.bound log) may.arguments may.names may.answers refl)
 
     pub wants_nothing : wanting (methods_of (shown c.namespace.now) around.bodies) ≡ false
     wants_nothing = idle (judgings_are_there (shown c.namespace.now) told).0 (judgings_are_there (shown c.namespace.now) told).1

@@ -1,18 +1,19 @@
 -- What an evaluation of an accepted method answers.
-use Rattle.std.proofs.Common.{◌≡◌, ◌⊎◌, inl, inr, ◌∙◌, ℕ, List, Some, Result, Ok, Err, false, subst, sym, true}
+use Rattle.std.proofs.Common.{◌≡◌, ◌⊎◌, inl, inr, ◌∙◌, ℕ, List, Option, Some, Result, Ok, Err, false, subst, sym, true}
 use Rattle.std.specs.Prelude.{IfOk, OnErr}
 use Rattle.aml_bodies.proofs.Around.{around_there}
 use Rattle.aml_bodies.specs.Methods.{Around}
 use Rattle.aml_direct.specs.Methods.{Evaluates, Spares}
 use Rattle.aml_interp.proofs.Accepted.{ends_so, ready, wants_nothing}
-use Rattle.aml_interp.proofs.Ends.{body_untold, done_well, kinds_kept}
+use Rattle.aml_interp.proofs.Ends.{body_untold, done_well, kinds_kept, no_error}
 use Rattle.aml_interp.proofs.Ready.{body, method}
-use Rattle.aml_interp.specs.Answers.{Answers, IsCutShort, IsDone, IsReady, WantsRightly, value_answered}
-use Rattle.aml_interp.specs.Headline.{AreAnswers, AreOfKinds, Headline, IsAccepted, IsDoneWell, IsRefused, verdict_of}
+use Rattle.aml_interp.proofs.Unwatched.{as_defined}
+use Rattle.aml_interp.specs.Answers.{Answers, AnswersBody, IsCutShort, IsDone, IsReady, WantsRightly, value_answered}
+use Rattle.aml_interp.specs.Headline.{AreAnswers, AreOfKinds, EndsWell, Headline, IsAccepted, IsDoneWell, IsRefused, verdict_of}
 use Rattle.aml_known.specs.declared.accepted.Accepted.{Accepted}
 use Rattle.aml_meaning.proofs.Runs.{prefix_refl}
-use Rattle.aml_meaning.specs.Methods.{methods_of, setting_in}
-use Rattle.aml_meaning.specs.State.{Names}
+use Rattle.aml_meaning.specs.Methods.{callee_of, methods_of, setting_in}
+use Rattle.aml_meaning.specs.State.{Names, Out}
 use Rattle.aml_meaning.specs.Whole.{before, evaluated}
 use Rattle.aml_meaning.specs.Within.{most_within}
 use Rattle.aml_meaning.specs.declared.outcome.Outcome.{Outcome}
@@ -24,7 +25,9 @@ use Rattle.aml_objects.specs.declared.object.Method.{Method}
 use Rattle.aml_operators.specs.Tree.{Tree, trees}
 use Rattle.aml_paths.specs.declared.memory.NoMemory.{NoMemory}
 use Rattle.aml_regions.specs.Events.{Log}
-use Rattle.aml_steady.proofs.Methods.{keeps_call_within}
+use Rattle.aml_scene.specs.Outcomes.{Tells}
+use Rattle.aml_steady.proofs.KindsStay.{calls_keep}
+use Rattle.aml_steady.proofs.Unwatched.{methods_go_unwatched}
 use Rattle.aml_values.specs.Values.{Value}
 use Rattle.aml_verify.specs.Said.{verdict_at}
 use Rattle.aml_verify.specs.declared.checked.Checked.{Checked}
@@ -37,10 +40,12 @@ module _ (c : Checked) (k : ℕ) (values : List Value) (names : Names) (log : Lo
       Evaluates (shown c.namespace.now) k m (trees ts) values a.bound names log answer names_left log_left) →
       Answers c k values names log answer names_left log_left
   answers_by answer a said did = record {
-    are = λ b other m there ts body.
+    are = λ b other m there ts body around.
         let same : a ≡ b = cc in
-        subst (λ (x : Accepted). Evaluates (shown c.namespace.now) k m (trees ts) values x.bound names log answer names_left log_left) same
-        (did m there ts body);
+        let ms = methods_of (shown c.namespace.now) around.bodies in
+        subst (λ (x : Accepted). AnswersBody (setting_in (shown c.namespace.now) around.bodies k m (trees ts)) (trees ts) values x.bound names log answer names_left log_left) same
+        (as_defined (setting_in (shown c.namespace.now) around.bodies k m (trees ts)) (trees ts) values
+        (methods_go_unwatched ms most_within (callee_of (shown c.namespace.now) k m (trees ts)) values) a.bound names log answer names_left log_left (did m there ts body around));
   }
 
   -- and where it wants memory
@@ -79,42 +84,52 @@ module _ (c : Checked) (k : ℕ) (values : List Value) (names : Names) (log : Lo
   memory_told (Err e) did = did
 
   -- names are of the kinds that they were of
-  pub kinds_stay : (a : Accepted) → IsReady c → verdict_at c.verdicts.items k ≡ Some (verdict.Accepted a) →
-      (answer : Result Outcome NoMemory) → Answers c k values names log answer names_left log_left → names_left.kinds ≡ names.kinds
+  pub kinds_stay : (a : Accepted) → IsReady c → verdict_at c.verdicts.items k ≡ Some (verdict.Accepted a) → (answer : Result Outcome NoMemory) →
+      ((m : Method) → method_at (shown c.namespace.now) k ≡ Some m → (ts : List Tree) → IsBodyOf (shown c.namespace.now) k m ts →
+      Evaluates (shown c.namespace.now) k m (trees ts) values a.bound names log answer names_left log_left) → names_left.kinds ≡ names.kinds
   kinds_stay a is said answer did =
       let m = method c is k a said in
       let b = body c is k a said m.0 m.1 in
       let around : Around (shown c.namespace.now) = around_there (shown c.namespace.now) in
       kinds_kept (setting_in (shown c.namespace.now) around.bodies k m.0 (trees b.0)) (trees b.0) values a.bound names log
-      (keeps_call_within (methods_of (shown c.namespace.now) around.bodies) most_within) answer names_left log_left
-      (did.are a said m.0 m.1 b.0 b.1 around)
+      (calls_keep (methods_of (shown c.namespace.now) around.bodies) most_within) answer names_left log_left
+      (did m.0 m.1 b.0 b.1 around)
 
   -- and what is told is done
   module _ (told : Told) (a : Accepted) (is : IsAccepted told c k a) (fits : AreOfKinds (shown c.namespace.now) (verdict_of c a) values names)
       (answers : AreAnswers (shown c.namespace.now) (verdict_of c a) log_left.events) where
+    module _ (m : Method) (there : method_at (shown c.namespace.now) k ≡ Some m) (ts : List Tree) (body : IsBodyOf (shown c.namespace.now) k m ts) (around : Around (shown c.namespace.now)) where
+      abbrev meant : ℕ → Out (Option Value)
+      meant n = evaluated (setting_in (shown c.namespace.now) around.bodies k m (trees ts)) (trees ts) values log_left.events (before names n log)
+
+      ends : EndsWell (shown c.namespace.now) (verdict_of c a) (meant a.bound)
+      ends = ends_so told c k a is m there ts body around values names fits log log_left.events answers
+
+      pub is_exact : (answer : Result Outcome NoMemory) → Answers c k values names log answer names_left log_left → Tells answer meant a.bound names_left log_left.events
+      is_exact answer did = (did.are a is.said m there ts body around).tells log_left.events (prefix_refl log_left.events) (no_error (shown c.namespace.now) (verdict_of c a) (meant a.bound) ends)
+
+      ends_as_told : (o : Outcome) → Answers c k values names log (Ok o) names_left log_left → IsDoneWell (shown c.namespace.now) (verdict_of c a) o names_left
+      ends_as_told o did =
+          let t = is_exact (Ok o) did in
+          done_well (shown c.namespace.now) (verdict_of c a) o (meant a.bound) names_left log_left.events ends t.0 t.1
+
     pub is_done : (o : Outcome) → Answers c k values names log (Ok o) names_left log_left → IsDoneWell (shown c.namespace.now) (verdict_of c a) o names_left
     is_done o did =
         let r = ready told c is.checked in
         let m = method c r k a is.said in
         let b = body c r k a is.said m.0 m.1 in
-        let around : Around (shown c.namespace.now) = around_there (shown c.namespace.now) in
-        let t = (did.are a is.said m.0 m.1 b.0 b.1 around).tells log_left.events (prefix_refl log_left.events) in
-        done_well (shown c.namespace.now) (verdict_of c a) o
-        (evaluated (setting_in (shown c.namespace.now) around.bodies k m.0 (trees b.0)) (trees b.0) values log_left.events (before names a.bound log))
-        names_left log_left.events
-        (ends_so told c k a is m.0 m.1 b.0 b.1 around values names fits log log_left.events answers)
-        t.0 t.1
+        ends_as_told m.0 m.1 b.0 b.1 (around_there (shown c.namespace.now)) o did
 
 module _ (c : Checked) (k : ℕ) (values : List Value) (names : Names) (log : Log) (names_left : Names) (log_left : Log) where
-  -- where memory is wanted in a method that evaluates integers alone and takes no mutex, the world refused
+  -- where memory is wanted in a method that evaluates integers alone, the world refused
   refused : (e : NoMemory) → WantsRightly c k values names log (Err e) log_left → IsRefused c k values names log log_left
-  refused e rightly told a is integers none fits answers =
+  refused e rightly told a is integers fits answers =
       let r = ready told c is.checked in
       let m = method c r k a is.said in
       let b = body c r k a is.said m.0 m.1 in
       let around : Around (shown c.namespace.now) = around_there (shown c.namespace.now) in
       refused_or (rightly.are a is.said m.0 m.1 b.0 b.1 around)
-      (λ wants. (let idle = wants_nothing told c k a is m.0 m.1 b.0 b.1 around values names fits log log_left.events answers integers none in
+      (λ wants. (let idle = wants_nothing told c k a is m.0 m.1 b.0 b.1 around values names fits log log_left.events answers integers in
       let wanted = wants log_left.events (prefix_refl log_left.events) in
       let never : false ≡ true = sym idle ∙ wanted in absurd cc))
     where
@@ -125,14 +140,16 @@ module _ (c : Checked) (k : ℕ) (values : List Value) (names : Names) (log : Lo
   pub refused_told : (answer : Result Outcome NoMemory) → Answers c k values names log answer names_left log_left → WantsRightly c k values names log answer log_left →
       OnErr (value_answered answer) (IsRefused c k values names log log_left)
   refused_told (Ok (outcome.Done value)) did rightly = tt
-  refused_told (Ok (outcome.AmlError e)) did rightly = λ told a is integers none fits answers. absurd (is_done c k values names log names_left log_left told a is fits answers (outcome.AmlError e) did)
-  refused_told (Ok outcome.OutOfSteps) did rightly = λ told a is integers none fits answers. absurd (is_done c k values names log names_left log_left told a is fits answers outcome.OutOfSteps did)
+  refused_told (Ok (outcome.AmlError e)) did rightly = λ told a is integers fits answers. absurd (is_done c k values names log names_left log_left told a is fits answers (outcome.AmlError e) did)
+  refused_told (Ok outcome.OutOfSteps) did rightly = λ told a is integers fits answers. absurd (is_done c k values names log names_left log_left told a is fits answers outcome.OutOfSteps did)
   refused_told (Err e) did rightly = refused e rightly
 
 pub headline : Headline
 headline = record {
   meaning = λ told c k a is m there ts body around values names fits log script answers.
       ends_so told c k a is m there ts body around values names fits log script answers;
+  exact = λ told c k a is m there ts body around values names fits log answer names_left log_left answers did.
+      is_exact c k values names log names_left log_left told a is fits answers m there ts body around answer did;
   answer = λ told c k a is values names fits log o names_left log_left answers did.
       is_done c k values names log names_left log_left told a is fits answers o did;
 }

@@ -1,5 +1,6 @@
 pub mod Bodies
 pub mod Ends
+pub mod Unwatched
 pub mod Taken
 pub mod Accepted
 pub mod Ready

@@ -2,17 +2,24 @@
 use Rattle.std.specs.Prelude.{◌≡◌, ℕ, List, Option, Some, None, IsSome, Result, Ok, Err}
 use Rattle.aml_bodies.specs.Kept.{kept_at}
 use Rattle.aml_quick.specs.Keeps.{AreSound}
-use Rattle.aml_direct.specs.Methods.{Evaluates, Spares}
+use Rattle.aml_bodies.specs.Methods.{Around}
+use Rattle.aml_direct.specs.Methods.{Spares}
+use Rattle.aml_meaning.specs.Meaning.{Setting}
+use Rattle.aml_meaning.specs.Methods.{setting_in}
+use Rattle.aml_meaning.specs.Runs.{IsPrefix}
 use Rattle.aml_meaning.specs.State.{Names}
+use Rattle.aml_meaning.specs.Whole.{before, evaluated}
 use Rattle.aml_meaning.specs.declared.outcome.Outcome.{Outcome}
 use Rattle.aml_meaning.specs.declared.outcome.Outcome.TheVariants as outcome
 use Rattle.aml_methods.specs.Judgings.{Told}
 use Rattle.aml_namespace.specs.Names.{IsBodyOf, method_at}
 use Rattle.aml_namespace.specs.Shows.{shown}
 use Rattle.aml_objects.specs.declared.object.Method.{Method}
-use Rattle.aml_operators.specs.Tree.{Tree, trees}
+use Rattle.aml_operators.specs.Tree.{Tree, Trees, trees}
 use Rattle.aml_paths.specs.declared.memory.NoMemory.{NoMemory}
-use Rattle.aml_regions.specs.Events.{Log}
+use Rattle.aml_regions.specs.Events.{AreWords, Event, Log}
+use Rattle.aml_scene.specs.Outcomes.{Tells}
+use Rattle.aml_steady.specs.Unwatched.{BreaksNone}
 use Rattle.aml_values.specs.Values.{Value}
 use Rattle.aml_values.specs.declared.value.Value as program_value
 use Rattle.aml_known.specs.declared.accepted.Accepted.{Accepted}
@@ -46,6 +53,21 @@ value_answered (Ok (outcome.Done value)) = Ok value
 value_answered (Ok other) = Err (record {})
 value_answered (Err e) = Err e
 
+-- what is answered of an evaluation of a body with these arguments and at most so many steps, from
+-- what names hold and the events so far: the events go on, and whatever answers are handed in that
+-- begin with them, it is what the definition says, where with those answers that breaks no rule of
+-- mutexes
+pub record AnswersBody (here : Setting) (body : Trees) (values : List Value) (fuel : ℕ)
+    (names : Names) (log : Log) (answer : Result Outcome NoMemory) (names_left : Names)
+    (log_left : Log) : Type 0 where
+  pub grows : IsPrefix log.events log_left.events
+  pub words : AreWords names.kinds log.events → AreWords names_left.kinds log_left.events
+  pub tells :
+      (script : List Event) → IsPrefix log_left.events script →
+      BreaksNone (evaluated here body values script (before names fuel log)) →
+      Tells answer (λ k. evaluated here body values script (before names k log)) fuel names_left
+      log_left.events
+
 -- an evaluation of an accepted method with these arguments, from what names hold and the events so
 -- far
 module _ (c : Checked) (k : ℕ) (values : List Value) (names : Names) (log : Log) where
@@ -57,8 +79,9 @@ module _ (c : Checked) (k : ℕ) (values : List Value) (names : Names) (log : Lo
         (a : Accepted) → verdict_at c.verdicts.items k ≡ Some (verdict.Accepted a) →
         (m : Method) → method_at (shown c.namespace.now) k ≡ Some m →
         (ts : List Tree) → IsBodyOf (shown c.namespace.now) k m ts →
-        Evaluates (shown c.namespace.now) k m (trees ts) values a.bound names log answer names_left
-        log_left
+        (around : Around (shown c.namespace.now)) →
+        AnswersBody (setting_in (shown c.namespace.now) around.bodies k m (trees ts)) (trees ts)
+        values a.bound names log answer names_left log_left
 
   -- it is done, with this value or none
   abbrev pub IsDone : Option program_value.Value → Names → Log → Type 0
@@ -68,7 +91,8 @@ module _ (c : Checked) (k : ℕ) (values : List Value) (names : Names) (log : Lo
   abbrev pub IsCutShort : Names → Log → Type 0
   IsCutShort names_left log_left = Answers (Err (record {})) names_left log_left
 
-  -- memory was wanted only where the world refused a call, or where that meaning wants it
+  -- memory was wanted only where the world refused a call, or where that meaning wants it, with no
+  -- mutex watched
   pub record WantsRightly (answer : Result Outcome NoMemory) (log_left : Log) : Type 0 where
     pub are :
         (a : Accepted) → verdict_at c.verdicts.items k ≡ Some (verdict.Accepted a) →

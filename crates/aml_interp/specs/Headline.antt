@@ -1,6 +1,6 @@
 -- The headline: what the verifier accepts is evaluated without an error, within the steps that its
 -- verdict says, and just as the definition says.
-use Rattle.std.specs.Prelude.{◌≡◌, ℕ, List, None, Option, Some, Ok, true}
+use Rattle.std.specs.Prelude.{◌≡◌, ℕ, List, Option, Some, Result, Ok, true}
 use Rattle.aml_bodies.specs.Methods.{Around}
 use Rattle.aml_contents.specs.FirstContents.{first_kinds}
 use Rattle.aml_integers.specs.Known.{marked}
@@ -24,7 +24,9 @@ use Rattle.aml_namespace.specs.Shows.{shown}
 use Rattle.aml_objects.specs.Widths.{bits_of}
 use Rattle.aml_objects.specs.declared.object.Method.{Method}
 use Rattle.aml_operators.specs.Tree.{Tree, trees}
+use Rattle.aml_paths.specs.declared.memory.NoMemory.{NoMemory}
 use Rattle.aml_regions.specs.Events.{Event, Log}
+use Rattle.aml_scene.specs.Outcomes.{Tells}
 use Rattle.aml_shapes.specs.Numbers.{numbered}
 use Rattle.aml_values.specs.Values.{Value}
 use Rattle.aml_verify.specs.Said.{verdict_at}
@@ -72,13 +74,13 @@ module _ (ns : Shown) (a : judged.Accepted) where
 abbrev pub verdict_of : Checked → Accepted → judged.Accepted
 verdict_of c a = accepted_of (numbered c.shapes) a
 
--- memory was wanted in a method that evaluates integers alone and takes no mutex, with arguments
--- and names of its kinds and answers that fit: the world refused a call meanwhile, or its count of
--- them stands at its last value
+-- memory was wanted in a method that evaluates integers alone, with arguments and names of its kinds
+-- and answers that fit: the world refused a call meanwhile, or its count of them stands at its last
+-- value
 abbrev pub IsRefused : Checked → ℕ → List Value → Names → Log → Log → Type 0
 IsRefused c k values names log log_left =
     (told : Told) (a : Accepted) → IsAccepted told c k a →
-    marked c.integers.items k ≡ true → a.least ≡ None →
+    marked c.integers.items k ≡ true →
     AreOfKinds (shown c.namespace.now) (verdict_of c a) values names →
     AreAnswers (shown c.namespace.now) (verdict_of c a) log_left.events →
     HasRefused log.refusals log_left.refusals
@@ -98,8 +100,24 @@ pub record Headline : Type 0 where
       EndsWell (shown c.namespace.now) (verdict_of c a)
       (evaluated (setting_in (shown c.namespace.now) around.bodies k m (trees ts)) (trees ts) values
       script (before names a.bound log))
-  -- whatever outcome is answered as that meaning's: it is done, its value as the verdict says, and
-  -- names hold what is of their kinds
+  -- and what is answered as that meaning's is just its own, with the events that were answered:
+  -- outcome, contents of names and events; after want of memory, names and events with some number
+  -- of steps that is no greater
+  pub exact :
+      (told : Told) (c : Checked) (k : ℕ) (a : Accepted) → IsAccepted told c k a →
+      (m : Method) → method_at (shown c.namespace.now) k ≡ Some m →
+      (ts : List Tree) → IsBodyOf (shown c.namespace.now) k m ts →
+      (around : Around (shown c.namespace.now)) →
+      (values : List Value) (names : Names) →
+      AreOfKinds (shown c.namespace.now) (verdict_of c a) values names →
+      (log : Log) (answer : Result Outcome NoMemory) (names_left : Names) (log_left : Log) →
+      AreAnswers (shown c.namespace.now) (verdict_of c a) log_left.events →
+      Answers c k values names log answer names_left log_left →
+      Tells answer
+      (λ n. evaluated (setting_in (shown c.namespace.now) around.bodies k m (trees ts)) (trees ts)
+      values log_left.events (before names n log)) a.bound names_left log_left.events
+  -- so an outcome that is answered is done, its value as the verdict says, and names hold what is of
+  -- their kinds
   pub answer :
       (told : Told) (c : Checked) (k : ℕ) (a : Accepted) → IsAccepted told c k a →
       (values : List Value) (names : Names) →

@@ -26,15 +26,16 @@ use std::alloc::Global;
 /// verdict says.
 ///
 /// Its value or none is the definition's, and so are what names hold afterwards and the events that
-/// the world gained. No AML error has an answer here, nor has want of steps: neither is met, where
-/// values are what values of their kinds may be, as `accepted_methods_are_done` says.
+/// the world gained, unless the definition broke a rule of mutexes (A10 to A12). No AML error has an
+/// answer here, nor has want of steps: none is met, of mutexes or other, where values are what
+/// values of their kinds may be, as `accepted_methods_are_done` says. So which mutexes are held is
+/// not asked, and no list of them is kept.
 ///
 /// # Errors
 ///
 /// `NoMemory`, where memory is wanted: names and events are then those of the definition with some
-/// of those steps, and the names may be used again. In a method that evaluates integers alone and
-/// takes no mutex it comes only where the world refused a call, or its count of refusals stands at
-/// its last value.
+/// of those steps, and the names may be used again. In a method that evaluates integers alone it
+/// comes only where the world refused a call, or its count of refusals stands at its last value.
 pub fn evaluate<W: World>(
     alloc: Global,
     checked: &Checked<'_>,

@@ -19,7 +19,7 @@ use Rattle.aml_meaning.specs.Rules.{Place}
 use Rattle.aml_meaning.specs.Calls.{framed, left, inside}
 use Rattle.aml_meaning.specs.Meaning.{mean, Setting}
 use Rattle.aml_meaning.specs.Definitions.{mean_method, made, definition, mean_body, statement, stated}
-use Rattle.aml_meaning.specs.Mutexes.{ended_or, none_held}
+use Rattle.aml_meaning.specs.Mutexes.{ended_or, if_watched, none_held}
 use Rattle.aml_meaning.specs.declared.mutex.TakenMutex.{TakenMutex}
 use Rattle.aml_meaning.specs.Within.{Callee, Methods, call_within, callee_or, setting_for, most_within}
 use Rattle.aml_meaning.specs.Whole.{evaluated}
@@ -71,7 +71,7 @@ module _ (width : ℕ) (shared : ContentKinds) (above : ℕ) where
   -- how a body ends: of its own names nothing is said any more
   abbrev Ended : ℕ → Judged (Unit {0}) → Out (Unit {0}) → Type 0
   Ended before (Stops r) o = Unit {0}
-  Ended before (Goes u env x n) (state.Goes v s) = (env.counts ≡ true) × FitsHeld s.frame.held env.held × FitNames width shared s.names × (before ≤ s.steps + n)
+  Ended before (Goes u env x n) (state.Goes v s) = (env.counts ≡ true) × FitsHeld s.frame.held env.held × FitNames width shared s.names × (s.frame.watched ≡ true) × (before ≤ s.steps + n)
   Ended before (Goes u env x n) (Halts (Error e) s) = OnlyAbove x.least above e × (before ≤ s.steps + n)
   Ended before (Goes u env x n) (Halts (Returned v) s) = FitsReturn width x.returned v × FitNames width shared s.names × (before ≤ s.steps + n)
   Ended before (Goes u env x n) (Halts (Broke at) s) = There x.broke × (before ≤ s.steps + n)
@@ -91,7 +91,7 @@ module _ (width : ℕ) (shared : ContentKinds) (above : ℕ) where
 
   after_ended : (x : Exits) (n from before : ℕ) (j : Judged (Unit {0})) (o : Out (Unit {0})) → before ≤ from + n → Ended from j o → Ended before (after x n j) o
   after_ended x n from before (Stops r) o le h = tt
-  after_ended x n from before (Goes u env y m) (state.Goes v s) le h = (h.0, h.1, h.2, omega (arith, le, h.3))
+  after_ended x n from before (Goes u env y m) (state.Goes v s) le h = (h.0, h.1, h.2, h.3, omega (arith, le, h.4))
   after_ended x n from before (Goes u env y m) (Halts (Error e) s) le h = ((h.0.0, λ a. h.0.1 (allows_right x.least y.least above a)), omega (arith, le, h.1))
   after_ended x n from before (Goes u env y m) (Halts (Returned v) s) le h = (return_right width (shared_only shared) above x.returned y.returned v h.0, h.1, omega (arith, le, h.2))
   after_ended x n from before (Goes u env y m) (Halts (Broke at) s) le h = (there_right join_env x.broke y.broke h.0, omega (arith, le, h.1))
@@ -130,10 +130,11 @@ module _ (width : ℕ) (shared : ContentKinds) (above : ℕ) where
   method_ended : (around : Around) (table at : ℕ) (script : List Event) (before : ℕ) (j : Judged (Unit {0})) (o : Out (Unit {0})) → Ended before j o → Ended before (then_judge j (λ u. judged_none_held around at)) (then_do o (λ u s. (none_held table at).run script s))
   unfolding none_held
   method_ended around table at script before (Stops r) o h = tt
-  method_ended around table at script before (Goes u env x n) (state.Goes v s) h = by env.counts env.held s.frame.held h.0 h.1
+  method_ended around table at script before (Goes u env x n) (state.Goes v s) h =
+      subst (λ b. Ended before (after x n (judged_none_held around at env)) (if_watched b s (ended_or s.frame.held table at s))) (sym h.3) (by env.counts env.held s.frame.held h.0 h.1)
     where
       by : (c : Bool) (known : Held) (held : List TakenMutex) → c ≡ true → FitsHeld held known → Ended before (after x n (none_held_at around c known at env)) (ended_or held table at s)
-      by true (These []) [] e f = (h.0, h.1, h.2, omega (arith, h.3))
+      by true (These []) [] e f = (h.0, h.1, h.2, h.3, omega (arith, h.4))
       by true (These []) (m ∷ ms) e f = absurd cc
       by true (These (m ∷ ms)) held e f = tt
       by true Different held e f = tt
@@ -182,7 +183,7 @@ module _ (here : Setting) (callee : ℕ → Seen) (above : ℕ) (script : List E
 
   body_ended : (ts : Trees) → AllSmall here.width here.literal ts → (kinds : NameKinds) → AreCalls here.width kinds callee here.call → FitScript here.width kinds.shared script → (env : Env) (s : State) → FitsState here.width kinds above env s → Ended here.width kinds.shared above s.steps (judged_body (around_of here kinds callee) ts env) ((mean_body here ts).run script s)
   unfolding ◌>>=◌ give
-  body_ended none small kinds calls slept env s fits = (fits.reached, fits.holds, fits.shared, omega arith)
+  body_ended none small kinds calls slept env s fits = (fits.reached, fits.holds, fits.shared, fits.callers.1, omega arith)
   body_ended (more t ts) small kinds calls slept env s fits =
       then_ended kinds s.steps _ (λ k. judged_body (grown (around_of here kinds callee) k) ts) ((statement here t).run script s) (λ next. (mean_body here ts).run script next) (statement_made kinds calls slept t small.0 env s fits) (λ k e next f.
       shared_stays kinds k (λ sh. Ended here.width sh above next.steps (judged_body (grown (around_of here kinds callee) k) ts e) ((mean_body here ts).run script next)) (body_ended ts small.1 (grown_kinds kinds k) (grown_calls here.width kinds callee here.call k calls) (grown_script here.width kinds k script slept) e next f))
@@ -209,7 +210,7 @@ module _ (width : ℕ) (kinds : ContentKinds) where
 
   -- how a body's end becomes a call's
   left_called : (table : ℕ) (frame : Frame) (args : List Kind) (env : Env) (x : Exits) (n before : ℕ) (o : Out (Unit {0})) → none_left x.broke x.continued ≡ true → Ended width kinds (held_level frame) before (Goes tt env x n) o → IsCalled width (shared_only kinds) (record { args = args; result = result_of env.counts x.returned; bound = n; least = x.least }) frame before (left table frame o)
-  left_called table frame args env x n before (state.Goes v s) e h = (end_yields env.counts x.returned h.0, refl, h.2, h.3)
+  left_called table frame args env x n before (state.Goes v s) e h = (end_yields env.counts x.returned h.0, refl, h.2, h.4)
   left_called table frame args env x n before (Halts (Returned v) s) e h = (return_yields env.counts x.returned v h.0, refl, h.1, h.2)
   left_called table frame args env x n before (Halts (Broke at) s) e h = absurd (none_broke x.broke x.continued e h.0)
   left_called table frame args env x n before (Halts (Continued at) s) e h = absurd (none_continued x.broke x.continued e h.0)
@@ -248,46 +249,46 @@ if_among false o x e = absurd cc
 
 module _ (all : Judging) (narrow : all.methods.width ≤ 64) (wide : 255 < 2 ^ all.methods.width) (known : ℕ → Option Accepted) (are : AreAccepted all known) (small : AreSmall all) where
   abbrev Calls : ℕ → (Place → ℕ → List Value → M (Option Value)) → Type 0
-  Calls d call = (p : Place) (k : ℕ) (a : Accepted) (vs : List Value) (script : List Event) (s : State) → is_short (called_from all) d k ≡ true → known k ≡ Some a → FitAll all.methods.width vs a.args → FitNames all.methods.width all.kinds s.names → FitScript all.methods.width all.kinds script → IsCalled all.methods.width (shared_only all.kinds) a s.frame s.steps ((call p k vs).run script s)
+  Calls d call = (p : Place) (k : ℕ) (a : Accepted) (vs : List Value) (script : List Event) (s : State) → is_short (called_from all) d k ≡ true → known k ≡ Some a → FitAll all.methods.width vs a.args → FitNames all.methods.width all.kinds s.names → FitScript all.methods.width all.kinds script → s.frame.watched ≡ true → IsCalled all.methods.width (shared_only all.kinds) a s.frame s.steps ((call p k vs).run script s)
 
   -- what a short method sees of its callees is what their calls give
   seen_calls : (d k : ℕ) (call : Place → ℕ → List Value → M (Option Value)) → is_short (called_from all) (suc d) k ≡ true → Calls d call → AreCalls all.methods.width (shared_only all.kinds) (seen_from all known k) call
   unfolding is_short
   seen_calls d k call short calls = record {
-    each = λ p j a vs script s e fit shared slept.
+    each = λ p j a vs script s e fit shared slept watched.
         let two = if_among (is_among j (called_from all k)) (known j) a e in
-        calls p j a vs script s (among_all (is_short (called_from all) d) j (called_from all k) two.0 short) two.1 fit shared slept;
+        calls p j a vs script s (among_all (is_short (called_from all) d) j (called_from all k) two.0 short) two.1 fit shared slept watched;
   }
 
   -- a method in a frame of its own, by what it was judged to be
-  entered_called : (d k : ℕ) (m : Callee) (a : Accepted) (vs : List Value) (script : List Event) (s : State) → Calls d (call_within all.methods d) → is_short (called_from all) (suc d) k ≡ true → all.methods.callee k ≡ Some m → accepted_of (verdict_by all known k (Some m)) ≡ Some a → FitAll all.methods.width vs a.args → FitNames all.methods.width all.kinds s.names → FitScript all.methods.width all.kinds script → IsCalled all.methods.width (shared_only all.kinds) a s.frame s.steps ((framed m.table vs (mean_method (setting_for all.methods (call_within all.methods d) m) m.body)).run script s)
+  entered_called : (d k : ℕ) (m : Callee) (a : Accepted) (vs : List Value) (script : List Event) (s : State) → Calls d (call_within all.methods d) → is_short (called_from all) (suc d) k ≡ true → all.methods.callee k ≡ Some m → accepted_of (verdict_by all known k (Some m)) ≡ Some a → FitAll all.methods.width vs a.args → FitNames all.methods.width all.kinds s.names → FitScript all.methods.width all.kinds script → s.frame.watched ≡ true → IsCalled all.methods.width (shared_only all.kinds) a s.frame s.steps ((framed m.table vs (mean_method (setting_for all.methods (call_within all.methods d) m) m.body)).run script s)
   unfolding framed ◌>>=◌
-  entered_called d k m a vs script s calls short is e fit shared slept =
+  entered_called d k m a vs script s calls short is e fit shared slept watched =
       let ok = ok_verdict _ a e in
       let says = verdict_says all.methods.width all.kinds _ _ (all.args k) (judged_method (around_for all known k m) m.opcode m.body (entry (all.args k))) a ok in
       verdict_called all.methods.width all.kinds _ _ (all.args k) (judged_method (around_for all known k m) m.opcode m.body (entry (all.args k))) a m.table s.frame s.steps _ ok
       (method_ended all.methods.width all.kinds (held_level s.frame) (around_for all known k m) m.table m.opcode script s.steps _ _ (body_ended (setting_for all.methods (call_within all.methods d) m) (seen_from all known k) (held_level s.frame) script (calls_tame all.methods d) narrow wide m.body (small k m is) (shared_only all.kinds)
       (seen_calls d k (call_within all.methods d) short calls) slept (entry (all.args k)) (inside vs s)
-      (record { reached = refl; own = slots_fit all.methods.width 8 [] [] tt; given = slots_fit all.methods.width 7 vs (all.args k) (subst (FitAll all.methods.width vs) (sym says.1) fit); shared = shared; owned = record { kinds_stay = refl; fitting = refl; words = λ i u e. absurd cc }; fields = refl; holds = refl; callers = refl })))
+      (record { reached = refl; own = slots_fit all.methods.width 8 [] [] tt; given = slots_fit all.methods.width 7 vs (all.args k) (subst (FitAll all.methods.width vs) (sym says.1) fit); shared = shared; owned = record { kinds_stay = refl; fitting = refl; words = λ i u e. absurd cc }; fields = refl; holds = refl; callers = (refl, watched) })))
 
-  or_called : (d : ℕ) (p : Place) (k : ℕ) (o : Option Callee) (a : Accepted) (vs : List Value) (script : List Event) (s : State) → Calls d (call_within all.methods d) → is_short (called_from all) (suc d) k ≡ true → all.methods.callee k ≡ o → accepted_of (verdict_by all known k o) ≡ Some a → FitAll all.methods.width vs a.args → FitNames all.methods.width all.kinds s.names → FitScript all.methods.width all.kinds script → IsCalled all.methods.width (shared_only all.kinds) a s.frame s.steps ((callee_or p o (λ m. framed m.table vs (mean_method (setting_for all.methods (call_within all.methods d) m) m.body))).run script s)
-  or_called d p k None a vs script s calls short is e fit shared slept = absurd cc
-  or_called d p k (Some m) a vs script s calls short is e fit shared slept = entered_called d k m a vs script s calls short is e fit shared slept
+  or_called : (d : ℕ) (p : Place) (k : ℕ) (o : Option Callee) (a : Accepted) (vs : List Value) (script : List Event) (s : State) → Calls d (call_within all.methods d) → is_short (called_from all) (suc d) k ≡ true → all.methods.callee k ≡ o → accepted_of (verdict_by all known k o) ≡ Some a → FitAll all.methods.width vs a.args → FitNames all.methods.width all.kinds s.names → FitScript all.methods.width all.kinds script → s.frame.watched ≡ true → IsCalled all.methods.width (shared_only all.kinds) a s.frame s.steps ((callee_or p o (λ m. framed m.table vs (mean_method (setting_for all.methods (call_within all.methods d) m) m.body))).run script s)
+  or_called d p k None a vs script s calls short is e fit shared slept watched = absurd cc
+  or_called d p k (Some m) a vs script s calls short is e fit shared slept watched = entered_called d k m a vs script s calls short is e fit shared slept watched
 
   -- at most so many methods are active in one another
   calls_within : (d : ℕ) → Calls d (call_within all.methods d)
   unfolding is_short call_within
-  calls_within zero p k a vs script s short e fit shared slept = absurd cc
-  calls_within (suc d) p k a vs script s short e fit shared slept = or_called d p k (all.methods.callee k) a vs script s (calls_within d) short refl (sym (are.each k) ∙ e) fit shared slept
+  calls_within zero p k a vs script s short e fit shared slept watched = absurd cc
+  calls_within (suc d) p k a vs script s short e fit shared slept watched = or_called d p k (all.methods.callee k) a vs script s (calls_within d) short refl (sym (are.each k) ∙ e) fit shared slept watched
 
   short_of : (k : ℕ) (o : Option Callee) (a : Accepted) → accepted_of (verdict_by all known k o) ≡ Some a → is_short (called_from all) 64 k ≡ true
   short_of k None a e = absurd cc
   short_of k (Some m) a e = (verdict_says all.methods.width all.kinds _ _ (all.args k) (judged_method (around_for all known k m) m.opcode m.body (entry (all.args k))) a (ok_verdict _ a e)).0
 
-  accepted_called : (k : ℕ) (a : Accepted) (m : Callee) → known k ≡ Some a → all.methods.callee k ≡ Some m → (vs : List Value) → FitAll all.methods.width vs a.args → (script : List Event) (s : State) → FitNames all.methods.width all.kinds s.names → FitScript all.methods.width all.kinds script → IsCalled all.methods.width (shared_only all.kinds) a s.frame s.steps (evaluated (setting_for all.methods (call_within all.methods most_within) m) m.body vs script s)
-  accepted_called k a m e is vs fit script s shared slept =
+  accepted_called : (k : ℕ) (a : Accepted) (m : Callee) → known k ≡ Some a → all.methods.callee k ≡ Some m → (vs : List Value) → FitAll all.methods.width vs a.args → (script : List Event) (s : State) → FitNames all.methods.width all.kinds s.names → FitScript all.methods.width all.kinds script → s.frame.watched ≡ true → IsCalled all.methods.width (shared_only all.kinds) a s.frame s.steps (evaluated (setting_for all.methods (call_within all.methods most_within) m) m.body vs script s)
+  accepted_called k a m e is vs fit script s shared slept watched =
       let given : accepted_of (verdict_by all known k (all.methods.callee k)) ≡ Some a = sym (are.each k) ∙ e in
-      entered_called 63 k m a vs script s (calls_within 63) (short_of k (all.methods.callee k) a given) is (subst (λ o. accepted_of (verdict_by all known k o) ≡ Some a) is given) fit shared slept
+      entered_called 63 k m a vs script s (calls_within 63) (short_of k (all.methods.callee k) a given) is (subst (λ o. accepted_of (verdict_by all known k o) ≡ Some a) is given) fit shared slept watched
 
 widths_narrow : (w : Width) → bits_of w ≤ 64
 widths_narrow width_of.Bits32 = omega arith
@@ -317,7 +318,7 @@ called_done all a frame before (Spent s) low le h = omega (arith, le, h)
 
 callable : (all : Judging) (known : ℕ → Option Accepted) → AreVerdicts all known → (k : ℕ) (a : Accepted) (m : Callee) (values : List Value) (script : List Event) (s : State) → IsCallable all known k a m values script s → IsCalled all.methods.width (shared_only all.kinds) a s.frame s.steps (evaluation all m values script s)
 callable all known are k a m values script s call =
-    accepted_called all (subst (λ n. n ≤ 64) (sym are.bits) (widths_narrow are.width)) (subst (λ n. 255 < 2 ^ n) (sym are.bits) (widths_wide are.width)) known are.accepted are.small k a m call.accepted call.there values call.arguments script s call.names call.answers
+    accepted_called all (subst (λ n. n ≤ 64) (sym are.bits) (widths_narrow are.width)) (subst (λ n. 255 < 2 ^ n) (sym are.bits) (widths_wide are.width)) known are.accepted are.small k a m call.accepted call.there values call.arguments script s call.names call.answers call.watched
 
 pub verdicts_mean : VerdictsMean
 verdicts_mean = record {

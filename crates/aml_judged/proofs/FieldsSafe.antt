@@ -23,7 +23,7 @@ use Rattle.aml_judged.specs.Judge.{judged_field, judged_field_stored, judged_wri
 use Rattle.aml_judged.specs.Judged.{NameKinds, Always, Seen, no_exits, pays, refuses, ruled, then_judge}
 use Rattle.aml_judged.specs.KindRules.{field_kind, given_kind}
 use Rattle.aml_judged.specs.Events.{Costs}
-use Rattle.aml_judged.specs.Safe.{FitsHeld, FitNames, FitSlots, IsOf}
+use Rattle.aml_judged.specs.Safe.{FitsHeld, FitNames, FitSlots, IsOf, IsUnder}
 use Rattle.aml_judged.proofs.Words.{words_of}
 use Rattle.aml_judged.proofs.Events.{fields_cost}
 use Rattle.aml_judged.proofs.FieldValues.{Makes, field_made}
@@ -62,7 +62,7 @@ module _ (here : Setting) (kinds : NameKinds) (callee : ℕ → Seen) (above : �
     owned = subst (λ f. FitNames here.width kinds.owns f.owns) (sym e) fits.owned;
     fields = subst (λ f. f.fields ≡ kinds.fields) (sym e) fits.fields;
     holds = subst (λ f. FitsHeld f.held env.held) (sym e) fits.holds;
-    callers = subst (λ f. f.outside ≡ above) (sym e) fits.callers;
+    callers = subst (IsUnder above) (sym e) fits.callers;
   }
 
   read_out : (n : ℕ) (k : Kind) (env : Env) (s : State) (o : Out Value) → Costs n s o → Makes (λ v. Is v k) o → Fine env s → Safe (plain Yields) s.steps (pays n (Always k) env) (then_do o (λ v next. state.Goes (Some v) next))

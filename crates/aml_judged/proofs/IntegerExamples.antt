@@ -2,7 +2,7 @@
 use Rattle.std.proofs.Common.{◌≡◌, ℕ, [], ◌∷◌, Option, Some, None, refl}
 use Rattle.std.specs.Prelude.{Bool, true, false, ◌==◌, if◌then◌else◌}
 use Rattle.aml_operators.specs.declared.op.Op.TheVariants as op
-use Rattle.aml_operators.specs.Tree.{Trees, Node, none, more}
+use Rattle.aml_operators.specs.Tree.{Trees, Node, none}
 use Rattle.aml_namespace.specs.declared.link.Link.{Link}
 use Rattle.aml_namespace.specs.declared.link.Link.TheVariants as link
 use Rattle.aml_values.specs.Values.{Value, Int, Str}
@@ -14,10 +14,11 @@ use Rattle.aml_regions.specs.declared.field.OtherBits.TheVariants as others
 use Rattle.aml_regions.specs.declared.field.UnitWidth.TheVariants as unit
 use Rattle.aml_meaning.specs.Definitions.{mean_body}
 use Rattle.aml_meaning.specs.Parts.{M, ◌>>=◌, give, stop_with, tick, paid, get_arg, set_local}
-use Rattle.aml_meaning.specs.State.{State, entered}
+use Rattle.aml_meaning.specs.Mutexes.{acquire, release}
+use Rattle.aml_meaning.specs.State.{Goes, State, entered}
 use Rattle.aml_meaning.specs.Whole.{before}
 use Rattle.aml_meaning.specs.Within.{Callee, Methods, setting_for}
-use Rattle.aml_judged.specs.Integers.{integers_in, integers_in_if}
+use Rattle.aml_judged.specs.Integers.{integers_in}
 use Rattle.aml_judged.proofs.Examples.{one, two, three, leaf, byte, nothing, defined, stored_zero, rising}
 
 -- field 0 has 8 bits, and field 1 has 65
@@ -38,10 +39,6 @@ naming l = record { table = 0; opcode = 36; link = λ at. l; lone = λ at. true;
 -- method 1 is integer-only, and no other is
 abbrev are_integers : Link → Trees → Bool
 are_integers l body = integers_in methods (naming l) kinds (λ k. k == 1) body
-
--- and takes no mutex
-abbrev spares : Link → Trees → Bool
-spares l body = integers_in_if methods (naming l) kinds (λ k. k == 1) false body
 
 abbrev data_name : ℕ → Link
 data_name k = link.Data (record { 0 = k })
@@ -104,26 +101,9 @@ notifies_device = refl
 makes_a_name : are_integers link.Missing (one (defined 43 (byte 5 44))) ≡ false
 makes_a_name = refl
 
--- memory is spared by what counts, by what calls a method that spares it, and by what releases a
--- mutex, but by nothing that takes one, in a loop either
-spares_counting : spares link.Missing (two stored_zero rising) ≡ true
-spares_counting = refl
-
-spares_calling : spares (link.Method (record { 0 = 1 })) (one (Node op.Invocation 43 48 (two (leaf op.NameString 44) (leaf op.One 47)))) ≡ true
-spares_calling = refl
-
-spares_taking : spares (link.Object (record { 0 = 3 })) acquired ≡ false
-spares_taking = refl
-
-spares_taking_in_loop : spares (link.Object (record { 0 = 3 })) (one (Node op.While 40 48 (more (leaf op.One 42) acquired))) ≡ false
-spares_taking_in_loop = refl
-
-spares_releasing : spares (link.Object (record { 0 = 3 })) (one (Node op.Release 43 48 (one (leaf op.NameString 44)))) ≡ true
-spares_releasing = refl
-
 -- the copy of a string wants memory, and that of an integer none: Store (Arg0, Local0)
 abbrev holding : Value → State
-holding v = record (before (record { contents = []; kinds = [] }) 9 (record { events = []; refusals = 0 })) { frame = entered 0 (v ∷ []) }
+holding v = record (before (record { contents = []; kinds = [] }) 9 (record { events = []; refusals = 0 })) { frame = entered true 0 (v ∷ []) }
 
 abbrev copied : M (Unit {0})
 copied = mean_body (setting_for methods (λ p k values. give None) (naming link.Missing)) (one (Node op.Store 43 46 (two (leaf op.Arg0 44) (leaf op.Local0 45))))
@@ -135,3 +115,27 @@ copies_string = refl
 copies_integer : copied.wants [] (holding (Int 5)) ≡ false
 unfolding ◌>>=◌ give stop_with tick paid get_arg set_local
 copies_integer = refl
+
+-- a mutex that is taken wants memory where mutexes are watched, and else none
+abbrev taking : M (Unit {0})
+taking = acquire 0 43 (record { object = record { 0 = 3 }; level = 0 })
+
+abbrev watching : Bool → State
+watching watched = record (holding (Int 5)) { frame = entered watched 0 [] }
+
+takes_memory_watched : taking.wants [] (watching true) ≡ true
+unfolding acquire
+takes_memory_watched = refl
+
+takes_none_unwatched : taking.wants [] (watching false) ≡ false
+unfolding acquire
+takes_none_unwatched = refl
+
+-- where they are not, none is kept as held, and one that was never taken is released
+keeps_none : taking.run [] (watching false) ≡ Goes tt (watching false)
+unfolding acquire
+keeps_none = refl
+
+releases_any : (release 0 43 (record { object = record { 0 = 3 }; level = 0 })).run [] (watching false) ≡ Goes tt (watching false)
+unfolding release
+releases_any = refl

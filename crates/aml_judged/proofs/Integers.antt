@@ -1,4 +1,4 @@
--- Integer-only methods evaluate integers alone, and want no memory where no mutex may be taken.
+-- Integer-only methods evaluate integers alone, and want no memory where mutexes are not watched.
 use Rattle.std.proofs.Common.{◌≡◌, ℕ, zero, suc, ◌+◌, ◌/◌, ◌^◌, ◌-◌, List, [], ◌∷◌, Option, Some, None, Result, Ok, Err, refl, sym, ap, ◌∙◌, subst}
 use Rattle.std.specs.Prelude.{Bool, true, false, ◌==◌, ◌&&◌, if◌then◌else◌, nat_le, slice_get, slice_set, length}
 use Rattle.std.proofs.lemmas.Bool.{and_parts}
@@ -41,7 +41,7 @@ use Rattle.aml_meaning.specs.Fields.{read_value, write_bits, read_count, write_c
 use Rattle.aml_meaning.specs.FieldValues.{given_bits, wanted_field}
 use Rattle.aml_meaning.specs.Loops.{turned, behind_turn, turn_end, turns, loop, spent}
 use Rattle.aml_meaning.specs.Meaning.{Setting, converting, at_of, act, mean, value, values, mean_all, block, otherwise, is_else, want, store, stored, put, named, named_target, invoked, held, field_stored, bits_stored, buffer_field_read, buffer_field_changed, asked, condition, is_there, notified_name, notified, tested, gives_value, changed_in_place, operator_action, place, place_at, outside, mutex, mutex_named, mutex_numbered}
-use Rattle.aml_meaning.specs.Mutexes.{acquire, acquired_or, ended_or, none_held, release, released_or, without_last}
+use Rattle.aml_meaning.specs.Mutexes.{acquire, acquired_or, ended_or, if_watched, none_held, release, released_or, without_last}
 use Rattle.aml_meaning.specs.Notices.{notice, paused}
 use Rattle.aml_meaning.specs.Parts.{M, ◌>>=◌, behind, give, stop_with, lift, tick, paid, take_step, then_do, takes_memory, copy_takes_memory, behind_copy, get_local, get_arg, get_name, set_local, set_arg, set_name, make_event, sleep, woken, woken_or, content_or, stored_or, may_store}
 use Rattle.aml_meaning.specs.Rules as rules
@@ -50,7 +50,7 @@ use Rattle.aml_meaning.specs.State as state
 use Rattle.aml_meaning.specs.State.{State, Frame, Error, Returned, Broke, Continued, Out, Halts, NoAnswer, Spent, entered, held_level, slots, with_steps}
 use Rattle.aml_meaning.specs.Within.{Callee, Methods, call_within, callee_or, setting_for}
 use Rattle.aml_judged.specs.Events.{Costs}
-use Rattle.aml_judged.specs.Integers.{is_integer, are_integers, is_narrow, is_narrow_buffer_field, makes_nothing, integer_name, integer_called, integers_if, integers_by_if, integers_in_if, integer_only_if, AreIntegerOnly, IsInteger, IsIntegerIfAny, AreIntegersIfAny, AreIntegers, HoldIntegers, LeavesIntegers, IsIntegral, StaysIntegral, GivesInteger, IntegersAlone, SparingMethodsWantNone}
+use Rattle.aml_judged.specs.Integers.{is_integer, are_integers, is_narrow, is_narrow_buffer_field, makes_nothing, integer_name, integer_called, integers, integers_by, integers_in, integer_only_by, AreIntegerOnly, IsInteger, IsIntegerIfAny, AreIntegersIfAny, AreIntegers, HoldIntegers, LeavesIntegers, IsIntegral, StaysIntegral, GivesInteger, IntegersAlone, IntegersWantNone, setting_within}
 use Rattle.aml_judged.specs.Judged.{Accepted}
 use Rattle.aml_judged.specs.Verdicts.{Judging}
 use Rattle.aml_judged.proofs.Events.{fields_cost}
@@ -182,17 +182,17 @@ makes_more P Q (Halts stop s) f h = tt
 makes_more P Q (NoAnswer s) f h = tt
 makes_more P Q (Spent s) f h = tt
 
--- where mutexes may be taken, or may not
-module _ (may : Bool) (kinds : ContentKinds) (script : List Event) (slept : LeavesIntegers kinds script) where
+-- where mutexes are watched, or not
+module _ (watched : Bool) (kinds : ContentKinds) (script : List Event) (slept : LeavesIntegers kinds script) where
   abbrev Good : State → Type 0
-  Good = IsIntegral kinds
+  Good = IsIntegral kinds watched
 
   abbrev Stays : {V : Type 0} → (V → Type 0) → Out V → Type 0
-  Stays P o = StaysIntegral kinds P o
+  Stays P o = StaysIntegral kinds watched P o
 
-  -- no memory is wanted, where they may not
+  -- no memory is wanted, where they are not
   abbrev Spares : Bool → Type 0
-  Spares wanted = may ≡ false → wanted ≡ false
+  Spares wanted = watched ≡ false → wanted ≡ false
 
   abbrev Always : {V : Type 0} → (V → Type 0) → M V → Type 0
   Always P m = (s : State) → Good s → Stays P (m.run script s) × Spares (m.wants script s)
@@ -205,6 +205,7 @@ module _ (may : Bool) (kinds : ContentKinds) (script : List Event) (slept : Leav
     locals = subst (λ g. AreIntegersIfAny g.locals) (sym e) h.locals;
     args = subst (λ g. AreIntegersIfAny g.args) (sym e) h.args;
     names = subst (λ n. HoldIntegers kinds n.contents) (sym f) h.names;
+    watching = subst (λ g. g.watched ≡ watched) (sym e) h.watching;
   }
 
   then_stays : {V W : Type 0} (P : V → Type 0) (Q : W → Type 0) (o : Out V) (f : V → State → Out W) → Stays P o → ((v : V) (s : State) → P v → Good s → Stays Q (f v s)) → Stays Q (then_do o f)
@@ -293,14 +294,14 @@ module _ (may : Bool) (kinds : ContentKinds) (script : List Event) (slept : Leav
 
   sets_local : (k : ℕ) (v : Value) → IsInteger v → Always Any (set_local k v)
   unfolding set_local
-  sets_local k v h s fits = ((tt, record { locals = set_ints s.frame.locals k v h fits.locals; args = fits.args; names = fits.names }), λ t. refl)
+  sets_local k v h s fits = ((tt, record { locals = set_ints s.frame.locals k v h fits.locals; args = fits.args; names = fits.names; watching = fits.watching }), λ t. refl)
 
   sets_arg : (k : ℕ) (v : Value) → IsInteger v → Always Any (set_arg k v)
   unfolding set_arg
-  sets_arg k v h s fits = ((tt, record { locals = fits.locals; args = set_ints s.frame.args k v h fits.args; names = fits.names }), λ t. refl)
+  sets_arg k v h s fits = ((tt, record { locals = fits.locals; args = set_ints s.frame.args k v h fits.args; names = fits.names; watching = fits.watching }), λ t. refl)
 
   stored_stays : (b : Bool) (table at k : ℕ) (v : Value) (s : State) → IsInteger v → Good s → Stays Any (stored_or b table at k v s)
-  stored_stays true table at k v s h fits = (tt, record { locals = fits.locals; args = fits.args; names = λ i e. changed_content IsIntegerIfAny s.names.contents k i (Some v) (λ same. h) (fits.names i e) })
+  stored_stays true table at k v s h fits = (tt, record { locals = fits.locals; args = fits.args; names = λ i e. changed_content IsIntegerIfAny s.names.contents k i (Some v) (λ same. h) (fits.names i e); watching = fits.watching })
   stored_stays false table at k v s h fits = tt
 
   sets_name : (table at k : ℕ) (v : Value) → IsInteger v → Always Any (set_name table at k v)
@@ -317,14 +318,14 @@ module _ (may : Bool) (kinds : ContentKinds) (script : List Event) (slept : Leav
   -- events
   makes_event : (event : Event) → Always Any (make_event event)
   unfolding make_event paid
-  makes_event event s fits = (step_stays Any s.steps s _ (λ n. (tt, record { locals = fits.locals; args = fits.args; names = fits.names })), λ t. refl)
+  makes_event event s fits = (step_stays Any s.steps s _ (λ n. (tt, record { locals = fits.locals; args = fits.args; names = fits.names; watching = fits.watching })), λ t. refl)
 
   behind_sleeps : (i n : ℕ) (left : Option Contents) (old : Contents) → slice_get script i ≡ Some (Slept n left) → HoldIntegers kinds old → HoldIntegers kinds (behind_sleep left old)
   behind_sleeps i n None old e h = h
   behind_sleeps i n (Some contents) old e h = slept.left i n contents e
 
   woken_by : (b : Bool) (i m n : ℕ) (left : Option Contents) (s : State) → slice_get script i ≡ Some (Slept m left) → Good s → Stays Any (woken_or b n left s)
-  woken_by true i m n left s e fits = (tt, record { locals = fits.locals; args = fits.args; names = behind_sleeps i m left s.names.contents e fits.names })
+  woken_by true i m n left s e fits = (tt, record { locals = fits.locals; args = fits.args; names = behind_sleeps i m left s.names.contents e fits.names; watching = fits.watching })
   woken_by false i m n left s e fits = tt
 
   wakes : (i n : ℕ) (event : Option Event) (s : State) → slice_get script i ≡ event → Good s → Stays Any (woken n event s)
@@ -345,21 +346,25 @@ module _ (may : Bool) (kinds : ContentKinds) (script : List Event) (slept : Leav
 
   -- mutexes
   acquires_by : (b : Bool) (table at : ℕ) (m : TakenMutex) (s : State) → Good s → Stays Any (acquired_or b table at m s)
-  acquires_by true table at m s fits = (tt, record { locals = fits.locals; args = fits.args; names = fits.names })
+  acquires_by true table at m s fits = (tt, record { locals = fits.locals; args = fits.args; names = fits.names; watching = fits.watching })
   acquires_by false table at m s fits = tt
 
-  -- memory is wanted for a mutex that is taken
-  acquires : (table at : ℕ) (m : TakenMutex) → may ≡ true → Always Any (acquire table at m)
+  watched_stays : (b : Bool) (s : State) (o : Out (Unit {0})) → Good s → Stays Any o → Stays Any (if_watched b s o)
+  watched_stays true s o fits h = h
+  watched_stays false s o fits h = (tt, fits)
+
+  -- memory is wanted for a mutex that is taken, where they are watched
+  acquires : (table at : ℕ) (m : TakenMutex) → Always Any (acquire table at m)
   unfolding acquire
-  acquires table at m e s fits = (acquires_by (nat_le (held_level s.frame) m.level) table at m s fits, λ t. sym e ∙ t)
+  acquires table at m s fits = (watched_stays s.frame.watched s _ fits (acquires_by (nat_le (held_level s.frame) m.level) table at m s fits), λ t. fits.watching ∙ t)
 
   drops_by : (o : Option (List TakenMutex)) (table at : ℕ) (s : State) → Good s → Stays Any (released_or o table at s)
-  drops_by (Some ms) table at s fits = (tt, record { locals = fits.locals; args = fits.args; names = fits.names })
+  drops_by (Some ms) table at s fits = (tt, record { locals = fits.locals; args = fits.args; names = fits.names; watching = fits.watching })
   drops_by None table at s fits = tt
 
   drops : (table at : ℕ) (m : TakenMutex) → Always Any (release table at m)
   unfolding release
-  drops table at m s fits = (drops_by (without_last m.object.0 s.frame.held) table at s fits, λ t. refl)
+  drops table at m s fits = (watched_stays s.frame.watched s _ fits (drops_by (without_last m.object.0 s.frame.held) table at s fits), λ t. refl)
 
   ends_by : (ms : List TakenMutex) (table at : ℕ) (s : State) → Good s → Stays Any (ended_or ms table at s)
   ends_by [] table at s fits = (tt, fits)
@@ -367,7 +372,7 @@ module _ (may : Bool) (kinds : ContentKinds) (script : List Event) (slept : Leav
 
   ends : (table at : ℕ) → Always Any (none_held table at)
   unfolding none_held
-  ends table at s fits = (ends_by s.frame.held table at s fits, λ t. refl)
+  ends table at s fits = (watched_stays s.frame.watched s _ fits (ends_by s.frame.held table at s fits), λ t. refl)
 
   -- loops
   choices : {V : Type 0} (P : V → Type 0) (b : Bool) (m n : M V) → Always P m → Always P n → Always P (if b then m else n)
@@ -424,8 +429,8 @@ module _ (may : Bool) (kinds : ContentKinds) (script : List Event) (slept : Leav
   peeks width p f e s fits = let int = buffer_field_int width p f (held_by f.source s) e in (peeked_stays (read_buffer_field width p f (held_by f.source s)) s int fits, λ t. result_spares (read_buffer_field width p f (held_by f.source s)) int)
 
   changed_good : (l : Link) (width : ℕ) (p : Place) (f : BufferField) (v u : Value) (s : State) → written_buffer_field width p f v (held_by l s) ≡ Ok u → Good s → Good (holding l s u)
-  changed_good (link.Data id) width p f v u s e fits = record { locals = fits.locals; args = fits.args; names = λ i g. changed_content IsIntegerIfAny s.names.contents id.0 i (Some u) (λ same. absurd (written_elsewhere width p f v (content_at s.names.contents id.0) u e (fits.names id.0 (subst (λ k. is_integer (kind_at kinds k) ≡ true) (sym same) g)))) (fits.names i g) }
-  changed_good (link.Own k) width p f v u s e fits = record { locals = fits.locals; args = fits.args; names = fits.names }
+  changed_good (link.Data id) width p f v u s e fits = record { locals = fits.locals; args = fits.args; names = λ i g. changed_content IsIntegerIfAny s.names.contents id.0 i (Some u) (λ same. absurd (written_elsewhere width p f v (content_at s.names.contents id.0) u e (fits.names id.0 (subst (λ k. is_integer (kind_at kinds k) ≡ true) (sym same) g)))) (fits.names i g); watching = fits.watching }
+  changed_good (link.Own k) width p f v u s e fits = record { locals = fits.locals; args = fits.args; names = fits.names; watching = fits.watching }
   changed_good l width p f v u s e fits = fits
 
   changed_stays : (r : Result Value AmlError) (l : Link) (width : ℕ) (p : Place) (f : BufferField) (v : Value) (s : State) → written_buffer_field width p f v (held_by l s) ≡ r → Good s → Stays Any (changed_or l s r)
@@ -442,12 +447,12 @@ module _ (may : Bool) (kinds : ContentKinds) (script : List Event) (slept : Leav
   writes_bits : (f : AnyField) (bit : ℕ → ℕ) → Always Any (write_bits f bit)
   writes_bits f bit s fits = (cost_stays Any (write_count f) s _ (fields_cost.write f bit script s) (any_made _) fits, λ t. write_wants f bit script s)
 
-  module _ (methods : Methods) (m : Callee) (only : ℕ → Bool) (call : Place → ℕ → List Value → M (Option Value)) (calls : (p : Place) (k : ℕ) (vs : List Value) (s : State) → only k ≡ true → AreIntegers vs → HoldIntegers kinds s.names.contents → GivesInteger kinds s.frame ((call p k vs).run script s) × Spares ((call p k vs).wants script s)) where
+  module _ (methods : Methods) (m : Callee) (only : ℕ → Bool) (call : Place → ℕ → List Value → M (Option Value)) (calls : (p : Place) (k : ℕ) (vs : List Value) (s : State) → only k ≡ true → AreIntegers vs → HoldIntegers kinds s.names.contents → s.frame.watched ≡ watched → GivesInteger kinds s.frame ((call p k vs).run script s) × Spares ((call p k vs).wants script s)) where
     abbrev here : Setting
     here = setting_for methods call m
 
     abbrev IntegersAt : Tree → Type 0
-    IntegersAt t = integers_if methods m kinds only may t ≡ true
+    IntegersAt t = integers methods m kinds only t ≡ true
 
     outsides : (V : Type 0) (P : V → Type 0) (at : ℕ) → Always P (outside here {V = V} at)
     outsides V P at = errs V P (record { table = here.table; at = at; cause = why.Outside })
@@ -500,7 +505,7 @@ module _ (may : Bool) (kinds : ContentKinds) (script : List Event) (slept : Leav
     targets_int (link.Object id) at v e h = absurd cc
     targets_int link.Missing at v e h = absurd cc
 
-    puts : (a : Action) (at : ℕ) (parts : Trees) (v : Value) → integers_by_if methods m kinds only may a at parts ≡ true → IsInteger v → Always Any (put here a at v)
+    puts : (a : Action) (at : ℕ) (parts : Trees) (v : Value) → integers_by methods m kinds only a at parts ≡ true → IsInteger v → Always Any (put here a at v)
     puts (Local k) at parts v e h = both Any Any tick _ ticks (λ u p. sets_local k v h)
     puts (Argument k) at parts v e h = both Any Any tick _ ticks (λ u p. sets_arg k v h)
     puts NoTarget at parts v e h = gives Any tt tt
@@ -509,7 +514,7 @@ module _ (may : Bool) (kinds : ContentKinds) (script : List Event) (slept : Leav
     puts a at parts v e h = steps_out (Unit {0}) Any (record { table = here.table; at = at; cause = why.Outside })
 
     called_stays : (s : State) (o : Out (Option Value)) → Good s → GivesInteger kinds s.frame o → Stays IsIntegerIfAny o
-    called_stays s (state.Goes v next) fits h = (h.0, record { locals = subst (λ f. AreIntegersIfAny f.locals) (sym h.1) fits.locals; args = subst (λ f. AreIntegersIfAny f.args) (sym h.1) fits.args; names = h.2 })
+    called_stays s (state.Goes v next) fits h = (h.0, record { locals = subst (λ f. AreIntegersIfAny f.locals) (sym h.1) fits.locals; args = subst (λ f. AreIntegersIfAny f.args) (sym h.1) fits.args; names = h.2; watching = subst (λ f. f.watched ≡ watched) (sym h.1) fits.watching })
     called_stays s (Halts (Error e) next) fits h = tt
     called_stays s (Halts (Returned v) next) fits h = absurd h
     called_stays s (Halts (Broke at) next) fits h = absurd h
@@ -518,7 +523,7 @@ module _ (may : Bool) (kinds : ContentKinds) (script : List Event) (slept : Leav
     called_stays s (Spent next) fits h = tt
 
     invokes : (l : Link) (at from : ℕ) (arguments : M (List Value)) → integer_called methods m kinds only l ≡ true → Always AreIntegers arguments → Always IsIntegerIfAny (invoked here l at from arguments)
-    invokes (link.Method id) at from arguments e h = both AreIntegers IsIntegerIfAny arguments _ h (λ vs p s fits. let called = calls (record { table = here.table; at = at }) id.0 vs s e p fits.names in (called_stays s _ fits called.0, called.1))
+    invokes (link.Method id) at from arguments e h = both AreIntegers IsIntegerIfAny arguments _ h (λ vs p s fits. let called = calls (record { table = here.table; at = at }) id.0 vs s e p fits.names fits.watching in (called_stays s _ fits called.0, called.1))
     invokes (link.Data id) at from arguments e h = holds_int id.0 at e
     invokes (link.Field id) at from arguments e h = reads_field (methods.field id.0) at e
     invokes (link.BufferField id) at from arguments e h = reads_buffer_field (methods.buffer_field id.0) at e
@@ -585,24 +590,24 @@ module _ (may : Bool) (kinds : ContentKinds) (script : List Event) (slept : Leav
     tests : (p : Place) (test : M Value) → Always IsInteger test → Always Any (tested here p test)
     tests p test h = both IsInteger Any test _ h (λ v q. lifts_any (integer p v))
 
-    in_parts : (a : Action) (at : ℕ) (t : Tree) (ts : Trees) → (integers_if methods m kinds only may t && integers_in_if methods m kinds only may ts) ≡ true → IntegersAt t × (integers_in_if methods m kinds only may ts ≡ true)
-    in_parts a at t ts e = and_parts (integers_if methods m kinds only may t) (integers_in_if methods m kinds only may ts) e
+    in_parts : (a : Action) (at : ℕ) (t : Tree) (ts : Trees) → (integers methods m kinds only t && integers_in methods m kinds only ts) ≡ true → IntegersAt t × (integers_in methods m kinds only ts ≡ true)
+    in_parts a at t ts e = and_parts (integers methods m kinds only t) (integers_in methods m kinds only ts) e
 
-    unwritten_in : (at : ℕ) (parts : Trees) → integers_by_if methods m kinds only may Unwritten at parts ≡ true → integers_in_if methods m kinds only may parts ≡ true
+    unwritten_in : (at : ℕ) (parts : Trees) → integers_by methods m kinds only Unwritten at parts ≡ true → integers_in methods m kinds only parts ≡ true
     unwritten_in at none e = refl
     unwritten_in at (more t ts) e = e
 
-    else_in : (o : Op) (at : ℕ) (parts : Trees) → is_else o ≡ true → integers_by_if methods m kinds only may (action o) at parts ≡ true → integers_in_if methods m kinds only may parts ≡ true
-    else_in o at parts e h = unwritten_in at parts (subst (λ a. integers_by_if methods m kinds only may a at parts ≡ true) (else_action o e) h)
+    else_in : (o : Op) (at : ℕ) (parts : Trees) → is_else o ≡ true → integers_by methods m kinds only (action o) at parts ≡ true → integers_in methods m kinds only parts ≡ true
+    else_in o at parts e h = unwritten_in at parts (subst (λ a. integers_by methods m kinds only a at parts ≡ true) (else_action o e) h)
 
     eithers : (b : Bool) (i j : M (Unit {0})) → (b ≡ true → Always Any i) → Always Any j → Always Any (if b then i else j)
     eithers true i j h g = h refl
     eithers false i j h g = g
 
-    by_node : (o : Op) (at : ℕ) (parts : Trees) → (makes_nothing (definition o) && integers_by_if methods m kinds only may (action o) at parts) ≡ true → integers_by_if methods m kinds only may (action o) at parts ≡ true
-    by_node o at parts e = (and_parts (makes_nothing (definition o)) (integers_by_if methods m kinds only may (action o) at parts) e).1
+    by_node : (o : Op) (at : ℕ) (parts : Trees) → (makes_nothing (definition o) && integers_by methods m kinds only (action o) at parts) ≡ true → integers_by methods m kinds only (action o) at parts ≡ true
+    by_node o at parts e = (and_parts (makes_nothing (definition o)) (integers_by methods m kinds only (action o) at parts) e).1
 
-    stored_ints : (a : Action) (at : ℕ) (parts : Trees) (v : Value) → integers_by_if methods m kinds only may a at parts ≡ true → IsInteger v → Always Any (stored here a at parts v)
+    stored_ints : (a : Action) (at : ℕ) (parts : Trees) (v : Value) → integers_by methods m kinds only a at parts ≡ true → IsInteger v → Always Any (stored here a at parts v)
     stored_ints Index at parts v e h = absurd cc
     stored_ints a at parts v e h = puts a at parts v e h
 
@@ -618,7 +623,7 @@ module _ (may : Bool) (kinds : ContentKinds) (script : List Event) (slept : Leav
           both IsIntegerIfAny IsInteger (if gives_value here (action o) parts then act here (action o) at parts else outside here at) _
           (choices IsIntegerIfAny (gives_value here (action o) parts) (act here (action o) at parts) (outside here at) (act_ints (action o) at parts (by_node o at parts e)) (outsides (Option Value) IsIntegerIfAny at)) (λ v q. wanted_int at v q))
 
-      act_ints : (a : Action) (at : ℕ) (parts : Trees) → integers_by_if methods m kinds only may a at parts ≡ true → Always IsIntegerIfAny (act here a at parts)
+      act_ints : (a : Action) (at : ℕ) (parts : Trees) → integers_by methods m kinds only a at parts ≡ true → Always IsIntegerIfAny (act here a at parts)
       act_ints (Literal o) at parts e = yields_int _ tt
       act_ints (Data o) at parts e = absurd cc
       act_ints (Local i) at parts e = both IsInteger IsIntegerIfAny _ _ (gets_local here.table at i) (λ v h. yields_int v h)
@@ -666,7 +671,7 @@ module _ (may : Bool) (kinds : ContentKinds) (script : List Event) (slept : Leav
       act_ints Nothing at parts e = gives IsIntegerIfAny None tt
       act_ints Name at parts e = names_int (m.link at) at e
       act_ints Invoke at (more name arguments) e =
-          let two = and_parts (integer_called methods m kinds only (m.link (at_of name))) (integers_in_if methods m kinds only may arguments) e in
+          let two = and_parts (integer_called methods m kinds only (m.link (at_of name))) (integers_in methods m kinds only arguments) e in
           invokes (m.link (at_of name)) (at_of name) _ (values here arguments) two.0 (values_ints arguments two.1)
       act_ints Notify at (more o (more a none)) e =
           let e1 = in_parts Notify at a none e in
@@ -675,26 +680,26 @@ module _ (may : Bool) (kinds : ContentKinds) (script : List Event) (slept : Leav
           let e1 = in_parts (Pause f) at a none e in
           both IsInteger IsIntegerIfAny (value here a) _ (value_ints a e1.0) (λ v q. both Any IsIntegerIfAny _ _ (lifts_any (integer (place here a) v)) (λ n t. both Any IsIntegerIfAny _ _ (pauses f n) (λ u z. gives IsIntegerIfAny None tt)))
       act_ints Acquire at (more o (more timeout none)) e =
-          both Any IsIntegerIfAny _ _ (mutexes at (action (operator_of o)) (at_of o)) (λ x p. both Any IsIntegerIfAny _ _ (acquires here.table at x e) (λ u q. yields_int (Int 0) tt))
+          both Any IsIntegerIfAny _ _ (mutexes at (action (operator_of o)) (at_of o)) (λ x p. both Any IsIntegerIfAny _ _ (acquires here.table at x) (λ u q. yields_int (Int 0) tt))
       act_ints Release at (more o none) e =
           both Any IsIntegerIfAny _ _ (mutexes at (action (operator_of o)) (at_of o)) (λ x p. both Any IsIntegerIfAny _ _ (drops here.table at x) (λ u q. gives IsIntegerIfAny None tt))
       act_ints a at parts e = outsides (Option Value) IsIntegerIfAny at
 
-      values_ints : (ts : Trees) → integers_in_if methods m kinds only may ts ≡ true → Always AreIntegers (values here ts)
+      values_ints : (ts : Trees) → integers_in methods m kinds only ts ≡ true → Always AreIntegers (values here ts)
       values_ints none e = gives AreIntegers [] tt
       values_ints (more t ts) e =
           let e1 = in_parts Invoke 0 t ts e in
           both IsInteger AreIntegers (value here t) _ (value_ints t e1.0) (λ v h. both AreIntegers AreIntegers (values here ts) _ (values_ints ts e1.1) (λ vs g. gives AreIntegers (v ∷ vs) (h, g)))
 
-      all_ints : (ts : Trees) → integers_in_if methods m kinds only may ts ≡ true → Always Any (mean_all here ts)
+      all_ints : (ts : Trees) → integers_in methods m kinds only ts ≡ true → Always Any (mean_all here ts)
       all_ints none e = gives Any tt tt
       all_ints (more t ts) e = let e1 = in_parts Invoke 0 t ts e in both IsIntegerIfAny Any (mean here t) _ (mean_ints t e1.0) (λ v h. all_ints ts e1.1)
 
-      block_ints : (ts : Trees) → integers_in_if methods m kinds only may ts ≡ true → Always Any (block here ts)
+      block_ints : (ts : Trees) → integers_in methods m kinds only ts ≡ true → Always Any (block here ts)
       block_ints none e = gives Any tt tt
       block_ints (more t ts) e = let e1 = in_parts Invoke 0 t ts e in choices Any (is_else (operator_of t)) (give tt) (mean here t >>= (λ v. block here ts)) (gives Any tt tt) (both IsIntegerIfAny Any (mean here t) _ (mean_ints t e1.0) (λ v h. block_ints ts e1.1))
 
-      otherwise_ints : (ts : Trees) → integers_in_if methods m kinds only may ts ≡ true → Always Any (otherwise here ts)
+      otherwise_ints : (ts : Trees) → integers_in methods m kinds only ts ≡ true → Always Any (otherwise here ts)
       otherwise_ints none e = gives Any tt tt
       otherwise_ints (more (Node o at stop parts) ts) e = let e1 = in_parts Invoke 0 (Node o at stop parts) ts e in eithers (is_else o) (mean_all here parts) (otherwise here ts) (λ z. all_ints parts (else_in o at parts z (by_node o at parts e1.0))) (otherwise_ints ts e1.1)
 
@@ -704,13 +709,13 @@ module _ (may : Bool) (kinds : ContentKinds) (script : List Event) (slept : Leav
     stated_ints d t z e = absurd cc
 
     statement_ints : (t : Tree) → IntegersAt t → Always Any (statement here t)
-    statement_ints (Node o at stop parts) e = stated_ints (definition o) (Node o at stop parts) (and_parts (makes_nothing (definition o)) (integers_by_if methods m kinds only may (action o) at parts) e).0 e
+    statement_ints (Node o at stop parts) e = stated_ints (definition o) (Node o at stop parts) (and_parts (makes_nothing (definition o)) (integers_by methods m kinds only (action o) at parts) e).0 e
 
-    body_ints : (ts : Trees) → integers_in_if methods m kinds only may ts ≡ true → Always Any (mean_body here ts)
+    body_ints : (ts : Trees) → integers_in methods m kinds only ts ≡ true → Always Any (mean_body here ts)
     body_ints none e = gives Any tt tt
     body_ints (more t ts) e = let e1 = in_parts Invoke 0 t ts e in both Any Any (statement here t) _ (statement_ints t e1.0) (λ u h. body_ints ts e1.1)
 
-    pub method_ints : integers_in_if methods m kinds only may m.body ≡ true → Always Any (mean_method here m.body)
+    pub method_ints : integers_in methods m kinds only m.body ≡ true → Always Any (mean_method here m.body)
     method_ints e = both Any Any (mean_body here m.body) _ (body_ints m.body e) (λ u h. ends here.table here.opcode)
 
 slots_ints : (n : ℕ) (vs : List Value) → AreIntegers vs → AreIntegersIfAny (slots n vs)
@@ -718,34 +723,34 @@ slots_ints zero vs h = tt
 slots_ints (suc n) [] h = (tt, slots_ints n [] tt)
 slots_ints (suc n) (v ∷ vs) h = (h.0, slots_ints n vs h.1)
 
-left_ints : (kinds : ContentKinds) (table : ℕ) (frame : Frame) (o : Out (Unit {0})) → StaysIntegral kinds (λ u. Unit {0}) o → GivesInteger kinds frame (left table frame o)
-left_ints kinds table frame (state.Goes u s) h = (tt, refl, h.1.names)
-left_ints kinds table frame (Halts (Error e) s) h = tt
-left_ints kinds table frame (Halts (Returned v) s) h = (h.0, refl, h.1.names)
-left_ints kinds table frame (Halts (Broke at) s) h = tt
-left_ints kinds table frame (Halts (Continued at) s) h = tt
-left_ints kinds table frame (NoAnswer s) h = tt
-left_ints kinds table frame (Spent s) h = tt
+left_ints : (watched : Bool) (kinds : ContentKinds) (table : ℕ) (frame : Frame) (o : Out (Unit {0})) → StaysIntegral kinds watched (λ u. Unit {0}) o → GivesInteger kinds frame (left table frame o)
+left_ints watched kinds table frame (state.Goes u s) h = (tt, refl, h.1.names)
+left_ints watched kinds table frame (Halts (Error e) s) h = tt
+left_ints watched kinds table frame (Halts (Returned v) s) h = (h.0, refl, h.1.names)
+left_ints watched kinds table frame (Halts (Broke at) s) h = tt
+left_ints watched kinds table frame (Halts (Continued at) s) h = tt
+left_ints watched kinds table frame (NoAnswer s) h = tt
+left_ints watched kinds table frame (Spent s) h = tt
 
-module _ (may : Bool) (all : Judging) (known : ℕ → Option Accepted) (only : ℕ → Bool) (are : (k : ℕ) → only k ≡ true → integer_only_if all may only k (known k) (all.methods.callee k) ≡ true) (script : List Event) (slept : LeavesIntegers all.kinds script) where
+module _ (watched : Bool) (all : Judging) (known : ℕ → Option Accepted) (only : ℕ → Bool) (are : (k : ℕ) → only k ≡ true → integer_only_by all only k (known k) (all.methods.callee k) ≡ true) (script : List Event) (slept : LeavesIntegers all.kinds script) where
   -- of an evaluation in a frame
   abbrev Gives : Frame → M (Option Value) → State → Type 0
-  Gives frame m s = GivesInteger all.kinds frame (m.run script s) × (may ≡ false → m.wants script s ≡ false)
+  Gives frame m s = GivesInteger all.kinds frame (m.run script s) × (watched ≡ false → m.wants script s ≡ false)
 
   abbrev Calls : (Place → ℕ → List Value → M (Option Value)) → Type 0
-  Calls call = (p : Place) (k : ℕ) (vs : List Value) (s : State) → only k ≡ true → AreIntegers vs → HoldIntegers all.kinds s.names.contents → Gives s.frame (call p k vs) s
+  Calls call = (p : Place) (k : ℕ) (vs : List Value) (s : State) → only k ≡ true → AreIntegers vs → HoldIntegers all.kinds s.names.contents → s.frame.watched ≡ watched → Gives s.frame (call p k vs) s
 
-  only_says : (k : ℕ) (a : Option Accepted) (m : Callee) → integer_only_if all may only k a (Some m) ≡ true → integers_in_if all.methods m all.kinds only may m.body ≡ true
-  only_says k (Some a) m e = (and_parts (are_integers (all.args k)) (integers_in_if all.methods m all.kinds only may m.body) e).1
+  only_says : (k : ℕ) (a : Option Accepted) (m : Callee) → integer_only_by all only k a (Some m) ≡ true → integers_in all.methods m all.kinds only m.body ≡ true
+  only_says k (Some a) m e = (and_parts (are_integers (all.args k)) (integers_in all.methods m all.kinds only m.body) e).1
   only_says k None m e = absurd cc
 
-  entered_ints : (d k : ℕ) (p : Place) (o : Option Callee) (vs : List Value) (s : State) → Calls (call_within all.methods d) → all.methods.callee k ≡ o → only k ≡ true → AreIntegers vs → HoldIntegers all.kinds s.names.contents → Gives s.frame (callee_or p o (λ m. framed m.table vs (mean_method (setting_for all.methods (call_within all.methods d) m) m.body))) s
+  entered_ints : (d k : ℕ) (p : Place) (o : Option Callee) (vs : List Value) (s : State) → Calls (call_within all.methods d) → all.methods.callee k ≡ o → only k ≡ true → AreIntegers vs → HoldIntegers all.kinds s.names.contents → s.frame.watched ≡ watched → Gives s.frame (callee_or p o (λ m. framed m.table vs (mean_method (setting_for all.methods (call_within all.methods d) m) m.body))) s
   unfolding framed stop_with
-  entered_ints d k p None vs s calls is e h names = (tt, λ t. refl)
-  entered_ints d k p (Some m) vs s calls is e h names =
-      let says : integer_only_if all may only k (known k) (Some m) ≡ true = subst (λ o. integer_only_if all may only k (known k) o ≡ true) is (are k e) in
-      let body = method_ints may all.kinds script slept all.methods m only (call_within all.methods d) calls (only_says k (known k) m says) (inside vs s) (record { locals = slots_ints 8 [] tt; args = slots_ints 7 vs h; names = names }) in
-      (left_ints all.kinds m.table s.frame _ body.0, body.1)
+  entered_ints d k p None vs s calls is e h names w = (tt, λ t. refl)
+  entered_ints d k p (Some m) vs s calls is e h names w =
+      let says : integer_only_by all only k (known k) (Some m) ≡ true = subst (λ o. integer_only_by all only k (known k) o ≡ true) is (are k e) in
+      let body = method_ints watched all.kinds script slept all.methods m only (call_within all.methods d) calls (only_says k (known k) m says) (inside vs s) (record { locals = slots_ints 8 [] tt; args = slots_ints 7 vs h; names = names; watching = w }) in
+      (left_ints watched all.kinds m.table s.frame _ body.0, body.1)
 
   none_within : (p : Place) (o : Option Callee) (frame : Frame) (s : State) → Gives frame (callee_or p o (λ m. stop_with (Error (record { table = p.table; at = p.at; cause = why.Depth })))) s
   unfolding stop_with
@@ -754,24 +759,33 @@ module _ (may : Bool) (all : Judging) (known : ℕ → Option Accepted) (only : 
 
   calls_ints : (d : ℕ) → Calls (call_within all.methods d)
   unfolding call_within
-  calls_ints zero p k vs s e h names = none_within p (all.methods.callee k) s.frame s
-  calls_ints (suc d) p k vs s e h names = entered_ints d k p (all.methods.callee k) vs s (calls_ints d) refl e h names
+  calls_ints zero p k vs s e h names w = none_within p (all.methods.callee k) s.frame s
+  calls_ints (suc d) p k vs s e h names w = entered_ints d k p (all.methods.callee k) vs s (calls_ints d) refl e h names w
 
-module _ (all : Judging) (known : ℕ → Option Accepted) (only : ℕ → Bool) where
-  only_are : AreIntegerOnly all known only → (k : ℕ) → only k ≡ true → integer_only_if all true only k (known k) (all.methods.callee k) ≡ true
-  only_are are k e = sym (are.each k) ∙ e
+module _ (watched : Bool) (all : Judging) (known : ℕ → Option Accepted) (only : ℕ → Bool) (are : AreIntegerOnly all known only) (script : List Event) (slept : LeavesIntegers all.kinds script) where
+  only_are : (k : ℕ) → only k ≡ true → integer_only_by all only k (known k) (all.methods.callee k) ≡ true
+  only_are k e = sym (are.each k) ∙ e
+
+  statement_alone : (d : ℕ) (m : Callee) (t : Tree) → integers all.methods m all.kinds only t ≡ true → Always watched all.kinds script slept IsIntegerIfAny (mean (setting_within all d m) t)
+  statement_alone d m t e = mean_ints watched all.kinds script slept all.methods m only (call_within all.methods d) (calls_ints watched all known only only_are script slept d) t e
+
+  operand_alone : (d : ℕ) (m : Callee) (t : Tree) → integers all.methods m all.kinds only t ≡ true → Always watched all.kinds script slept IsInteger (value (setting_within all d m) t)
+  operand_alone d m t e = value_ints watched all.kinds script slept all.methods m only (call_within all.methods d) (calls_ints watched all known only only_are script slept d) t e
+
+  call_alone : (d : ℕ) → Calls watched all known only only_are script slept (call_within all.methods d)
+  call_alone d = calls_ints watched all known only only_are script slept d
 
 pub integers_alone : IntegersAlone
 integers_alone = record {
-  statements = λ all known only are d m t e script slept s fits. (mean_ints true all.kinds script slept all.methods m only (call_within all.methods d) (calls_ints true all known only (only_are all known only are) script slept d) t e s fits).0;
-  operands = λ all known only are d m t e script slept s fits. (value_ints true all.kinds script slept all.methods m only (call_within all.methods d) (calls_ints true all known only (only_are all known only are) script slept d) t e s fits).0;
-  calls = λ all known only are d p k values e h script slept s names. (calls_ints true all known only (only_are all known only are) script slept d p k values s e h names).0;
+  statements = λ all known only are d m t e script slept watched s fits. (statement_alone watched all known only are script slept d m t e s fits).0;
+  operands = λ all known only are d m t e script slept watched s fits. (operand_alone watched all known only are script slept d m t e s fits).0;
+  calls = λ all known only are d p k values e h script slept s names. (call_alone s.frame.watched all known only are script slept d p k values s e h names refl).0;
 }
 
-pub sparing_methods_want_none : SparingMethodsWantNone
-sparing_methods_want_none = record {
-  statements = λ all known spare are d m t e script slept s fits. (mean_ints false all.kinds script slept all.methods m spare (call_within all.methods d) (calls_ints false all known spare are.each script slept d) t e s fits).1 refl;
-  operands = λ all known spare are d m t e script slept s fits. (value_ints false all.kinds script slept all.methods m spare (call_within all.methods d) (calls_ints false all known spare are.each script slept d) t e s fits).1 refl;
-  calls = λ all known spare are d p k values e h script slept s names. (calls_ints false all known spare are.each script slept d p k values s e h names).1 refl;
-  methods = λ all known spare are d k m values is e h script slept s names. (entered_ints false all known spare are.each script slept d k (record { table = 0; at = 0 }) (Some m) values s (calls_ints false all known spare are.each script slept d) is e h names).1 refl;
+pub integers_want_none : IntegersWantNone
+integers_want_none = record {
+  statements = λ all known only are d m t e script slept s fits. (statement_alone false all known only are script slept d m t e s fits).1 refl;
+  operands = λ all known only are d m t e script slept s fits. (operand_alone false all known only are script slept d m t e s fits).1 refl;
+  calls = λ all known only are d p k values e h script slept s names unwatched. (call_alone false all known only are script slept d p k values s e h names unwatched).1 refl;
+  methods = λ all known only are d k m values is e h script slept s names unwatched. (entered_ints false all known only (only_are false all known only are script slept) script slept d k (record { table = 0; at = 0 }) (Some m) values s (call_alone false all known only are script slept d) is e h names unwatched).1 refl;
 }

@@ -24,7 +24,7 @@ use Rattle.aml_judged.proofs.Words.{words_of}
 use Rattle.aml_judged.proofs.FieldsSafe.{field_safe}
 use Rattle.aml_judged.proofs.BufferFieldsSafe.{buffer_field_safe}
 use Rattle.aml_judged.proofs.KindRules.{plain, interface_follows}
-use Rattle.aml_judged.specs.Safe.{FitScript, FitNames, FitSlots, FitAll, IsCalled, AreCalls, Allows, FitsHeld}
+use Rattle.aml_judged.specs.Safe.{FitScript, FitNames, FitSlots, FitAll, IsCalled, AreCalls, Allows, FitsHeld, IsUnder}
 use Rattle.aml_judged.proofs.Fits.{within_fits}
 use Rattle.aml_judged.proofs.Parts.{safe_then, after_safe}
 use Rattle.aml_judged.proofs.ReadsSafe.{lift_safe, content_safe, own_safe}
@@ -91,7 +91,7 @@ module _ (here : Setting) (kinds : NameKinds) (callee : ℕ → Seen) (above : �
   levels_free at least env s fits = by env.held fits.holds least
     where
       level_by : (b : Bool) (l : ℕ) (ms : List TakenMutex) → nat_le (greatest_level 0 ms) l ≡ b → s.frame.held ≡ ms → Free (λ u. above ≤ l → held_level s.frame ≤ l) env (level_or around b at env)
-      level_by true l ms e h = (refl, λ le. level_allowed above l s.frame.outside s.frame.held ms h fits.callers e le)
+      level_by true l ms e h = (refl, λ le. level_allowed above l s.frame.outside s.frame.held ms h fits.callers.0 e le)
       level_by false l ms e h = tt
 
       by : (k : Held) → FitsHeld s.frame.held k → (o : Option ℕ) → Free (λ u. Allows o above → Allows o (held_level s.frame)) env (holding_by around at (λ ms. level_or around (is_level around o ms) at) k env)
@@ -100,7 +100,7 @@ module _ (here : Setting) (kinds : NameKinds) (callee : ℕ → Seen) (above : �
       by Different h o = tt
 
   called : (a : Accepted) (env : Env) (s : State) (o : Out (Option Value)) → IsCalled here.width kinds a s.frame s.steps o → (Allows a.least above → Allows a.least (held_level s.frame)) → Fine env s → Safe (plain Yields) s.steps (calling around a env) o
-  called a env s (state.Goes v next) h low fits = (h.0, record { owned = subst (λ f. FitNames here.width kinds.owns f.owns) (sym h.1) fits.owned; fields = subst (λ f. f.fields ≡ kinds.fields) (sym h.1) fits.fields; holds = subst (λ f. FitsHeld f.held env.held) (sym h.1) fits.holds; callers = subst (λ f. f.outside ≡ above) (sym h.1) fits.callers; reached = fits.reached; own = subst (λ f. FitSlots here.width f.locals env.locals) (sym h.1) fits.own; given = subst (λ f. FitSlots here.width f.args env.args) (sym h.1) fits.given; shared = h.2 }, h.3)
+  called a env s (state.Goes v next) h low fits = (h.0, record { owned = subst (λ f. FitNames here.width kinds.owns f.owns) (sym h.1) fits.owned; fields = subst (λ f. f.fields ≡ kinds.fields) (sym h.1) fits.fields; holds = subst (λ f. FitsHeld f.held env.held) (sym h.1) fits.holds; callers = subst (IsUnder above) (sym h.1) fits.callers; reached = fits.reached; own = subst (λ f. FitSlots here.width f.locals env.locals) (sym h.1) fits.own; given = subst (λ f. FitSlots here.width f.args env.args) (sym h.1) fits.given; shared = h.2 }, h.3)
   called a env s (Halts (Error e) next) h low fits = ((h.0.0, λ le. h.0.1 (low le)), h.1)
   called a env s (Halts (Returned v) next) h low fits = absurd h
   called a env s (Halts (Broke at) next) h low fits = absurd h
@@ -115,7 +115,7 @@ module _ (here : Setting) (kinds : NameKinds) (callee : ℕ → Seen) (above : �
       free_then Nothing_said (plain Yields) env (not_deep around at m.deep env) _ s.steps _ (deep_free at m.deep env) (λ u2 z2.
       free_then (λ u3. FitAll here.width vs a.args) (plain Yields) env (are_within around ks a.args arguments env) _ s.steps _ (within_free vs ks a.args arguments env h) (λ u3 fit.
       free_then (λ u4. Allows a.least above → Allows a.least (held_level s.frame)) (plain Yields) env (judged_levels around at a.least env) _ s.steps _ (levels_free at a.least env s fits) (λ u4 low.
-      called a env s _ (calls.each p i a vs script s (ap (λ n. n.accepted) e ∙ is) fit fits.shared slept) low fits)))))
+      called a env s _ (calls.each p i a vs script s (ap (λ n. n.accepted) e ∙ is) fit fits.shared slept fits.callers.1) low fits)))))
 
   interface_safe : (at from : ℕ) (arguments : Trees) (ks : List Kind) (vs : List Value) (env : Env) (s : State) → FitAll here.width vs ks → Fine env s → Safe (plain Yields) s.steps (judged_interface around at arguments ks env) ((interface_asked here at from vs).run script s)
   unfolding ◌>>=◌ give

@@ -1,12 +1,12 @@
 -- Return, Break and Continue, as they are judged.
-use Rattle.std.proofs.Common.{◌≡◌, ℕ, List, [], ◌∷◌, Option, arith}
+use Rattle.std.proofs.Common.{◌≡◌, ℕ, List, [], ◌∷◌, Option, arith, subst, sym}
 use Rattle.std.specs.Prelude.{Bool, true, false}
 use Rattle.aml_values.specs.Values.{Value}
 use Rattle.aml_kinds.specs.Kinds.{Kind}
 use Rattle.aml_regions.specs.Events.{Event}
 use Rattle.aml_meaning.specs.State.{State, Returned, Broke, Continued, Halts}
 use Rattle.aml_meaning.specs.Parts.{stop_with, then_do}
-use Rattle.aml_meaning.specs.Mutexes.{ended_or, none_held}
+use Rattle.aml_meaning.specs.Mutexes.{ended_or, if_watched, none_held}
 use Rattle.aml_meaning.specs.declared.mutex.TakenMutex.{TakenMutex}
 use Rattle.aml_meaning.specs.Meaning.{Setting, held}
 use Rattle.aml_judged.specs.Known.{Env, Held, These, Different}
@@ -31,7 +31,9 @@ module _ (here : Setting) (kinds : NameKinds) (callee : ℕ → Seen) (above : �
   -- a Return, where no mutex is held
   pub return_safe : (at : ℕ) (k : Kind) (v : Value) (env : Env) (s : State) → Is v k → Fine env s → Safe (plain Yields) s.steps (then_judge (judged_none_held around at env) (λ u. returning around k)) (then_do ((none_held here.table at).run script s) (λ u next. (stop_with {V = Option Value} (Returned v)).run script next))
   unfolding stop_with none_held
-  return_safe at k v env s h fits = by env.counts env.held s.frame.held fits.reached fits.holds
+  return_safe at k v env s h fits =
+      subst (λ b. Safe (plain Yields) s.steps (then_judge (judged_none_held around at env) (λ u. returning around k)) (then_do {W = Option Value} (if_watched b s (ended_or s.frame.held here.table at s)) (λ u next. Halts (Returned v) next)))
+      (sym fits.callers.1) (by env.counts env.held s.frame.held fits.reached fits.holds)
     where
       by : (c : Bool) (known : Held) (held : List TakenMutex) → c ≡ true → FitsHeld held known → Safe (plain Yields) s.steps (then_judge (none_held_at around c known at env) (λ u. returning around k)) (then_do {W = Option Value} (ended_or held here.table at s) (λ u next. Halts (Returned v) next))
       by true (These []) [] e f = ((counted_return env.counts k v fits.reached h, fits.shared), omega arith)

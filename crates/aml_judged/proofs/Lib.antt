@@ -40,9 +40,6 @@ pub mod LoopPlaces
 pub mod Sums
 pub mod SumExamples
 pub mod Seen
-pub mod Mutexless
-pub mod AllJudged
-pub mod MutexlessExamples
 pub mod Fine
 pub mod InPlace
 pub mod Mutexes

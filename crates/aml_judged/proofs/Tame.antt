@@ -31,7 +31,7 @@ use Rattle.aml_meaning.specs.BufferFields.{read_buffer_field, usable_buffer_fiel
 use Rattle.aml_meaning.specs.FieldValues.{given_bits, wanted_field}
 use Rattle.aml_meaning.specs.Fields.{read_value, write_bits, read_count, write_count}
 use Rattle.aml_meaning.specs.Notices.{notice, paused}
-use Rattle.aml_meaning.specs.Mutexes.{acquire, acquired_or, ended_or, none_held, release, released_or, without_last}
+use Rattle.aml_meaning.specs.Mutexes.{acquire, acquired_or, ended_or, if_watched, none_held, release, released_or, without_last}
 use Rattle.aml_meaning.specs.declared.mutex.TakenMutex.{TakenMutex}
 use Rattle.aml_meaning.specs.declared.action.Pause.{Pause as PauseKind}
 use Rattle.aml_meaning.specs.declared.action.Pause.TheVariants as pause
@@ -267,9 +267,13 @@ module _ (w : Option ℕ) where
   ended_tame c [] table at s = kept_same w s.frame s.frame refl
   ended_tame c (m ∷ ms) table at s = tt
 
+  watched_tame : (c b : Bool) (s : State) (o : Out (Unit {0})) → Tame w c s o → Tame w c s (if_watched b s o)
+  watched_tame c true s o h = h
+  watched_tame c false s o h = kept_same w s.frame s.frame refl
+
   none_held_tame : (c : Bool) (table at : ℕ) → AlwaysTame w c (none_held table at)
   unfolding none_held
-  none_held_tame c table at script s = ended_tame c s.frame.held table at s
+  none_held_tame c table at script s = watched_tame c s.frame.watched s _ (ended_tame c s.frame.held table at s)
 
   acquired_tame : (c may : Bool) (table at : ℕ) (m : TakenMutex) (s : State) → Tame w c s (acquired_or may table at m s)
   acquired_tame c true table at m s = kept_locals w s.frame _ refl
@@ -277,7 +281,7 @@ module _ (w : Option ℕ) where
 
   acquire_tame : (c : Bool) (table at : ℕ) (m : TakenMutex) → AlwaysTame w c (acquire table at m)
   unfolding acquire
-  acquire_tame c table at m script s = acquired_tame c (nat_le (held_level s.frame) m.level) table at m s
+  acquire_tame c table at m script s = watched_tame c s.frame.watched s _ (acquired_tame c (nat_le (held_level s.frame) m.level) table at m s)
 
   released_tame : (c : Bool) (held : Option (List TakenMutex)) (table at : ℕ) (s : State) → Tame w c s (released_or held table at s)
   released_tame c (Some held) table at s = kept_locals w s.frame _ refl
@@ -285,7 +289,7 @@ module _ (w : Option ℕ) where
 
   release_tame : (c : Bool) (table at : ℕ) (m : TakenMutex) → AlwaysTame w c (release table at m)
   unfolding release
-  release_tame c table at m script s = released_tame c (without_last m.object.0 s.frame.held) table at s
+  release_tame c table at m script s = watched_tame c s.frame.watched s _ (released_tame c (without_last m.object.0 s.frame.held) table at s)
 
   cost_tame : {V : Type 0} (c : Bool) (n : ℕ) (s : State) (o : Out V) → Costs n s o → Tame w c s o
   cost_tame c n s (state.Goes v last) h = kept_same w s.frame last.frame h.1

@@ -88,7 +88,7 @@ abbrev nothing_yet : Log
 nothing_yet = record { events = []; refusals = 0 }
 
 callable : (script : List Event) (names : Names) → FitNames 64 [] names → FitScript 64 [] script → IsCallable all known 1 second calls_it [] script (before names 35 nothing_yet)
-callable script names shared slept = record { accepted = refl; there = refl; arguments = tt; names = shared; answers = slept }
+callable script names shared slept = record { accepted = refl; there = refl; arguments = tt; names = shared; answers = slept; watched = refl }
 
 -- with 35 steps, whatever the script, the second method is done with an integer
 calling_is_done : (script : List Event) (names : Names) → FitNames 64 [] names → FitScript 64 [] script → IsDone all second (evaluation all calls_it [] script (before names 35 nothing_yet))

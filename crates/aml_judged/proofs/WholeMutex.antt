@@ -81,10 +81,10 @@ are_verdicts = record { width = width_of.Bits64; bits = refl; small = are_small;
 
 -- with four steps, called from a method that holds mutexes up to a level
 abbrev under : ℕ → Names → State
-under level names = record (before names 4 (record { events = []; refusals = 0 })) { frame = entered level [] }
+under level names = record (before names 4 (record { events = []; refusals = 0 })) { frame = entered true level [] }
 
 callable : (level : ℕ) (script : List Event) (names : Names) → FitNames 64 [] names → FitScript 64 [] script → IsCallable all known 0 accepted takes_it [] script (under level names)
-callable level script names shared slept = record { accepted = refl; there = refl; arguments = tt; names = shared; answers = slept }
+callable level script names shared slept = record { accepted = refl; there = refl; arguments = tt; names = shared; answers = slept; watched = refl }
 
 -- up to level 3 it is done
 taken_below : (level : ℕ) → level ≤ 3 → (script : List Event) (names : Names) → FitNames 64 [] names → FitScript 64 [] script → IsDone all accepted (evaluation all takes_it [] script (under level names))

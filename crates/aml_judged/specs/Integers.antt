@@ -1,6 +1,6 @@
 -- Methods that evaluate integers alone: each term of such a method that has a value has an integer,
 -- names, locals and arguments that are read or written by what they hold, and it makes no own name
--- (own). Where none of them takes a mutex either, they want memory nowhere.
+-- (own). Where mutexes are not watched, such a method wants memory nowhere.
 use Rattle.std.specs.Prelude.{◌≡◌, ℕ, ◌&&◌, nat_le, List, [], ◌∷◌, Option, Some, None, slice_get, Bool, true, false}
 use Rattle.aml_operators.specs.Tree.{Tree, Trees, Node, none, more}
 use Rattle.aml_namespace.specs.declared.link.Link.{Link}
@@ -73,65 +73,41 @@ module _ (methods : Methods) (m : Callee) (kinds : ContentKinds) (only : ℕ →
   integer_asked (link.Own k) = false
   integer_asked l = true
 
-  -- where mutexes may be taken, or may not
-  module _ (takes : Bool) where
-    abbrev mutual
-      pub integers_if : Tree → Bool
-      integers_if (Node o at stop parts) =
-          makes_nothing (definition o) && integers_by_if (action o) at parts
+  abbrev mutual
+    pub integers : Tree → Bool
+    integers (Node o at stop parts) =
+        makes_nothing (definition o) && integers_by (action o) at parts
 
-      pub integers_by_if : Action → ℕ → Trees → Bool
-      integers_by_if (Data o) at parts = false
-      integers_by_if Concatenate at parts = false
-      integers_by_if SizeOf at parts = false
-      integers_by_if Dereference at parts = false
-      integers_by_if Index at parts = false
-      integers_by_if (Convert conversion.ToBuffer) at parts = false
-      integers_by_if Name at parts = integer_name (m.link at)
-      integers_by_if Invoke at (more name arguments) =
-          integer_called (m.link (at_of name)) && integers_in_if arguments
-      integers_by_if CondRefOf at (more (Node o from stop parts) ts) =
-          integer_asked (m.link from)
-      integers_by_if Notify at (more o ts) = integers_in_if ts
-      integers_by_if Acquire at parts = takes
-      integers_by_if Release at parts = true
-      integers_by_if a at none = true
-      integers_by_if a at (more t ts) = integers_if t && integers_in_if ts
+    pub integers_by : Action → ℕ → Trees → Bool
+    integers_by (Data o) at parts = false
+    integers_by Concatenate at parts = false
+    integers_by SizeOf at parts = false
+    integers_by Dereference at parts = false
+    integers_by Index at parts = false
+    integers_by (Convert conversion.ToBuffer) at parts = false
+    integers_by Name at parts = integer_name (m.link at)
+    integers_by Invoke at (more name arguments) =
+        integer_called (m.link (at_of name)) && integers_in arguments
+    integers_by CondRefOf at (more (Node o from stop parts) ts) = integer_asked (m.link from)
+    integers_by Notify at (more o ts) = integers_in ts
+    integers_by Acquire at parts = true
+    integers_by Release at parts = true
+    integers_by a at none = true
+    integers_by a at (more t ts) = integers t && integers_in ts
 
-      pub integers_in_if : Trees → Bool
-      integers_in_if none = true
-      integers_in_if (more t ts) = integers_if t && integers_in_if ts
-
-  -- where they may be taken
-  abbrev pub integers : Tree → Bool
-  integers t = integers_if true t
-
-  abbrev pub integers_by : Action → ℕ → Trees → Bool
-  integers_by a at parts = integers_by_if true a at parts
-
-  abbrev pub integers_in : Trees → Bool
-  integers_in ts = integers_in_if true ts
+    pub integers_in : Trees → Bool
+    integers_in none = true
+    integers_in (more t ts) = integers t && integers_in ts
 
 module _ (all : Judging) where
-  -- of an accepted method, whose mutexes may be taken, or may not
-  abbrev pub integer_only_if : Bool → (ℕ → Bool) → ℕ → Option Accepted → Option Callee → Bool
-  integer_only_if takes only k (Some a) (Some m) =
-      are_integers (all.args k) && integers_in_if all.methods m all.kinds only takes m.body
-  integer_only_if takes only k known m = false
-
   abbrev pub integer_only_by : (ℕ → Bool) → ℕ → Option Accepted → Option Callee → Bool
-  integer_only_by only k known m = integer_only_if true only k known m
+  integer_only_by only k (Some a) (Some m) =
+      are_integers (all.args k) && integers_in all.methods m all.kinds only m.body
+  integer_only_by only k known m = false
 
   -- the accepted methods that are integer-only, by those that they call
   pub record AreIntegerOnly (known : ℕ → Option Accepted) (only : ℕ → Bool) : Type 0 where
     pub each : (k : ℕ) → only k ≡ integer_only_by only k (known k) (all.methods.callee k)
-
-  -- accepted methods that are integer-only and take no mutex, nor do those that they call; not all
-  -- such methods need be among them
-  pub record AreSparing (known : ℕ → Option Accepted) (spare : ℕ → Bool) : Type 0 where
-    pub each :
-        (k : ℕ) → spare k ≡ true →
-        integer_only_if false spare k (known k) (all.methods.callee k) ≡ true
 
 abbrev pub IsInteger : Value → Type 0
 IsInteger (Int n) = Unit {0}
@@ -161,22 +137,25 @@ module _ (kinds : ContentKinds) where
         (i milliseconds : ℕ) (contents : Contents) →
         slice_get script i ≡ Some (Slept milliseconds (Some contents)) → HoldIntegers contents
 
-  -- locals and arguments hold nothing or integers, and so do names of integers
-  pub record IsIntegral (s : State) : Type 0 where
-    pub locals : AreIntegersIfAny s.frame.locals
-    pub args : AreIntegersIfAny s.frame.args
-    pub names : HoldIntegers s.names.contents
+  module _ (watched : Bool) where
+    -- locals and arguments hold nothing or integers, and so do names of integers; and mutexes are
+    -- watched, or not
+    pub record IsIntegral (s : State) : Type 0 where
+      pub locals : AreIntegersIfAny s.frame.locals
+      pub args : AreIntegersIfAny s.frame.args
+      pub names : HoldIntegers s.names.contents
+      pub watching : s.frame.watched ≡ watched
 
-  -- goes on with what is wanted, or leaves by a Return of an integer, a Break or a Continue; the
-  -- state is still such
-  abbrev pub StaysIntegral : {V : Type 0} → (V → Type 0) → Out V → Type 0
-  StaysIntegral P (state.Goes v s) = P v × IsIntegral s
-  StaysIntegral P (Halts (Error e) s) = Unit {0}
-  StaysIntegral P (Halts (Returned v) s) = IsInteger v × IsIntegral s
-  StaysIntegral P (Halts (Broke at) s) = IsIntegral s
-  StaysIntegral P (Halts (Continued at) s) = IsIntegral s
-  StaysIntegral P (NoAnswer s) = Unit {0}
-  StaysIntegral P (Spent s) = Unit {0}
+    -- goes on with what is wanted, or leaves by a Return of an integer, a Break or a Continue; the
+    -- state is still such
+    abbrev pub StaysIntegral : {V : Type 0} → (V → Type 0) → Out V → Type 0
+    StaysIntegral P (state.Goes v s) = P v × IsIntegral s
+    StaysIntegral P (Halts (Error e) s) = Unit {0}
+    StaysIntegral P (Halts (Returned v) s) = IsInteger v × IsIntegral s
+    StaysIntegral P (Halts (Broke at) s) = IsIntegral s
+    StaysIntegral P (Halts (Continued at) s) = IsIntegral s
+    StaysIntegral P (NoAnswer s) = Unit {0}
+    StaysIntegral P (Spent s) = Unit {0}
 
   -- a call gives an integer, if anything, and leaves the frame alone
   abbrev pub GivesInteger : Frame → Out (Option Value) → Type 0
@@ -199,15 +178,15 @@ pub record IntegersAlone : Type 0 where
       AreIntegerOnly all known only →
       (d : ℕ) (m : Callee) (t : Tree) → integers all.methods m all.kinds only t ≡ true →
       (script : List Event) → LeavesIntegers all.kinds script →
-      (s : State) → IsIntegral all.kinds s →
-      StaysIntegral all.kinds IsIntegerIfAny ((mean (setting_within all d m) t).run script s)
+      (watched : Bool) (s : State) → IsIntegral all.kinds watched s →
+      StaysIntegral all.kinds watched IsIntegerIfAny ((mean (setting_within all d m) t).run script s)
   pub operands :
       (all : Judging) (known : ℕ → Option Accepted) (only : ℕ → Bool) →
       AreIntegerOnly all known only →
       (d : ℕ) (m : Callee) (t : Tree) → integers all.methods m all.kinds only t ≡ true →
       (script : List Event) → LeavesIntegers all.kinds script →
-      (s : State) → IsIntegral all.kinds s →
-      StaysIntegral all.kinds IsInteger ((value (setting_within all d m) t).run script s)
+      (watched : Bool) (s : State) → IsIntegral all.kinds watched s →
+      StaysIntegral all.kinds watched IsInteger ((value (setting_within all d m) t).run script s)
   pub calls :
       (all : Judging) (known : ℕ → Option Accepted) (only : ℕ → Bool) →
       AreIntegerOnly all known only →
@@ -216,37 +195,35 @@ pub record IntegersAlone : Type 0 where
       (s : State) → HoldIntegers all.kinds s.names.contents →
       GivesInteger all.kinds s.frame ((call_within all.methods d p k values).run script s)
 
--- in a sparing method memory is wanted by no statement and by no operand, nor by a call of it, nor
--- by the whole of it
-pub record SparingMethodsWantNone : Type 0 where
+-- where mutexes are not watched, memory is wanted by no statement and by no operand of an
+-- integer-only method, nor by a call of it, nor by the whole of it
+pub record IntegersWantNone : Type 0 where
   pub statements :
-      (all : Judging) (known : ℕ → Option Accepted) (spare : ℕ → Bool) →
-      AreSparing all known spare →
-      (d : ℕ) (m : Callee) (t : Tree) →
-      integers_if all.methods m all.kinds spare false t ≡ true →
+      (all : Judging) (known : ℕ → Option Accepted) (only : ℕ → Bool) →
+      AreIntegerOnly all known only →
+      (d : ℕ) (m : Callee) (t : Tree) → integers all.methods m all.kinds only t ≡ true →
       (script : List Event) → LeavesIntegers all.kinds script →
-      (s : State) → IsIntegral all.kinds s →
+      (s : State) → IsIntegral all.kinds false s →
       (mean (setting_within all d m) t).wants script s ≡ false
   pub operands :
-      (all : Judging) (known : ℕ → Option Accepted) (spare : ℕ → Bool) →
-      AreSparing all known spare →
-      (d : ℕ) (m : Callee) (t : Tree) →
-      integers_if all.methods m all.kinds spare false t ≡ true →
+      (all : Judging) (known : ℕ → Option Accepted) (only : ℕ → Bool) →
+      AreIntegerOnly all known only →
+      (d : ℕ) (m : Callee) (t : Tree) → integers all.methods m all.kinds only t ≡ true →
       (script : List Event) → LeavesIntegers all.kinds script →
-      (s : State) → IsIntegral all.kinds s →
+      (s : State) → IsIntegral all.kinds false s →
       (value (setting_within all d m) t).wants script s ≡ false
   pub calls :
-      (all : Judging) (known : ℕ → Option Accepted) (spare : ℕ → Bool) →
-      AreSparing all known spare →
-      (d : ℕ) (p : Place) (k : ℕ) (values : List Value) → spare k ≡ true → AreIntegers values →
+      (all : Judging) (known : ℕ → Option Accepted) (only : ℕ → Bool) →
+      AreIntegerOnly all known only →
+      (d : ℕ) (p : Place) (k : ℕ) (values : List Value) → only k ≡ true → AreIntegers values →
       (script : List Event) → LeavesIntegers all.kinds script →
-      (s : State) → HoldIntegers all.kinds s.names.contents →
+      (s : State) → HoldIntegers all.kinds s.names.contents → s.frame.watched ≡ false →
       (call_within all.methods d p k values).wants script s ≡ false
   pub methods :
-      (all : Judging) (known : ℕ → Option Accepted) (spare : ℕ → Bool) →
-      AreSparing all known spare →
+      (all : Judging) (known : ℕ → Option Accepted) (only : ℕ → Bool) →
+      AreIntegerOnly all known only →
       (d k : ℕ) (m : Callee) (values : List Value) → all.methods.callee k ≡ Some m →
-      spare k ≡ true → AreIntegers values →
+      only k ≡ true → AreIntegers values →
       (script : List Event) → LeavesIntegers all.kinds script →
-      (s : State) → HoldIntegers all.kinds s.names.contents →
+      (s : State) → HoldIntegers all.kinds s.names.contents → s.frame.watched ≡ false →
       (framed m.table values (mean_method (setting_within all d m) m.body)).wants script s ≡ false

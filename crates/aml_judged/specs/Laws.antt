@@ -31,7 +31,8 @@ module _ (all : Judging) where
     pub small : AreSmall
     pub accepted : AreAccepted all known
 
-  -- an accepted method, with arguments and names that fit, and a script whose answers do
+  -- an accepted method, with arguments and names that fit, and a script whose answers do, where
+  -- mutexes are watched
   pub record IsCallable (known : ℕ → Option Accepted) (k : ℕ) (a : Accepted) (m : Callee)
       (values : List Value) (script : List Event) (s : State) : Type 0 where
     pub accepted : known k ≡ Some a
@@ -39,6 +40,7 @@ module _ (all : Judging) where
     pub arguments : FitAll all.methods.width values a.args
     pub names : FitNames all.methods.width all.kinds s.names
     pub answers : FitScript all.methods.width all.kinds script
+    pub watched : s.frame.watched ≡ true
 
   -- its evaluation, with at most 64 methods active in one another
   abbrev pub evaluation : Callee → List Value → List Event → State → Out (Option Value)

@@ -11,7 +11,6 @@ pub mod Safe
 pub mod Small
 pub mod Laws
 pub mod Sums
-pub mod Mutexless
 pub mod Events
 pub mod Fine
 pub mod Keeps

@@ -101,6 +101,10 @@ Allows (Some least) level = level ≤ least
 abbrev pub OnlyAbove : Option ℕ → ℕ → AmlError → Type 0
 OnlyAbove least level e = (e.cause ≡ why.Level) × (Allows least level → ⊥)
 
+-- mutexes are watched, and callers hold some up to a level
+abbrev pub IsUnder : ℕ → Frame → Type 0
+IsUnder above frame = (frame.outside ≡ above) × (frame.watched ≡ true)
+
 -- in a method whose callers hold mutexes up to a level
 module _ (width : ℕ) (kinds : NameKinds) (above : ℕ) where
   -- what is known counts, and is true
@@ -112,7 +116,7 @@ module _ (width : ℕ) (kinds : NameKinds) (above : ℕ) where
     pub owned : FitNames width kinds.owns s.frame.owns
     pub fields : s.frame.fields ≡ kinds.fields
     pub holds : FitsHeld s.frame.held env.held
-    pub callers : s.frame.outside ≡ above
+    pub callers : IsUnder above s.frame
 
   abbrev pub FitsExit : Option Env → State → Type 0
   FitsExit None s = ⊥
@@ -155,6 +159,7 @@ module _ (width : ℕ) (kinds : NameKinds) where
         (p : Place) (k : ℕ) (m : Accepted) (vs : List Value) (script : List Event) (s : State) →
         (callee k).accepted ≡ Some m → FitAll width vs m.args →
         FitNames width kinds.shared s.names → FitScript width kinds.shared script →
+        s.frame.watched ≡ true →
         IsCalled m s.frame s.steps ((call p k vs).run script s)
 
 -- whatever a call is, it leaves its caller's frame alone, and stops by an error or not at all

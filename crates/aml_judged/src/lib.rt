@@ -4,9 +4,9 @@
 //! The text to believe stands in `specs/`: `Known` (what is known of a frame), `Judged` (what
 //! judging gives), `KindRules` (the kinds of what operators give), `Judge` (a clause an operator,
 //! in the order of causes, beside `aml_meaning`'s `Meaning`), `Bodies`, `Verdicts`, `Integers`
-//! (which methods evaluate integers alone, and which of them want no memory), `Mutexless` (which of
-//! them take no mutex, by their verdicts), and in `Safe` and `Laws` what a verdict means. Shapes of
-//! loops are those of `aml_bounds`, calls of bodies and lengths of chains those of `aml_calls`.
+//! (which methods evaluate integers alone, and that they want no memory), and in `Safe` and `Laws`
+//! what a verdict means. Shapes of loops are those of `aml_bounds`, calls of bodies and lengths of
+//! chains those of `aml_calls`.
 //! `docs/VERDICTS.md` tells the same in plain words, with the clause for each cause.
 #![tactic(auto)]
 
@@ -15,10 +15,9 @@ ghost use Rattle.aml_values.specs.Values.{Value};
 ghost use Rattle.aml_judged.specs.Events.{FieldsCost};
 ghost use Rattle.aml_judged.specs.Fine.{FineParts};
 ghost use Rattle.aml_judged.specs.InPlace.{ExitsAreJoined, PartsAreJoined};
-ghost use Rattle.aml_judged.specs.Integers.{IntegersAlone, SparingMethodsWantNone};
+ghost use Rattle.aml_judged.specs.Integers.{IntegersAlone, IntegersWantNone};
 ghost use Rattle.aml_judged.specs.Keeps.{TermsKeepLocals};
 ghost use Rattle.aml_judged.specs.Laws.{CallsAreSeen, CyclesAreLong, OrderAnswers, VerdictsAreOne, VerdictsMean};
-ghost use Rattle.aml_judged.specs.Mutexless.{MutexlessAreSparing, ShapedAreJudged};
 ghost use Rattle.aml_judged.specs.Sums.{CostsAreSums};
 
 /// A method that is accepted meets no error, where its callers hold no mutex above the least level
@@ -76,15 +75,7 @@ pub fn integers_alone()
     ensures { IntegersAlone }
 {}
 
-/// An integer-only method that takes no mutex, nor do those that it calls, wants memory nowhere.
-pub fn sparing_methods_want_none()
-    ensures { SparingMethodsWantNone }
-{}
-
-/// An integer-only method whose verdict names no level takes no mutex, nor do those that it calls,
-/// where all that could take one is judged; a body that is shaped as read ones are has no other
-/// parts than such, but for arguments of names that take none.
-pub fn mutexless_methods_are_sparing()
-    ensures sparing { MutexlessAreSparing }
-    ensures judged { ShapedAreJudged }
+/// An integer-only method wants memory nowhere, where mutexes are not watched.
+pub fn integers_want_none()
+    ensures { IntegersWantNone }
 {}

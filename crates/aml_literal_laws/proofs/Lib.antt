@@ -1,5 +1,4 @@
 pub mod Bytes
-pub mod Plain
 pub mod Tables
 pub mod Counted
 pub mod Words

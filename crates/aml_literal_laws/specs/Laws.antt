@@ -1,7 +1,6 @@
 -- That the literals in methods' bodies are no larger than those of which verdicts speak: the law.
-use Rattle.std.specs.Prelude.{◌≡◌, ℕ, Bool, List, Option}
+use Rattle.std.specs.Prelude.{◌≡◌, ℕ, List, Option}
 use Rattle.aml_judged.specs.Laws.{AreSmall}
-use Rattle.aml_judged.specs.Mutexless.{AreAllJudged}
 use Rattle.aml_judged.specs.Safe.{AreBytes}
 use Rattle.aml_judged.specs.Verdicts.{Judging}
 use Rattle.aml_meaning.specs.Methods.{AreBodies, methods_of}
@@ -18,10 +17,3 @@ abbrev pub LiteralsAreSmall : Type 0
 LiteralsAreSmall =
     (ns : Shown) (bodies : ℕ → Option Trees) (all : Judging) → TablesAreBytes ns.tables →
     AreBodies ns bodies → all.methods ≡ methods_of ns bodies → AreSmall all
-
--- in the bodies of a namespace's methods all is judged that could take a mutex, in whatever setting
--- these are judged
-abbrev pub BodiesAreJudged : Type 0
-BodiesAreJudged =
-    (ns : Shown) (bodies : ℕ → Option Trees) (all : Judging) → AreBodies ns bodies →
-    all.methods ≡ methods_of ns bodies → (only : ℕ → Bool) → AreAllJudged all only

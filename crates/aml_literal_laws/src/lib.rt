@@ -9,18 +9,12 @@
 
 ghost use Rattle.aml_judged.specs.Safe.{AreBytes};
 ghost use Rattle.aml_namespace.specs.Shows.{bytes_in};
-ghost use Rattle.aml_literal_laws.specs.Laws.{BodiesAreJudged, LiteralsAreSmall, TablesAreBytes};
+ghost use Rattle.aml_literal_laws.specs.Laws.{LiteralsAreSmall, TablesAreBytes};
 
 /// The literals of the methods of a namespace hold integers of the width, bytes, and packages that
 /// have not too many elements, where its tables are made of bytes.
 pub fn literals_are_small()
     ensures { LiteralsAreSmall }
-{}
-
-/// In the bodies of a namespace's methods all is judged that could take a mutex or call a method:
-/// no part of an operator is passed over that has one.
-pub fn bodies_are_judged()
-    ensures { BodiesAreJudged }
 {}
 
 /// Tables that a program holds are made of bytes, and so are those of each namespace that they load

@@ -1,6 +1,6 @@
 // What a running method has of its own.
 
-ghost use Rattle.std.specs.Prelude.{◌≡◌, List};
+ghost use Rattle.std.specs.Prelude.{◌≡◌, [], List};
 ghost use Rattle.aml_values.specs.Values as values;
 ghost use Rattle.aml_meaning.specs.State.{entered};
 ghost use Rattle.aml_machine.specs.Arguments.{AreSlotsOf};
@@ -26,18 +26,18 @@ pub struct Frame {
 }
 
 impl Frame {
-    /// A method's frame as it begins, where its callers hold mutexes up to a level, with its
-    /// arguments.
-    pub fn new(alloc: Global, outside: u8, arguments: Arguments) -> Self
+    /// A method's frame as it begins, which holds no mutex of these yet, with its arguments.
+    pub fn new(alloc: Global, mutexes: Mutexes, arguments: Arguments) -> Self
+        requires { mutexes.taken.items ≡ [] }
         ensures { (given : List values.Value) → AreSlotsOf arguments given →
-            frame_of result ≡ entered outside given }
+            frame_of result ≡ entered mutexes.watched mutexes.outside given }
     {
         Frame {
             locals: [None, None, None, None, None, None, None, None],
             args: arguments.slots,
             owns: Names::new(alloc),
             fields: Vec::new(alloc),
-            mutexes: Mutexes::new(alloc, outside),
+            mutexes,
         }
     }
 }

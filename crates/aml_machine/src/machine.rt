@@ -45,7 +45,7 @@ impl Machine {
         ensures steps { result.steps ≡ self.old.steps }
     {
         Machine {
-            frame: Frame::new(alloc, self.frame.mutexes.level(), arguments),
+            frame: Frame::new(alloc, self.frame.mutexes.of_callee(alloc), arguments),
             names: mem::replace(&mut self.names, Names::new(alloc)),
             steps: self.steps,
         }

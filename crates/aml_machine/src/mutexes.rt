@@ -11,24 +11,60 @@ use std::alloc::Global;
 
 /// The mutexes that a method has taken and not released, in order of taking, and the greatest level
 /// of those that its callers hold. No level is below the one before it, so the last is the
-/// greatest.
+/// greatest. Where mutexes are not watched, none is kept here, and nothing is asked of them.
 #[derive(Drop)]
 pub struct Mutexes {
     taken: Vec<TakenMutex>,
     outside: u8,
+    watched: bool,
     ghost rising: { are_rising outside taken.items ≡ true },
 }
 
 impl Mutexes {
-    /// None yet, where callers hold mutexes up to a level.
-    pub fn new(alloc: Global, outside: u8) -> Mutexes
+    /// None yet, in a method that nobody called.
+    pub fn watched(alloc: Global) -> Mutexes
         ensures none { result.taken.items ≡ [] }
-        ensures outside { result.outside ≡ outside }
+        ensures outside { result.outside ≡ 0 }
+        ensures watched { result.watched ≡ true }
     {
         Mutexes {
             taken: Vec::new(alloc),
-            outside,
+            outside: 0,
+            watched: true,
         }
+    }
+
+    /// None, as mutexes are not watched.
+    pub fn unwatched(alloc: Global) -> Mutexes
+        ensures none { result.taken.items ≡ [] }
+        ensures outside { result.outside ≡ 0 }
+        ensures watched { result.watched ≡ false }
+    {
+        Mutexes {
+            taken: Vec::new(alloc),
+            outside: 0,
+            watched: false,
+        }
+    }
+
+    /// None yet, in a method that the one which holds these calls.
+    pub fn of_callee(&self, alloc: Global) -> Mutexes
+        ensures none { result.taken.items ≡ [] }
+        ensures outside { result.outside ≡ greatest_level self.now.outside self.now.taken.items }
+        ensures watched { result.watched ≡ self.now.watched }
+    {
+        Mutexes {
+            taken: Vec::new(alloc),
+            outside: self.level(),
+            watched: self.watched,
+        }
+    }
+
+    /// Whether mutexes are watched.
+    pub fn are_watched(&self) -> bool
+        ensures { result ≡ self.now.watched }
+    {
+        self.watched
     }
 
     /// The greatest level that is held, by the method or by a caller of its.
@@ -54,6 +90,7 @@ impl Mutexes {
         ensures taken { OnOk result (self.new.taken.items ≡ self.old.taken.items ++ mutex ∷ []) }
         ensures lost { OnErr result (self.new.taken.items ≡ self.old.taken.items) }
         ensures outside { self.new.outside ≡ self.old.outside }
+        ensures watched { self.new.watched ≡ self.old.watched }
     {
         match self.taken.push(mutex) {
             Ok(()) => Ok(()),
@@ -67,6 +104,7 @@ impl Mutexes {
             held_if result self.new.taken.items }
         ensures kept { result ≡ false → self.new.taken.items ≡ self.old.taken.items }
         ensures outside { self.new.outside ≡ self.old.outside }
+        ensures watched { self.new.watched ≡ self.old.watched }
     {
         let last = match self.taken.last() {
             Some(last) => last.object.0,

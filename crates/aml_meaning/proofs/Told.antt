@@ -1,5 +1,5 @@
 -- Events, run: those that need no answer, and Sleeps.
-use Rattle.std.proofs.Common.{◌≡◌, ◌<◌, ◌+◌, ◌-◌, ◌^◌, ℕ, zero, suc, ◌≤◌, List, [], ◌∷◌, ◌++◌, Option, Some, None, Ok, Err, refl, ap, ◌∙◌, subst, length, ◌⊎◌, inl, inr, arith, true, false}
+use Rattle.std.proofs.Common.{◌≡◌, ◌+◌, ◌-◌, ◌^◌, ℕ, zero, suc, ◌≤◌, List, [], ◌∷◌, ◌++◌, Option, Some, None, Ok, Err, refl, ap, ◌∙◌, subst, length, ◌⊎◌, inl, inr, arith, true, false}
 use Rattle.std.specs.Prelude.{slice_get, ◌==◌, Bool, nat_le, if◌then◌else◌}
 use Rattle.std.specs.Cmp.{unsigned_Decides}
 use Rattle.aml_contents.specs.Contents.{Contents, ContentKinds, are_fitting}

@@ -1,6 +1,6 @@
 -- What a method means, from its beginning to its end.
 use Rattle.std.specs.Int.{bit_at}
-use Rattle.std.specs.Prelude.{◌≡◌, ◌<◌, ◌≤◌, ◌^◌, ℕ, suc, ◌+◌, List, [], length, slice_get, Option, Some}
+use Rattle.std.specs.Prelude.{◌≡◌, ◌<◌, ◌≤◌, ◌^◌, ℕ, suc, ◌+◌, List, [], length, slice_get, Bool, Option, Some, true}
 use Rattle.aml_operators.specs.Tree.{Trees}
 use Rattle.aml_values.specs.Values.{Value}
 use Rattle.aml_contents.specs.Contents.{Contents}
@@ -15,15 +15,20 @@ use Rattle.aml_meaning.specs.Calls.{framed}
 use Rattle.aml_meaning.specs.Meaning.{Setting}
 use Rattle.aml_meaning.specs.Definitions.{mean_method}
 
--- before a method begins: what names hold, so many steps, and what the world keeps
-abbrev pub before : Names → ℕ → Log → State
-before names n log = record {
-  frame = entered 0 [];
+-- before a method begins whose mutexes are watched, or not: what names hold, so many steps, and what
+-- the world keeps
+abbrev pub begun : Bool → Names → ℕ → Log → State
+begun watched names n log = record {
+  frame = entered watched 0 [];
   names = names;
   steps = n;
   log = log.events;
   refusals = log.refusals;
 }
+
+-- before a method begins, as the definition has it: mutexes are watched
+abbrev pub before : Names → ℕ → Log → State
+before names n log = begun true names n log
 
 -- a method's evaluation where its body stands, with its arguments, fed with a script of answers,
 -- from a state

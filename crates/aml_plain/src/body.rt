@@ -1,6 +1,6 @@
 // A method's body, from its beginning to its end.
 
-ghost use Rattle.std.specs.Prelude.{◌≡◌, map};
+ghost use Rattle.std.specs.Prelude.{◌≡◌, map, true};
 ghost use Rattle.aml_values.specs.Views as values;
 ghost use Rattle.aml_operators.specs.declared.row.Code.TheVariants as code;
 ghost use Rattle.aml_operators.specs.Shape.{AreShaped};
@@ -12,7 +12,7 @@ ghost use Rattle.aml_plain.specs.Tells.{setting_of};
 use crate::eval::calls::eval_body;
 use crate::setting::Setting;
 use aml_contents::Names;
-use aml_machine::{Arguments, Frame, Machine};
+use aml_machine::{Arguments, Frame, Machine, Mutexes};
 use aml_meaning::Outcome;
 use aml_operators::Term;
 use aml_paths::NoMemory;
@@ -35,12 +35,12 @@ pub fn evaluate_body<W: World>(
     fuel: u64,
 ) -> Result<Outcome, NoMemory>
     requires { AreShaped code.Body (views body.now) }
-    ensures { (around : _) → EvaluatesBody (setting_of here.entry around) (views body.now)
+    ensures { (around : _) → EvaluatesBody true (setting_of here.entry around) (views body.now)
         (map values.view arguments.items) fuel (names_of names.old) (W.log world.old)
         result (names_of names.new) (W.log world.new) }
 {
     let mut machine = Machine {
-        frame: Frame::new(alloc, 0, Arguments::of(arguments)),
+        frame: Frame::new(alloc, Mutexes::watched(alloc), Arguments::of(arguments)),
         names: mem::replace(names, Names::new(alloc)),
         steps: fuel,
     };

@@ -6,7 +6,7 @@ ghost use Rattle.aml_quick.specs.Keeps.{AreSound};
 use acpi_samples::{HOST, table_of};
 use aml_bodies::Links;
 use aml_contents::Names;
-use aml_machine::{Arguments, Frame, Machine};
+use aml_machine::{Arguments, Frame, Machine, Mutexes};
 use aml_namespace::{LoadFault, Namespace, Width};
 use aml_own_names::OwnNames;
 use aml_paths::{NoMemory, ObjectId};
@@ -78,7 +78,7 @@ fn machine(alloc: Global, names: Names, steps: u64) -> Result<Machine, AllocErro
     arguments.push(nested(alloc)?)?;
     arguments.push(Value::Int(0))?;
     Ok(Machine {
-        frame: Frame::new(alloc, 0, Arguments::of(arguments)),
+        frame: Frame::new(alloc, Mutexes::watched(alloc), Arguments::of(arguments)),
         names,
         steps,
     })

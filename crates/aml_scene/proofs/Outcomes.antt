@@ -1,5 +1,6 @@
 -- A method's outcome, from how its statements run.
 use Rattle.std.proofs.Common.{ℕ, List, Result, Ok, Err, refl, zero-le}
+use Rattle.std.specs.Prelude.{Bool, true}
 use Rattle.aml_values.specs.Values.{Value}
 use Rattle.aml_values.specs.Views.{view}
 use Rattle.aml_regions.specs.Events.{Event, Log}
@@ -9,7 +10,7 @@ use Rattle.aml_meaning.specs.State.{Frame, Names, entered, Error, Returned, Brok
 use Rattle.aml_meaning.specs.Meaning.{Setting}
 use Rattle.aml_meaning.specs.Definitions.{mean_method}
 use Rattle.aml_meaning.specs.Calls.{framed}
-use Rattle.aml_meaning.specs.Whole.{before, evaluated}
+use Rattle.aml_meaning.specs.Whole.{before, begun, evaluated}
 use Rattle.aml_meaning.specs.Runs as runs
 use Rattle.aml_meaning.specs.Runs.{IsPrefix, Runs, state, method_result}
 use Rattle.aml_meaning.proofs.Runs.{prefix_refl, whole, stopped_whole, runs_framed}
@@ -18,15 +19,15 @@ use Rattle.aml_scene.specs.declared.halt.Halt.TheVariants as halt
 use Rattle.aml_scene.specs.Outcomes.{EvaluatesBody, SparesBody, Tells, outcome_of}
 use Rattle.aml_scene.specs.Tells.{went}
 
-module _ (here : Setting) (body : Trees) (values : List Value) (fuel left : ℕ) (frame : Frame) (names names1 : Names) (log log1 : Log) where
+module _ (watched : Bool) (here : Setting) (body : Trees) (values : List Value) (fuel left : ℕ) (frame : Frame) (names names1 : Names) (log log1 : Log) where
   abbrev Ran : Result (Unit {0}) runs.Halt → Type 0
-  Ran r = Runs r (mean_method here body) (state (entered 0 values) names fuel log) (state frame names1 left log1)
+  Ran r = Runs r (mean_method here body) (state (entered watched 0 values) names fuel log) (state frame names1 left log1)
 
-  method_ran : (r : Result (Unit {0}) runs.Halt) → Ran r → Runs (method_result here.table r) (framed here.table values (mean_method here body)) (before names fuel log) (before names1 left log1)
-  method_ran r ran = runs_framed here.table values (mean_method here body) (before names fuel log) (state frame names1 left log1) r ran
+  method_ran : (r : Result (Unit {0}) runs.Halt) → Ran r → Runs (method_result here.table r) (framed here.table values (mean_method here body)) (begun watched names fuel log) (begun watched names1 left log1)
+  method_ran r ran = runs_framed here.table values (mean_method here body) (begun watched names fuel log) (state frame names1 left log1) r ran
 
   -- each way in which statements end
-  told : (r : Result (Unit {0}) Halt) → Ran (went r) → (script : List Event) → IsPrefix log1.events script → Tells (outcome_of here.table r) (λ k. evaluated here body values script (before names k log)) fuel names1 log1.events
+  told : (r : Result (Unit {0}) Halt) → Ran (went r) → (script : List Event) → IsPrefix log1.events script → Tells (outcome_of here.table r) (λ k. evaluated here body values script (begun watched names k log)) fuel names1 log1.events
   told (Ok tt) ran script begins = rw (whole _ _ _ _ script (method_ran (Ok tt) ran) begins) (refl, record { names = refl; log = refl })
   told (Err (halt.Returned v)) ran script begins = rw (whole _ _ _ _ script (method_ran (Err (runs.By (Returned (view v)))) ran) begins) (refl, record { names = refl; log = refl })
   told (Err (halt.Error e)) ran script begins = rw (stopped_whole _ _ _ _ script (method_ran (Err (runs.By (Error e))) ran) begins) (refl, record { names = refl; log = refl })
@@ -37,7 +38,7 @@ module _ (here : Setting) (body : Trees) (values : List Value) (fuel left : ℕ)
       let g = (method_ran (Err runs.NoMemory) ran).gives script begins in
       (g.0, g.1, record { names = g.2.names; log = g.2.log })
 
-  pub spared : (r : Result (Unit {0}) Halt) → Ran (went r) → SparesBody here body values fuel names log (outcome_of here.table r) log1
+  pub spared : (r : Result (Unit {0}) Halt) → Ran (went r) → SparesBody watched here body values fuel names log (outcome_of here.table r) log1
   spared (Ok tt) ran = (method_ran (Ok tt) ran).spares
   spared (Err (halt.Returned v)) ran = (method_ran (Err (runs.By (Returned (view v)))) ran).spares
   spared (Err (halt.Error e)) ran = (method_ran (Err (runs.By (Error e))) ran).spares
@@ -46,11 +47,11 @@ module _ (here : Setting) (body : Trees) (values : List Value) (fuel left : ℕ)
   spared (Err halt.OutOfSteps) ran = (method_ran (Err runs.OutOfSteps) ran).spares
   spared (Err halt.NoMemory) ran = (method_ran (Err runs.NoMemory) ran).spares
 
-  pub evaluates : (r : Result (Unit {0}) Halt) → Ran (went r) → EvaluatesBody here body values fuel names log (outcome_of here.table r) names1 log1
+  pub evaluates : (r : Result (Unit {0}) Halt) → Ran (went r) → EvaluatesBody watched here body values fuel names log (outcome_of here.table r) names1 log1
   evaluates r ran = record { grows = ran.grows; words = ran.words; tells = told r ran }
 
 -- want of memory before anything is evaluated
-pub unread : (here : Setting) (body : Trees) (values : List Value) (fuel : ℕ) (names : Names) (log : Log) (e : NoMemory) → EvaluatesBody here body values fuel names log (Err e) names log
+pub unread : (here : Setting) (body : Trees) (values : List Value) (fuel : ℕ) (names : Names) (log : Log) (e : NoMemory) → EvaluatesBody true here body values fuel names log (Err e) names log
 unread here body values fuel names log e = record {
   grows = prefix_refl log.events;
   words = λ w. w;

@@ -1,7 +1,9 @@
-pub mod Parts
+pub mod Closed
 pub mod Fields
 pub mod Loops
 pub mod Names
 pub mod Terms
 pub mod Methods
+pub mod KindsStay
 pub mod Runs
+pub mod Unwatched

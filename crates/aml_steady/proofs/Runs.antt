@@ -5,7 +5,7 @@ use Rattle.aml_meaning.specs.Parts.{M}
 use Rattle.aml_meaning.specs.Runs.{Halt, NoMemory, OutOfSteps, By, Gives, Runs}
 use Rattle.aml_meaning.proofs.Runs.{prefix_refl}
 use Rattle.aml_steady.specs.Steady.{KeepsKinds, RunsKeepKinds}
-use Rattle.aml_steady.proofs.Parts.{HasKinds}
+use Rattle.aml_steady.proofs.KindsStay.{HasKinds}
 
 -- whatever steps are left behind it, and also where it rests for want of memory
 kinds_given : {V : Type 0} (r : Result V Halt) (old new : State) (run : State → Out V) → ((s : State) → HasKinds s.names.kinds (run s)) → Gives r old new run → new.names.kinds ≡ old.names.kinds

@@ -1,1 +1,2 @@
 pub mod Steady
+pub mod Unwatched

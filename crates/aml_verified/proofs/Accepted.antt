@@ -43,6 +43,7 @@ module _ (told : Told) (c : Checked) (all : Judging) (k : ℕ) (callee : Callee)
       arguments = may.arguments;
       names = may.names;
       answers = may.answers;
+      watched = may.watched;
     }
 
     pub runs_well : HasNoError (evaluation all callee values script s)

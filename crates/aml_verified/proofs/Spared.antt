@@ -1,15 +1,12 @@
--- A method that is accepted, evaluates integers alone and takes no mutex wants no memory.
-use Rattle.std.proofs.Common.{◌≡◌, ℕ, Bool, List, None, Some, Ok, false, refl, subst, sym, true, ◌&&◌, ◌∙◌}
+-- A method that is accepted and evaluates integers alone wants no memory, where mutexes are not watched.
+use Rattle.std.proofs.Common.{◌≡◌, ℕ, List, Some, Ok, false, subst, sym, true, ◌∙◌}
 use Rattle.aml_integers.specs.Known.{marked}
-use Rattle.aml_judged.proofs.Integers.{sparing_methods_want_none}
-use Rattle.aml_judged.proofs.Mutexless.{mutexless_are_sparing}
+use Rattle.aml_judged.proofs.Integers.{integers_want_none}
 use Rattle.aml_verified.proofs.Integral.{integer_answers, integer_arguments, integer_names}
-use Rattle.aml_judged.specs.Integers.{AreIntegerOnly, AreIntegers, AreSparing, are_integers, integer_only_by, integers_in}
+use Rattle.aml_judged.specs.Integers.{AreIntegerOnly, AreIntegers, are_integers, integer_only_by, integers_in}
 use Rattle.aml_judged.specs.Judged as judged
-use Rattle.aml_judged.specs.Mutexless.{AreAllJudged, names_none, takes_none}
-use Rattle.aml_judged.specs.Safe.{FitAll}
+use Rattle.aml_judged.specs.Safe.{FitAll, FitNames, FitScript}
 use Rattle.aml_judged.specs.Verdicts.{Judging, verdict_by}
-use Rattle.aml_literal_laws.proofs.Plain.{bodies_are_judged}
 use Rattle.aml_known.specs.declared.accepted.Accepted.{Accepted}
 use Rattle.aml_known.specs.Views.{accepted_of}
 use Rattle.aml_meaning.specs.State.{State}
@@ -22,15 +19,11 @@ use Rattle.aml_values.proofs.Same.{both_first}
 use Rattle.aml_values.specs.Values.{Value}
 use Rattle.aml_verdict_laws.proofs.Known.{verdicts_are_there}
 use Rattle.aml_verdict_laws.specs.Laws.{Answer}
-use Rattle.aml_verified.specs.Laws.{AcceptedIntegersSpare, MayRun, WasAccepted, meant}
+use Rattle.aml_verified.specs.Laws.{AcceptedIntegersSpare, WasAccepted, meant}
 use Rattle.aml_verify.proofs.Accepting.{by_callee}
 use Rattle.aml_verify.proofs.Seeing.{known_said}
 use Rattle.aml_verify.specs.declared.checked.Checked.{Checked}
 use Rattle.aml_verify.specs.declared.verdict.Verdict.TheVariants as verdict
-
-are_both : (a b : Bool) → a ≡ true → b ≡ true → (a && b) ≡ true
-are_both true b p q = q
-are_both false b p q = absurd cc
 
 module _ (told : Told) (c : Checked) (all : Judging) (k : ℕ) (callee : Callee) (a : Accepted) (was : WasAccepted told c all k callee a) where
   abbrev answer : Answer all
@@ -59,23 +52,16 @@ module _ (told : Told) (c : Checked) (all : Judging) (k : ℕ) (callee : Callee)
     kinds : are_integers (all.args k) ≡ true
     kinds = both_first (are_integers (all.args k)) (integers_in all.methods callee all.kinds (marked c.integers.items) callee.body) decided
 
-    module _ (values : List Value) (script : List Event) (s : State) (may : MayRun c all a values script s) where
+    module _ (values : List Value) (script : List Event) (s : State) (fit : FitAll all.methods.width values verdict_is.args) (names : FitNames all.methods.width all.kinds s.names) (answers : FitScript all.methods.width all.kinds script) (unwatched : s.frame.watched ≡ false) where
       arguments : AreIntegers values
-      arguments = integer_arguments all.methods.width values (all.args k) kinds (subst (FitAll all.methods.width values) same_kinds may.arguments)
+      arguments = integer_arguments all.methods.width values (all.args k) kinds (subst (FitAll all.methods.width values) same_kinds fit)
 
-      pub wants_none : (spare : ℕ → Bool) → AreSparing all answer.known spare → spare k ≡ true → (meant all.methods callee values).wants script s ≡ false
-      wants_none spare are spared = sparing_methods_want_none.methods all answer.known spare are most_within k callee values was.called spared arguments script
-          (integer_answers all.methods.width all.kinds script may.answers) s (integer_names all.methods.width all.kinds s.names may.names)
-
-      -- where its verdict names no level
-      spares_none : AreAllJudged all (marked c.integers.items) → a.least ≡ None → (meant all.methods callee values).wants script s ≡ false
-      spares_none judged none = wants_none (λ j. marked c.integers.items j && takes_none (answer.known j))
-          (mutexless_are_sparing all answer.known answer.are (marked c.integers.items) only judged)
-          (are_both (marked c.integers.items k) (takes_none (answer.known k)) integers (subst (λ o. takes_none o ≡ true) (sym known) (subst (λ l. names_none l ≡ true) (sym none) refl)))
+      pub wants_none : (meant all.methods callee values).wants script s ≡ false
+      wants_none = integers_want_none.methods all answer.known (marked c.integers.items) only most_within k callee values was.called integers arguments script
+          (integer_answers all.methods.width all.kinds script answers) s (integer_names all.methods.width all.kinds s.names names) unwatched
 
 pub accepted_integers_spare : AcceptedIntegersSpare
 accepted_integers_spare = record {
-  wants = λ told c all k callee a was integers none values script s may.
-      spares_none told c all k callee a was integers values script s may
-      (bodies_are_judged (shown c.namespace.now) was.judging.bodies all was.judging.are was.judging.methods (marked c.integers.items)) none;
+  wants = λ told c all k callee a was integers values script s fit names answers unwatched.
+      wants_none told c all k callee a was integers values script s fit names answers unwatched;
 }

@@ -1,5 +1,5 @@
 -- What it means that the verifier accepted a method: the law.
-use Rattle.std.specs.Prelude.{◌≡◌, ◌≤◌, ℕ, List, None, Option, Some, false, true}
+use Rattle.std.specs.Prelude.{◌≡◌, ◌≤◌, ℕ, List, Option, Some, false, true}
 use Rattle.aml_integers.specs.Known.{marked}
 use Rattle.aml_judged.specs.Laws.{evaluation, HasNoError, IsDone}
 use Rattle.aml_judged.specs.Safe.{Allows, FitAll, FitNames, FitScript}
@@ -44,6 +44,7 @@ pub record MayRun (c : Checked) (all : Judging) (a : Accepted) (values : List Va
   pub names : FitNames all.methods.width all.kinds s.names
   pub answers : FitScript all.methods.width all.kinds script
   pub levels : Allows a.least (held_level s.frame)
+  pub watched : s.frame.watched ≡ true
 
 -- then its evaluation meets no error, with however many steps; and with as many as its verdict
 -- says, or more, it is done, with names of their kinds and a value as the verdict says, or a read
@@ -67,10 +68,14 @@ meant methods m values =
     let here = setting_for methods (call_within methods most_within) m in
     framed here.table values (mean_method here m.body)
 
--- and where it evaluates integers alone and takes no mutex, memory is wanted nowhere
+-- and where it evaluates integers alone, with mutexes that are not watched, memory is wanted nowhere
 pub record AcceptedIntegersSpare : Type 0 where
   pub wants :
       (told : Told) (c : Checked) (all : Judging) (k : ℕ) (callee : Callee) (a : Accepted) →
-      WasAccepted told c all k callee a → marked c.integers.items k ≡ true → a.least ≡ None →
-      (values : List Value) (script : List Event) (s : State) → MayRun c all a values script s →
+      WasAccepted told c all k callee a → marked c.integers.items k ≡ true →
+      (values : List Value) (script : List Event) (s : State) →
+      FitAll all.methods.width values (accepted_of (numbered c.shapes) a).args →
+      FitNames all.methods.width all.kinds s.names →
+      FitScript all.methods.width all.kinds script →
+      s.frame.watched ≡ false →
       (meant all.methods callee values).wants script s ≡ false

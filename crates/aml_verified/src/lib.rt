@@ -13,7 +13,7 @@ pub fn accepted_methods_run()
 {}
 
 /// The meaning of a method that the verifier accepts wants no memory, where it evaluates integers
-/// alone and its verdict names no level, as it takes no mutex then.
+/// alone and mutexes are not watched.
 pub fn accepted_integers_spare()
     ensures { AcceptedIntegersSpare }
 {}

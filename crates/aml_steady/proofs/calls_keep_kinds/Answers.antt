@@ -1,4 +1,4 @@
-use Rattle.aml_steady.proofs.Methods.{calls_keep}
+use Rattle.aml_steady.proofs.KindsStay.{calls_keep}
 use Rattle.aml_steady.proofs.calls_keep_kinds.Goals as goal
 
 pub returns : goal.returns

@@ -1,4 +1,4 @@
-use Rattle.aml_steady.proofs.Methods.{bodies_keep, keeps_framed, methods_keep, statements_keep}
+use Rattle.aml_steady.proofs.KindsStay.{bodies_keep, keeps_framed, methods_keep, statements_keep}
 use Rattle.aml_steady.proofs.methods_keep_kinds.Goals as goal
 
 pub returns-clause-statements : goal.returns-clause-statements

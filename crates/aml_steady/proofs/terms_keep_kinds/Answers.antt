@@ -1,4 +1,4 @@
-use Rattle.aml_steady.proofs.Terms.{lists_keep, stores_keep, terms_keep, values_keep}
+use Rattle.aml_steady.proofs.KindsStay.{lists_keep, stores_keep, terms_keep, values_keep}
 use Rattle.aml_steady.proofs.terms_keep_kinds.Goals as goal
 
 pub returns-clause-terms : goal.returns-clause-terms

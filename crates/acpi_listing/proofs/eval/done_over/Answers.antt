@@ -35,7 +35,7 @@ returns c = λ a said m there.
         names = _;
         before = record { events = start_of first.text.items ∷ []; refusals = first.file.refusals };
         refusals = left.file.refusals;
-        evaluates = rw same at held;
+        answers = rw same at held;
         answered = left.answers (contents first.file) (subst (λ text. TextSets text (contents first.file)) (sym same) c.requires.set);
       };
     }

@@ -43,7 +43,7 @@ returns-clause-means g c = λ m is ts body around.
     let bytes = c.body_bytes-bytes.ensures m is in
     let owns : owns_seen c.in-Some.body.now.owns ≡ own_names c.body_bytes-bytes.result.now ts = rw bytes (kept.owns m is ts body) in
     let lies = body_lies ns c.args.method.0 m c.body_bytes-bytes.result.now (owns_seen c.in-Some.body.now.owns) c.in-Some.body.now.links c.in-Some.body.now.start ts bytes owns (kept.start m is) body (kept.takes m is ts body) in
-    let ran = rw (c.new.ensures _ c.of.ensures, c.replace.ensures.value) at (c.eval_body-ended.ensures.means around ts lies) in
+    let ran = rw (c.new.ensures _ c.of.ensures, c.unwatched.ensures.outside, c.unwatched.ensures.watched, c.replace.ensures.value) at (c.eval_body-ended.ensures.means around ts lies) in
     rw c.outcome_of.ensures (evaluates_there ns around.bodies c.args.method.0 m c.in-Some.body.now.table c.in-Some.body.now.opcode c.width.result c.body_bytes-bytes.result.now (owns_seen c.in-Some.body.now.owns) ts _ _ _ _ _ _ _ _ _ (kept.table m is) (kept.opcode m is) c.width.ensures bytes owns ran)
 
 pub returns-clause-spares : goal.returns-clause-spares
@@ -53,5 +53,5 @@ returns-clause-spares g c = λ m is ts body around.
     let bytes = c.body_bytes-bytes.ensures m is in
     let owns : owns_seen c.in-Some.body.now.owns ≡ own_names c.body_bytes-bytes.result.now ts = rw bytes (kept.owns m is ts body) in
     let lies = body_lies ns c.args.method.0 m c.body_bytes-bytes.result.now (owns_seen c.in-Some.body.now.owns) c.in-Some.body.now.links c.in-Some.body.now.start ts bytes owns (kept.start m is) body (kept.takes m is ts body) in
-    let ran = rw (c.new.ensures _ c.of.ensures, c.replace.ensures.value) at (c.eval_body-ended.ensures.means around ts lies) in
+    let ran = rw (c.new.ensures _ c.of.ensures, c.unwatched.ensures.outside, c.unwatched.ensures.watched, c.replace.ensures.value) at (c.eval_body-ended.ensures.means around ts lies) in
     rw c.outcome_of.ensures (spares_there ns around.bodies c.args.method.0 m c.in-Some.body.now.table c.in-Some.body.now.opcode c.width.result c.body_bytes-bytes.result.now (owns_seen c.in-Some.body.now.owns) ts _ _ _ _ _ _ _ _ _ (kept.table m is) (kept.opcode m is) c.width.ensures bytes owns ran)

@@ -44,6 +44,6 @@ returns g c =
       refused = rw c.value_of.ensures (refused_told c.args.checked.now c.args.method.0 (map view c.args.arguments.items) (names_of c.args.names.now) (g.W.World.log c.args.world.now)
           (names_of c.evaluate_direct-answer.new.names) (g.W.World.log c.evaluate_direct-answer.new.world) c.evaluate_direct-answer.result did wants);
       names = kinds_stay c.args.checked.now c.args.method.0 (map view c.args.arguments.items) (names_of c.args.names.now) (g.W.World.log c.args.world.now)
-          (names_of c.evaluate_direct-answer.new.names) (g.W.World.log c.evaluate_direct-answer.new.world) t.0 c.requires.ready t.1 c.evaluate_direct-answer.result did
+          (names_of c.evaluate_direct-answer.new.names) (g.W.World.log c.evaluate_direct-answer.new.world) t.0 c.requires.ready t.1 c.evaluate_direct-answer.result evaluates
           ∙ c.requires.names;
     }
