@@ -3,7 +3,7 @@ WORDS =
 # The toolchain's rt, which reads each library once where some kits read it once for each chain that leads to it.
 RT = python3 $(CURDIR)/bench/kit.py
 
-.PHONY: try run test cases rows growths edits hostile accepted bench loops stack check fmt
+.PHONY: try run test cases rows growths edits wrong hostile accepted bench loops stack check fmt
 
 # The first answer in a minute: builds acpicheck from its sources, without proofs, and runs it on the example, or on
 # words and files of your own: make try WORDS="eval --plain 100 --method '\_SB_.PCI0._STA' my.dat".
@@ -40,6 +40,11 @@ growths:
 # The edits that must be refused: of every crate, or with CRATE=name of one, and with EDIT=name one of them.
 edits:
 	@python3 bench/edits.py $(CRATE) $(EDIT)
+
+# Wrong bodies made at random, of which those are told that the contracts of CRATE let through; behind `make test`.
+SEED = 1
+wrong:
+	@python3 bench/wrong.py $(CRATE) $(SEED)
 
 # Every command over tables that are changed at random, by the program that `make test` leaves.
 hostile:

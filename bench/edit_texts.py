@@ -137,7 +137,7 @@ def functions_of(path, text):
         head = FUNCTION.match(line)
         if not head:
             continue
-        ends = (it for it in range(at + 1, len(lines)) if lines[it].startswith(head[1] + "}"))
+        ends = (it for it in range(at + 1, len(lines)) if lines[it].startswith((head[1] + "}", head[1] + "{}")))
         last = at if line.endswith(("}", ";")) and line.count("{") == line.count("}") else next(ends, at)
         found.append(Function(module, kind, trait, head[2], at, last))
     return found
