@@ -1,6 +1,6 @@
 // Reads of fields as values.
 
-ghost use Rattle.std.specs.Prelude.{◌≡◌, ◌-◌, ◌≤◌, IfOk};
+ghost use Rattle.std.specs.Prelude.{◌≡◌, ◌⊎◌, ◌-◌, ◌≤◌, IfOk, OnErr};
 ghost use Rattle.aml_objects.specs.Widths.{bits_of};
 ghost use Rattle.aml_regions.specs.Fields.{IsSoundField, layout_of};
 ghost use Rattle.aml_regions.specs.Worlds.{CountsRefusal};
@@ -35,6 +35,8 @@ pub fn read_field<W: World>(
     ensures narrow { (layout_of field.now).bits ≤ bits_of width →
         CountsRefusal result (W.log world.old).refusals (W.log world.new).refusals }
     ensures answered { IfOk result (λ _. (W.log world.new).refusals ≡ (W.log world.old).refusals) }
+    ensures before { OnErr result ((W.log world.new ≡ W.log world.old)
+        ⊎ CountsRefusal result (W.log world.old).refusals (W.log world.new).refusals) }
 {
     let bits = field.layout().bits;
     if bits <= u64::from(width.bits()) {
