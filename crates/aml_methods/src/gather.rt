@@ -1,9 +1,10 @@
 // What bodies call, and the shapes of their literals.
 
-ghost use Rattle.std.specs.Prelude.{◌≡◌, ◌++◌, ◌∷◌, [], IfOk, OnOk};
+ghost use Rattle.std.specs.Prelude.{◌≡◌, ◌++◌, ◌∷◌, [], IfOk, OnOk, map};
 ghost use Rattle.aml_calls.specs.Calls.{called_by, calls_in_term, calls_of};
 ghost use Rattle.aml_calls.specs.Pairs.{numbers};
 ghost use Rattle.aml_namespace.specs.Shows.{shown};
+ghost use Rattle.aml_objects.specs.LookUp.{methods_in};
 ghost use Rattle.aml_operators.specs.Tree.{view, views};
 ghost use Rattle.aml_meaning.specs.Actions as actions;
 ghost use Rattle.aml_methods.specs.Gathered.{AreCalls, if_any, IsCalledFrom, links_of};
@@ -162,6 +163,8 @@ pub fn gathered(
     trees: &mut Trees,
 ) -> Result<Vec<(ObjectId, Vec<ObjectId>)>, NoMemory>
     ensures calls { IfOk result (λ pairs. AreCalls (shown namespace.now) pairs.items) }
+    ensures order { IfOk result (λ pairs.
+        map (λ p. p.0) pairs.items ≡ methods_in (shown namespace.now).entries) }
     ensures trees { AreTrees (shown namespace.now) trees.old.bodies.items →
         AreTrees (shown namespace.now) trees.new.bodies.items }
 {

@@ -1,8 +1,11 @@
 // Shapes of packages, each under a number of its own.
 
-ghost use Rattle.std.specs.Prelude.{◌≡◌, ◌<◌, [], IfOk, IfSome, None, OnErr, OnOk, length};
+ghost use Rattle.std.specs.Prelude.{◌≡◌, ◌<◌, ◌≤◌, [], IfOk, IfSome, None, OnErr, OnOk, length};
 ghost use Rattle.std.specs.BTreeMap.{get};
-ghost use Rattle.aml_known.specs.Views.{AreApart};
+ghost use Rattle.std.specs.Option.{option_map};
+ghost use Rattle.aml_judged.specs.KindRules as rules;
+ghost use Rattle.aml_kinds.specs.Kinds as kinds;
+ghost use Rattle.aml_known.specs.Views.{AreApart, element_kind_of};
 ghost use Rattle.aml_shapes.specs.Keys.{AreBelow, HasRoom, key_order, key_shape};
 ghost use Rattle.aml_shapes.specs.Numbers.{IsNumber, Keeps, numbered};
 ghost use Rattle.aml_shapes.specs.Tables.{IsPut, IsTable, Stands};
@@ -84,7 +87,8 @@ impl ShapeTable {
 
     /// The shape with a number, as it is kept.
     fn kept(&self, shape: ShapeNumber) -> Result<&Kept, NoMemory>
-        ensures { IfOk result (λ kept. Stands self.now shape.0 kept.now) }
+        ensures stands { IfOk result (λ kept. Stands self.now shape.0 kept.now) }
+        ensures there { OnErr result (length self.now ≤ shape.0) }
     {
         match self.shapes.get(shape.0) {
             Some(kept) => Ok(kept),
@@ -96,17 +100,28 @@ impl ShapeTable {
 impl Shapes for ShapeTable {
     ghost numbered = { numbered };
 
-    fn places(&self, shape: ShapeNumber) -> Result<u64, NoMemory> {
+    fn places(&self, shape: ShapeNumber) -> Result<u64, NoMemory>
+        ensures count { IfOk result (λ count. count ≡ kinds.places (numbered self.now shape.0)) }
+        ensures there { OnErr result (length self.now ≤ shape.0) }
+    {
         let kept = self.kept(shape)?;
         Ok(kept.key.places)
     }
 
-    fn place(&self, shape: ShapeNumber, number: u64) -> Result<Option<ElementKnown>, NoMemory> {
+    fn place(&self, shape: ShapeNumber, number: u64) -> Result<Option<ElementKnown>, NoMemory>
+        ensures place { IfOk result (λ place. option_map (element_kind_of (numbered self.now)) place
+            ≡ rules.place_numbered (numbered self.now shape.0) number) }
+        ensures there { OnErr result (length self.now ≤ shape.0) }
+    {
         let kept = self.kept(shape)?;
         Ok(kept.key.place(number))
     }
 
-    fn joined(&self, shape: ShapeNumber) -> Result<Option<ElementKnown>, NoMemory> {
+    fn joined(&self, shape: ShapeNumber) -> Result<Option<ElementKnown>, NoMemory>
+        ensures joined { IfOk result (λ place. option_map (element_kind_of (numbered self.now)) place
+            ≡ rules.joined_places (numbered self.now shape.0)) }
+        ensures there { OnErr result (length self.now ≤ shape.0) }
+    {
         let kept = self.kept(shape)?;
         Ok(kept.joined)
     }

@@ -1,6 +1,6 @@
 // What is said of all methods of a namespace.
 
-ghost use Rattle.std.specs.Prelude.{◌≡◌, ◌↔◌, ℕ, IfSome, IsSome, IsTrue, Some, map};
+ghost use Rattle.std.specs.Prelude.{◌≡◌, ◌↔◌, ℕ, IfSome, IsNone, IsSome, IsTrue, None, Some, map};
 ghost use Rattle.std.specs.Option.{option_and_then, option_map};
 ghost use Rattle.aml_bodies.specs.Kept.{kept_at};
 ghost use Rattle.aml_bodies.specs.Links.{AreLinks, IsLinked};
@@ -102,6 +102,7 @@ impl<'a> Checked<'a> {
             IfSome result (Means (shown self.now.namespace.now) method.0 at) }
         ensures all { (one : Kept) → kept_at self.now.kept.items method.0 ≡ Some one →
             (stop : ℕ) → IsLinked one.links at stop → IsSome result }
+        ensures none { kept_at self.now.kept.items method.0 ≡ None → IsNone result }
     {
         match self.kept(method) {
             Some(kept) => linked(kept, at),

@@ -5,7 +5,7 @@ use Rattle.aml_shapes.specs.Numbers.{numbered}
 use Rattle.aml_shapes.proofs.Numbers.{places_counted}
 use Rattle.aml_shapes.proofs.table.ShapeTableShapes.places.Goals as goal
 
-pub returns : goal.returns
-returns c =
+pub returns-clause-count : goal.returns-clause-count
+returns-clause-count c =
     let key = c.in_ok-kept.kept.now.key in
-    sym (ap places c.in_ok-kept.ensures.shape ∙ places_counted key.places (shaped (map (part_kind (numbered c.args.self.now)) key.parts.items)))
+    sym (ap places c.in_ok-kept.ensures.stands.shape ∙ places_counted key.places (shaped (map (part_kind (numbered c.args.self.now)) key.parts.items)))
