@@ -1,6 +1,7 @@
--- What registers answer to the reads among their events.
+-- What registers answer to the reads and the Sleeps among their events.
 use Rattle.std.specs.Prelude.{◌≡◌, ℕ, List, [], ◌∷◌, Option, Some, None, slice_get, take}
 use Rattle.aml_values.specs.Values.{Str}
+use Rattle.aml_contents.specs.Contents.{Contents}
 use Rattle.aml_regions.specs.Bytes.{SameBytes, unit_of, with_unit}
 use Rattle.aml_regions.specs.Events.{Event, Read, Written, Slept}
 use Rattle.aml_regions.specs.Text.{TextSets}
@@ -22,9 +23,19 @@ AnswerReads bytes events =
     (i : ℕ) (access : Access) (value : ℕ) → slice_get events i ≡ Some (Read access value)
     → value ≡ unit_of (left_by bytes (take i events)) access
 
+-- no Sleep among events left other contents of names
+abbrev pub LeaveNames : List Event → Type 0
+LeaveNames events =
+    (i milliseconds : ℕ) (left : Contents) → slice_get events i ≡ Some (Slept milliseconds (Some left))
+    → ⊥
+
+-- events are answered as registers of these bytes answer them
+abbrev pub AreAnswered : (ℕ → ℕ → ℕ) → List Event → Type 0
+AreAnswered bytes events = AnswerReads bytes events × LeaveNames events
+
 -- the same of the bytes that a text sets
 abbrev pub AnswerByText : List ℕ → List Event → Type 0
-AnswerByText text events = (bytes : ℕ → ℕ → ℕ) → TextSets text bytes → AnswerReads bytes events
+AnswerByText text events = (bytes : ℕ → ℕ → ℕ) → TextSets text bytes → AreAnswered bytes events
 
 -- the registers hold what the events left of the bytes that a text sets
 abbrev pub HoldByText : List ℕ → List Event → (ℕ → ℕ → ℕ) → Type 0

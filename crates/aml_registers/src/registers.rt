@@ -32,6 +32,7 @@ impl Registers {
         ensures bytes { SameBytes (λ _ _. 0) (contents result.file) }
         ensures text { TextSets result.text.items (contents result.file) }
         ensures log { result.file.events.items ≡ [] }
+        ensures refusals { result.file.refusals ≡ 0 }
     {
         Registers {
             text: Vec::new(alloc),
@@ -46,6 +47,7 @@ impl Registers {
         ensures bytes { IfOk result (λ r. TextSets (vec_items text) (contents r.file)) }
         ensures text { IfOk result (λ r. TextSets r.text.items (contents r.file)) }
         ensures log { IfOk result (λ r. r.file.events.items ≡ []) }
+        ensures refusals { IfOk result (λ r. r.file.refusals ≡ 0) }
         ensures fault { IfErr result (FailsToSet (vec_items text)) }
     {
         let file = RegisterFile::read_text(alloc, text.as_slice())?;

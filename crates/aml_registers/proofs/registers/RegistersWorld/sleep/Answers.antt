@@ -1,5 +1,5 @@
 use Rattle.std.proofs.Common.{◌≡◌, refl, None}
-use Rattle.aml_registers.proofs.Accounts.{answered_still, held_still}
+use Rattle.aml_registers.proofs.Accounts.{answered_still, held_still, slept_answered}
 use Rattle.aml_regions.specs.EventViews.{events_of}
 use Rattle.aml_regions.specs.Events.{Slept}
 use Rattle.aml_regions.specs.Registers.{contents}
@@ -11,5 +11,5 @@ invariant_of-self c =
     let new = c.sleep.new.self in
     record {
       holds = held_still old.text.items c.sleep.result (λ _. Slept c.args.milliseconds None) (events_of old.file.events.items) (events_of new.events.items) (contents old.file) (contents new) (λ v bytes. refl) c.sleep.ensures.untouched c.sleep.ensures.kept old.holds;
-      answers = answered_still old.text.items c.sleep.result (λ _. Slept c.args.milliseconds None) (events_of old.file.events.items) (events_of new.events.items) (λ v bytes a w is. absurd (cc is)) c.sleep.ensures.untouched old.answers;
+      answers = answered_still old.text.items c.sleep.result (λ _. Slept c.args.milliseconds None) (events_of old.file.events.items) (events_of new.events.items) (λ v. slept_answered c.args.milliseconds) c.sleep.ensures.untouched old.answers;
     }

@@ -1,5 +1,5 @@
 use Rattle.std.proofs.Common.{◌≡◌, refl}
-use Rattle.aml_registers.proofs.Accounts.{answered_still, held_still}
+use Rattle.aml_registers.proofs.Accounts.{answered_still, held_still, stalled_answered}
 use Rattle.aml_regions.specs.EventViews.{events_of}
 use Rattle.aml_regions.specs.Events.{Stalled}
 use Rattle.aml_regions.specs.Registers.{contents}
@@ -11,5 +11,5 @@ invariant_of-self c =
     let new = c.stall.new.self in
     record {
       holds = held_still old.text.items c.stall.result (λ _. Stalled c.args.microseconds) (events_of old.file.events.items) (events_of new.events.items) (contents old.file) (contents new) (λ v bytes. refl) c.stall.ensures.event c.stall.ensures.kept old.holds;
-      answers = answered_still old.text.items c.stall.result (λ _. Stalled c.args.microseconds) (events_of old.file.events.items) (events_of new.events.items) (λ v bytes a w is. absurd (cc is)) c.stall.ensures.event old.answers;
+      answers = answered_still old.text.items c.stall.result (λ _. Stalled c.args.microseconds) (events_of old.file.events.items) (events_of new.events.items) (λ v. stalled_answered c.args.microseconds) c.stall.ensures.event old.answers;
     }
