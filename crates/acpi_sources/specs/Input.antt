@@ -1,24 +1,40 @@
 -- Standard input: its bytes, its lines, and the files that stand on them in hex.
-use Rattle.std.specs.Prelude.{◌≡◌, ◌≤◌, ◌<◌, ◌⊎◌, ◌==◌, ℕ, List, [], ◌∷◌, length, ◌++◌, Bool, true, false, All, Option, Some, None, Result, Ok, Err, codes, not, vec_items}
+use Rattle.std.specs.Prelude.{◌≡◌, ◌≤◌, ◌<◌, ◌⊎◌, ◌==◌, ℕ, List, [], ◌∷◌, length, ◌++◌, Bool, true, false, All, Option, Some, None, IsSome, Result, Ok, Err, codes, not, vec_items}
 use Rattle.std.specs.Io.KnownBytes.{Consumes, IsAtEnd}
 use Rattle.hex.specs.Hex.{decode_of}
 use Rattle.hex.specs.declared.error.FromHexError.{FromHexError}
 use Rattle.acpi_sources.specs.Files.{limit}
+use Rattle.acpi_sources.specs.declared.disk.Unread.{Unread}
+use Rattle.acpi_sources.specs.declared.disk.Unread.TheVariants as unread
 use Rattle.acpi_sources.specs.declared.input.Input.{Input}
 use Rattle.acpi_sources.specs.declared.hex_lines.HexLines.{HexLines}
 use Rattle.acpi_sources.specs.declared.source.SourceFault.{SourceFault}
 use Rattle.acpi_sources.specs.declared.source.SourceFault.TheVariants.{File, NoMemory}
 
--- what was read of a stream: its next bytes; and where they are told to be whole, all and at most
--- 16 MiB
-abbrev pub IsRead : Option (List ℕ) → Option (List ℕ) → Input → Type 0
-IsRead old new read =
-    Consumes old new (vec_items read.bytes)
-    × (read.is_whole ≡ true → IsAtEnd new × (length (vec_items read.bytes) ≤ limit))
+-- what was read of a stream: its next bytes. They are told to be whole where they are all and at
+-- most 16 MiB; else a read failed, which is told, or they are more
+pub record IsRead (old new : Option (List ℕ)) (read : Input) : Type 0 where
+  pub next : Consumes old new (vec_items read.bytes)
+  pub whole : read.is_whole ≡ true → IsAtEnd new × (length (vec_items read.bytes) ≤ limit)
+  pub cut : read.is_whole ≡ false →
+      IsSome read.failure ⊎ (limit < length (vec_items read.bytes))
+  pub failed : IsSome read.failure → read.is_whole ≡ false
 
 -- all bytes of a stream, at most 16 MiB
 abbrev pub IsAllOf : Option (List ℕ) → Option (List ℕ) → List ℕ → Type 0
 IsAllOf old new bytes = Consumes old new bytes × IsAtEnd new × (length bytes ≤ limit)
+
+-- more bytes of a stream than 16 MiB were read
+pub record IsTooLarge (old new : Option (List ℕ)) : Type 0 where
+  pub bytes : List ℕ
+  pub next : Consumes old new bytes
+  pub large : limit < length bytes
+
+-- what is told of a file that was not read whole
+abbrev pub unread_fault : Unread → SourceFault
+unread_fault (unread.Failed error) = File
+unread_fault unread.TooLarge = File
+unread_fault unread.NoMemory = NoMemory
 
 -- the next line of some bytes, without its end, and the bytes behind it; none where no byte is left
 abbrev pub NextLine : List ℕ → Option (List ℕ) → List ℕ → Type 0
@@ -31,15 +47,20 @@ NextLine bytes (Some line) rest =
 abbrev pub IsTorn : Bool → List ℕ → List ℕ → Type 0
 IsTorn whole line bytes = (whole ≡ false) × (length line ≡ length bytes)
 
--- a file `@` is the next line's hex text
+-- a line is taken, and nothing else changes
+abbrev pub TakesLine : HexLines → Option (List ℕ) → HexLines → Type 0
+TakesLine old line new =
+    NextLine old.lines.rest.now line new.lines.rest.now × (new.is_whole ≡ old.is_whole)
+
+-- a file `@` is the next line's hex text; of any other name, and where lines are missing, none is
+-- taken
 abbrev pub hex_answers : HexLines → List ℕ → Result (List ℕ) SourceFault → HexLines → Type 0
 hex_answers old name (Ok bytes) new =
     (name ≡ codes "@") × (old.is_whole ≡ true)
-    × ((line : List ℕ) × NextLine old.lines.rest.now (Some line) new.lines.rest.now
-    × (decode_of line ≡ Ok bytes))
+    × ((line : List ℕ) × TakesLine old (Some line) new × (decode_of line ≡ Ok bytes))
 hex_answers old name (Err File) new =
-    (name ≡ codes "@" → ⊥)
-    ⊎ ((old.is_whole ≡ false) ⊎ (NextLine old.lines.rest.now None new.lines.rest.now
+    ((name ≡ codes "@" → ⊥) × (new ≡ old))
+    ⊎ (((old.is_whole ≡ false) × (new ≡ old)) ⊎ (TakesLine old None new
     ⊎ ((line : List ℕ) × (e : FromHexError)
-    × NextLine old.lines.rest.now (Some line) new.lines.rest.now × (decode_of line ≡ Err e))))
-hex_answers old name (Err NoMemory) new = Unit {0}
+    × TakesLine old (Some line) new × (decode_of line ≡ Err e))))
+hex_answers old name (Err NoMemory) new = (line : List ℕ) × TakesLine old (Some line) new

@@ -1,4 +1,4 @@
--- What a command reads before it begins.
+-- The tables that a command reads.
 use Rattle.std.specs.Prelude.{ℕ, List, map, Result, Ok, Err, vec_items}
 use Rattle.acpi_sources.specs.Files.{Answers, OpensAll, prepared}
 use Rattle.acpi_sources.specs.declared.fault.Fault.{Fault}
@@ -13,7 +13,7 @@ file_names names = map (λ name. name.now) (vec_items names.files)
 abbrev pub tables_of : Inputs → List (List ℕ)
 tables_of inputs = map vec_items (vec_items inputs.files)
 
--- all is read that is named, in this order: the files
+-- all are read that are named, in their order
 abbrev pub OpensInputs : {F : Type 0} → Answers F → F → InputNames →
     Result Inputs Fault → F → Type 0
 OpensInputs answers old names (Ok inputs) new =

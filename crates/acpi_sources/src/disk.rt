@@ -1,7 +1,8 @@
 // The files of the disk.
 
-ghost use Rattle.std.specs.Prelude.{◌≡◌, IfOk, vec_items};
-ghost use Rattle.acpi_sources.specs.Input.{IsAllOf};
+ghost use Rattle.std.specs.Prelude.{◌≡◌, IfErr, IfOk, vec_items};
+ghost use Rattle.acpi_sources.specs.Input.{IsAllOf, IsTooLarge, unread_fault};
+ghost use Rattle.acpi_sources.specs.declared.disk.Unread.TheVariants as unread;
 
 use crate::input::{INPUT_LIMIT, read_input};
 use crate::source::{Source, SourceFault};
@@ -62,24 +63,30 @@ pub enum Unread {
 }
 
 impl From<AllocError> for Unread {
+    ghost from_gives = { λ _ why. why ≡ unread.NoMemory };
+
     fn from(_error: AllocError) -> Unread {
         Unread::NoMemory
     }
 }
 
 impl From<Unread> for SourceFault {
-    fn from(unread: Unread) -> SourceFault {
-        match unread {
+    ghost from_gives = { λ why fault. fault ≡ unread_fault why };
+
+    fn from(why: Unread) -> SourceFault {
+        match why {
             Unread::NoMemory => SourceFault::NoMemory,
-            _ => SourceFault::File,
+            Unread::Failed(_) | Unread::TooLarge => SourceFault::File,
         }
     }
 }
 
 /// All bytes of a stream, at most [`INPUT_LIMIT`].
 pub fn read_whole<R: Read>(alloc: Global, input: &mut R) -> Result<Vec<u8>, Unread>
-    ensures { IfOk result
+    ensures whole { IfOk result
         (λ bytes. IsAllOf (R.remaining input.old) (R.remaining input.new) (vec_items bytes)) }
+    ensures large { IfErr result (λ why. why ≡ unread.TooLarge →
+        IsTooLarge (R.remaining input.old) (R.remaining input.new)) }
 {
     let read = read_input(alloc, input)?;
     if read.is_whole {

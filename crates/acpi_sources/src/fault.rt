@@ -31,7 +31,8 @@ pub enum FaultCause {
     BadRegs,
     /// The text of `--args` is no list of arguments.
     BadArgs,
-    /// Too many or too few arguments for the method, or one above the greatest integer.
+    /// Too many or too few arguments for the method, one above the greatest integer, or one of
+    /// another kind than its verdict says.
     ArgsDontFit,
     /// A file or a line of the input that cannot be read.
     File,

@@ -1,8 +1,10 @@
 // The line of a fault.
 
-ghost use Rattle.std.specs.Prelude.{◌≡◌, IfOk, string_bytes};
+ghost use Rattle.std.specs.Prelude.{◌≡◌, IfErr, IfOk, IsOk, string_bytes};
 ghost use Rattle.acpi_text.specs.Lists.{Lists};
 ghost use Rattle.acpi_sources.specs.Faults.{fault_line, where_text};
+ghost use Rattle.acpi_sources.specs.declared.fault.Where.TheVariants.{Nowhere};
+ghost use Rattle.acpi_text.specs.declared.writing.RunFault.TheVariants.{Write as WriteFailed};
 
 use crate::fault::{Fault, Where};
 use acpi_text::{RunFault, put};
@@ -15,7 +17,8 @@ use std::io::Write;
 /// Only a fault that has a place needs memory to be told. At Err the writer holds a beginning of
 /// the line.
 pub fn list_fault<W: Write>(alloc: Global, out: &mut W, fault: Fault) -> Result<(), RunFault>
-    ensures { Lists result (W.contents out.old) (W.contents out.new) (fault_line fault) }
+    ensures lists { Lists result (W.contents out.old) (W.contents out.new) (fault_line fault) }
+    ensures placeless { fault.at ≡ Nowhere → IfErr result (λ why. why ≡ WriteFailed) }
 {
     let place = place_of(alloc, fault.at)?;
     put(out, b"fault ")?;
@@ -26,7 +29,8 @@ pub fn list_fault<W: Write>(alloc: Global, out: &mut W, fault: Fault) -> Result<
 
 #[tactic(auto, unfolding(crate::specs::Faults::where_text))]
 fn place_of(alloc: Global, at: Where) -> Result<String, AllocError>
-    ensures { IfOk result (λ text. string_bytes text ≡ where_text at) }
+    ensures text { IfOk result (λ text. string_bytes text ≡ where_text at) }
+    ensures placeless { at ≡ Nowhere → IsOk result }
 {
     match at {
         Where::Nowhere => Ok(String::new(alloc)),

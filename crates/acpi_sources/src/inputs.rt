@@ -1,4 +1,4 @@
-// What a command reads before it begins.
+// The tables that a command reads.
 
 ghost use Rattle.std.specs.Prelude.{◌<◌, length};
 
@@ -6,7 +6,7 @@ use crate::fault::Fault;
 use crate::source::{Source, read_files};
 use std::alloc::Global;
 
-/// The names of what a command reads before it begins, in the order of reading.
+/// The names of the tables that a command reads, in the order of reading.
 #[derive(Debug, Drop)]
 pub struct InputNames<'a> {
     /// Whether Externals are read that stand in an If that never runs.
@@ -16,7 +16,7 @@ pub struct InputNames<'a> {
     pub ghost some: { 0 < length files.items },
 }
 
-/// What a command has read before it begins.
+/// The tables that a command has read.
 #[derive(Debug, Drop)]
 pub struct Inputs {
     /// The bytes of the DSDT, and of the SSDTs behind it.

@@ -13,7 +13,7 @@ use thiserror::Error;
 /// Why a file has no bytes.
 #[derive(Clone, Copy, Debug, PartialEq, Eq, Error)]
 pub enum SourceFault {
-    /// It cannot be read, or is larger than [`crate::INPUT_LIMIT`].
+    /// It cannot be read; of the disk also that it is larger than [`crate::INPUT_LIMIT`].
     #[error("the file cannot be read")]
     File,
     #[error("no memory")]

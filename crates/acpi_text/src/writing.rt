@@ -1,8 +1,8 @@
 // Writing text out.
 
-ghost use Rattle.std.specs.Prelude.{◌≡◌};
+ghost use Rattle.std.specs.Prelude.{◌≡◌, IfErr};
 ghost use Rattle.acpi_text.specs.Lists.{Lists};
-ghost use Rattle.acpi_text.specs.declared.writing.RunFault.TheVariants.{NoMemory};
+ghost use Rattle.acpi_text.specs.declared.writing.RunFault.TheVariants as told;
 
 use std::alloc::AllocError;
 use std::io::Write;
@@ -20,7 +20,7 @@ pub enum RunFault {
 }
 
 impl From<AllocError> for RunFault {
-    ghost from_gives = { λ _ fault. fault ≡ NoMemory };
+    ghost from_gives = { λ _ fault. fault ≡ told.NoMemory };
 
     fn from(_error: AllocError) -> RunFault {
         RunFault::NoMemory
@@ -28,16 +28,17 @@ impl From<AllocError> for RunFault {
 }
 
 impl From<aml_paths::NoMemory> for RunFault {
-    ghost from_gives = { λ _ fault. fault ≡ NoMemory };
+    ghost from_gives = { λ _ fault. fault ≡ told.NoMemory };
 
     fn from(_error: aml_paths::NoMemory) -> RunFault {
         RunFault::NoMemory
     }
 }
 
-/// Writes the whole text, by as many writes as the writer wants.
+/// Writes the whole text, by as many writes as the writer wants. It takes no memory.
 pub fn put<W: Write>(out: &mut W, text: &[u8]) -> Result<(), RunFault>
-    ensures { Lists result (W.contents out.old) (W.contents out.new) text.now }
+    ensures lists { Lists result (W.contents out.old) (W.contents out.new) text.now }
+    ensures fault { IfErr result (λ fault. fault ≡ told.Write) }
 {
     let mut rest = text;
     while !rest.is_empty() {
