@@ -1,3 +1,4 @@
 pub mod Answers
 pub mod Headline
 pub mod Turns
+pub mod Sleeping

@@ -1,10 +1,11 @@
 -- What runs at a Sleep: other methods, each over a copy of the names.
-use Rattle.std.specs.Prelude.{◌≡◌, ℕ, List, [], Option, Some, None, slice_get, true}
+use Rattle.std.specs.Prelude.{◌≡◌, ◌⊎◌, ℕ, List, [], Option, Some, None, slice_get, true}
 use Rattle.aml_contents.specs.Belongs.{Belong}
 use Rattle.aml_contents.specs.Held.{content_kinds}
 use Rattle.aml_contents.specs.declared.names.Names as program_names
-use Rattle.aml_interp.specs.Answers.{IsDone}
+use Rattle.aml_interp.specs.Answers.{IsCutShort, IsDone}
 use Rattle.aml_machine.specs.Views.{names_of}
+use Rattle.aml_meaning.specs.State as state
 use Rattle.aml_namespace.specs.Shows.{shown}
 use Rattle.aml_paths.specs.declared.scope.ObjectId.{ObjectId}
 use Rattle.aml_regions.specs.EventViews.{events_of}
@@ -43,3 +44,13 @@ module _ (c : Checked) (methods : List ObjectId) (n : ℕ) (names : program_name
       ((id : ObjectId) → slice_get methods n ≡ Some id →
       Belong (shown c.namespace.now) (content_kinds names) → ⊥)
       × (log_left ≡ log)
+
+  -- for want of memory it did not run, or went no further than some of its steps take it
+  pub record IsCut : Type 0 where
+    pub id : ObjectId
+    pub there : slice_get methods n ≡ Some id
+    pub held : state.Names
+    pub short : IsCutShort c id.0 [] (names_of names) log held log_left
+
+  abbrev pub IsTurnCutShort : Type 0
+  IsTurnCutShort = (log_left ≡ log) ⊎ IsCut

@@ -1,18 +1,17 @@
-// A world at whose Sleeps other methods run.
+// A world at whose Sleeps other methods run: what it is, and how one of them runs. As a world it
+// stands in `world`.
 
-ghost use Rattle.std.specs.Prelude.{◌≡◌, IfOk};
+ghost use Rattle.std.specs.Prelude.{◌≡◌, IfOk, OnErr};
 ghost use Rattle.aml_bodies.specs.TreeSets.{body_props};
-ghost use Rattle.std.specs.Option.{option_map};
-ghost use Rattle.aml_contents.specs.Held.{contents};
 ghost use Rattle.aml_interp.specs.Answers.{IsReady, WereChecked};
-ghost use Rattle.aml_interp.specs.Turns.{AreCallable, Turns, log_of};
-ghost use Rattle.aml_regions.specs.EventViews.{events_of};
-ghost use Rattle.aml_regions.specs.Worlds.{counted};
+ghost use Rattle.aml_interp.specs.Turns.{AreCallable, IsTurnCutShort, Turns, log_of};
+
+mod world;
 
 use crate::evaluation::evaluate_ready;
 use aml_contents::Names;
 use aml_paths::{NoMemory, ObjectId};
-use aml_regions::{Access, RegisterFile, World};
+use aml_regions::RegisterFile;
 use aml_verify::Checked;
 use std::alloc::Global;
 
@@ -88,10 +87,12 @@ impl<'a> Others<'a> {
     ///
     /// # Errors
     ///
-    /// `NoMemory`, where memory is wanted.
+    /// `NoMemory`, where memory is wanted: the others' registers stand as the run left them.
     pub fn turn(&mut self, n: usize, names: &Names) -> Result<Option<Names>, NoMemory>
         ensures turned { IfOk result (Turns self.old.checked.now self.old.methods.items n names.now
             (log_of self.old.theirs) (log_of self.new.theirs)) }
+        ensures cut { OnErr result (IsTurnCutShort self.old.checked.now self.old.methods.items n
+            names.now (log_of self.old.theirs) (log_of self.new.theirs)) }
         ensures checked { self.new.checked ≡ self.old.checked }
         ensures methods { self.new.methods ≡ self.old.methods }
         ensures mine { self.new.mine ≡ self.old.mine }
@@ -117,79 +118,5 @@ impl<'a> Others<'a> {
             Ok(_) => Ok(Some(left)),
             Err(NoMemory) => Err(NoMemory),
         }
-    }
-
-    /// Counts a refusal.
-    fn refuse(&mut self) -> NoMemory
-        ensures mine { self.new.mine ≡ self.old.mine }
-        ensures refused { self.new.refused ≡ counted self.old.refused }
-    {
-        self.refused = self.refused.saturating_add(1);
-        NoMemory
-    }
-}
-
-impl World for Others<'_> {
-    ghost log = { λ it. record {
-      events = events_of it.mine.events.items;
-      refusals = it.refused;
-    } };
-
-    fn read(&mut self, access: Access) -> Result<u64, NoMemory> {
-        match self.mine.read(access) {
-            Ok(value) => Ok(value),
-            Err(NoMemory) => Err(self.refuse()),
-        }
-    }
-
-    fn write(&mut self, access: Access, value: u64) -> Result<(), NoMemory> {
-        match self.mine.write(access, value) {
-            Ok(()) => Ok(()),
-            Err(NoMemory) => Err(self.refuse()),
-        }
-    }
-
-    fn notify(&mut self, object: ObjectId, value: u64) -> Result<(), NoMemory> {
-        match self.mine.notify(object, value) {
-            Ok(()) => Ok(()),
-            Err(NoMemory) => Err(self.refuse()),
-        }
-    }
-
-    fn sleep(&mut self, milliseconds: u64, names: &mut Names) -> Result<(), NoMemory> {
-        let Ok(turned) = self.turn(self.slept, names) else {
-            return Err(self.refuse());
-        };
-        let Ok(noted) = noted(self.alloc, &turned) else {
-            return Err(self.refuse());
-        };
-        let Ok(()) = self.mine.note_sleep(milliseconds, noted) else {
-            return Err(self.refuse());
-        };
-        if let Some(left) = turned {
-            *names = left;
-        }
-        self.slept = self.slept.saturating_add(1);
-        Ok(())
-    }
-
-    fn stall(&mut self, microseconds: u64) -> Result<(), NoMemory> {
-        match self.mine.stall(microseconds) {
-            Ok(()) => Ok(()),
-            Err(NoMemory) => Err(self.refuse()),
-        }
-    }
-}
-
-/// A copy of what a turn left, for the log.
-fn noted(alloc: Global, turned: &Option<Names>) -> Result<Option<Names>, NoMemory>
-    ensures { IfOk result (λ made. option_map contents made ≡ option_map contents turned.now) }
-{
-    match turned {
-        Some(left) => {
-            let made = left.copy(alloc)?;
-            Ok(Some(made))
-        }
-        None => Ok(None),
     }
 }
