@@ -1,7 +1,8 @@
 // What people are told of why a method is refused.
 
-ghost use Rattle.std.specs.Prelude.{◌≡◌, ◌++◌, IfOk, OnOk, map, string_bytes};
+ghost use Rattle.std.specs.Prelude.{◌≡◌, ◌++◌, IfErr, IfOk, OnOk, map, string_bytes};
 ghost use Rattle.acpi_verdicts.specs.Explained.{asks_callee, called_at, callee_told, chain_text, label_of, next_of, reason_text, refused_part, refused_place, refused_text, rest_text, unreadable_label, unreadable_text};
+ghost use Rattle.acpi_text.specs.declared.writing.RunFault.TheVariants as told;
 ghost use Rattle.aml_namespace.specs.Shows.{shown};
 
 use crate::findings::push_finding;
@@ -40,8 +41,9 @@ pub fn explain(
     names: &[&str],
     id: ObjectId,
 ) -> Result<Vec<u8>, RunFault>
-    ensures { IfOk result (λ text. text.items
+    ensures text { IfOk result (λ text. text.items
         ≡ chain_text 8 (map (λ name. name.now) names.now) checked.now id) }
+    ensures fault { IfErr result (λ fault. fault ≡ told.NoMemory) }
 {
     let mut text = Vec::new(alloc);
     push_chain(alloc, &mut text, checked, names, id, MOST_TOLD)?;
@@ -57,8 +59,9 @@ fn push_chain(
     id: ObjectId,
     most: u8,
 ) -> Result<(), RunFault>
-    ensures { OnOk result (text.new.items ≡ text.old.items
+    ensures text { OnOk result (text.new.items ≡ text.old.items
         ++ chain_text most (map (λ name. name.now) names.now) checked.now id) }
+    ensures fault { IfErr result (λ fault. fault ≡ told.NoMemory) }
 {
     if most == 0 {
         return push_rest(alloc, text, checked.namespace(), id);
@@ -78,7 +81,9 @@ fn push_rest(
     namespace: &Namespace<'_>,
     id: ObjectId,
 ) -> Result<(), RunFault>
-    ensures { OnOk result (text.new.items ≡ text.old.items ++ rest_text (shown namespace.now) id) }
+    ensures text { OnOk result
+        (text.new.items ≡ text.old.items ++ rest_text (shown namespace.now) id) }
+    ensures fault { IfErr result (λ fault. fault ≡ told.NoMemory) }
 {
     text.extend_from_slice(b"the rest of the chain stands under ")?;
     push_path(alloc, text, namespace, id)?;
@@ -94,8 +99,9 @@ fn push_reason(
     names: &[&str],
     id: ObjectId,
 ) -> Result<(), RunFault>
-    ensures { OnOk result (text.new.items ≡ text.old.items
+    ensures text { OnOk result (text.new.items ≡ text.old.items
         ++ reason_text (map (λ name. name.now) names.now) checked.now id) }
+    ensures fault { IfErr result (λ fault. fault ≡ told.NoMemory) }
 {
     match checked.verdict(id) {
         Some(Verdict::Refused(refusal, finding)) => {
@@ -149,8 +155,9 @@ fn push_refused(
     refusal: Refusal,
     finding: Finding,
 ) -> Result<(), RunFault>
-    ensures { OnOk result (text.new.items ≡ text.old.items
+    ensures text { OnOk result (text.new.items ≡ text.old.items
         ++ refused_text (shown namespace.now) label.now id refusal finding) }
+    ensures fault { IfErr result (λ fault. fault ≡ told.NoMemory) }
 {
     push_path(alloc, text, namespace, id)?;
     push_cause(alloc, text, namespace, label, refusal, finding)?;
@@ -171,8 +178,9 @@ fn push_cause(
     refusal: Refusal,
     finding: Finding,
 ) -> Result<(), RunFault>
-    ensures { OnOk result (text.new.items ≡ text.old.items
+    ensures text { OnOk result (text.new.items ≡ text.old.items
         ++ refused_part (shown namespace.now) label.now refusal finding) }
+    ensures fault { IfErr result (λ fault. fault ≡ told.NoMemory) }
 {
     let place = refused_place(alloc, label, refusal)?;
     text.extend_from_slice(place.as_bytes())?;
@@ -211,8 +219,9 @@ fn push_unreadable(
     bytes: &[u8],
     refusal: Unread,
 ) -> Result<(), RunFault>
-    ensures { OnOk result (text.new.items ≡ text.old.items
+    ensures text { OnOk result (text.new.items ≡ text.old.items
         ++ unreadable_text (shown namespace.now) label.now bytes.now id refusal) }
+    ensures fault { IfErr result (λ fault. fault ≡ told.NoMemory) }
 {
     push_path(alloc, text, namespace, id)?;
     let at = refusal.at;

@@ -1,7 +1,8 @@
 // What rules found where they refuse and what they wanted, in words: kinds as `--kinds` has them.
 
-ghost use Rattle.std.specs.Prelude.{◌≡◌, ◌++◌, IfOk, OnOk, string_bytes};
+ghost use Rattle.std.specs.Prelude.{◌≡◌, ◌++◌, IfErr, IfOk, OnOk, string_bytes};
 ghost use Rattle.acpi_verdicts.specs.Findings as spec;
+ghost use Rattle.acpi_text.specs.declared.writing.RunFault.TheVariants as told;
 ghost use Rattle.aml_namespace.specs.Shows.{shown};
 ghost use Rattle.aml_objects.specs.Widths.{bits_of};
 
@@ -21,8 +22,9 @@ pub(crate) fn push_finding(
     namespace: &Namespace<'_>,
     finding: Finding,
 ) -> Result<(), RunFault>
-    ensures { OnOk result
+    ensures text { OnOk result
         (text.new.items ≡ text.old.items ++ spec.told_text (shown namespace.now) finding) }
+    ensures fault { IfErr result (λ fault. fault ≡ told.NoMemory) }
 {
     match finding {
         Finding::Released { mutex, last } => push_released(alloc, text, namespace, mutex, last),
@@ -44,8 +46,9 @@ fn push_released(
     mutex: ObjectId,
     last: Option<ObjectId>,
 ) -> Result<(), RunFault>
-    ensures { OnOk result (text.new.items
+    ensures text { OnOk result (text.new.items
         ≡ text.old.items ++ spec.released_text (shown namespace.now) mutex last) }
+    ensures fault { IfErr result (λ fault. fault ≡ told.NoMemory) }
 {
     text.extend_from_slice(b": found a release of ")?;
     push_path(alloc, text, namespace, mutex)?;
@@ -59,8 +62,9 @@ fn push_last(
     namespace: &Namespace<'_>,
     last: Option<ObjectId>,
 ) -> Result<(), RunFault>
-    ensures { OnOk result
+    ensures text { OnOk result
         (text.new.items ≡ text.old.items ++ spec.last_text (shown namespace.now) last) }
+    ensures fault { IfErr result (λ fault. fault ≡ told.NoMemory) }
 {
     let Some(last) = last else {
         text.extend_from_slice(b", wanted none where no mutex is held")?;
@@ -79,8 +83,9 @@ fn push_still_held(
     namespace: &Namespace<'_>,
     last: ObjectId,
 ) -> Result<(), RunFault>
-    ensures { OnOk result
+    ensures text { OnOk result
         (text.new.items ≡ text.old.items ++ spec.still_held_text (shown namespace.now) last) }
+    ensures fault { IfErr result (λ fault. fault ≡ told.NoMemory) }
 {
     text.extend_from_slice(b": found ")?;
     push_path(alloc, text, namespace, last)?;
@@ -96,8 +101,9 @@ fn push_reached(
     table: usize,
     at: usize,
 ) -> Result<(), RunFault>
-    ensures { OnOk result (text.new.items
+    ensures text { OnOk result (text.new.items
         ≡ text.old.items ++ spec.reached_text (shown namespace.now) table at) }
+    ensures fault { IfErr result (λ fault. fault ≡ told.NoMemory) }
 {
     let place = reached_place(alloc, at)?;
     text.extend_from_slice(place.as_bytes())?;

@@ -1,18 +1,18 @@
 // The arguments of a method, as the text of `--args` lists them.
 
 ghost use Rattle.std.specs.Prelude.{◌≡◌, ◌↔◌, ◌∷◌, ◌≤◌, ◌<◌, ◌^◌, IsTrue};
-ghost use Rattle.std.specs.Prelude.{ℕ, List, IfSome, MatchBool, MatchOption, map, vec_items};
+ghost use Rattle.std.specs.Prelude.{ℕ, All, List, IfOk, MatchBool, MatchOption, map, vec_items};
 ghost use Rattle.std.specs.Str.Parse.{IsNumeral, digits_value};
 ghost use Rattle.aml_values.specs.Values.{Int, none};
 ghost use Rattle.aml_values.specs.Views.{view};
-ghost use Rattle.acpi_words.specs.Arguments.{AreBytes, AreCharacters, IsAnyArgument, IsArgument, IsFirstBad, IsInteger, IsNoArgument, ListsNoValues, ListsValues};
+ghost use Rattle.acpi_words.specs.Arguments.{AreBytes, AreCharacters, IsAnyArgument, IsArgument, IsFirstBad, IsInteger, IsNoArgument, ListsNoValues, ListsValues, elements};
 ghost use Rattle.acpi_sources.specs.Faults.{nowhere, Tries};
 ghost use Rattle.acpi_sources.specs.declared.fault.FaultCause.TheVariants as cause;
 
 use acpi_sources::{Fault, FaultCause};
 use aml_values::{Bytes, Package, Value};
 use hex::FromHexError;
-use std::alloc::Global;
+use std::alloc::{AllocError, Global};
 
 /// The most bytes of a buffer.
 const BUFFER_LIMIT: usize = 65_536;
@@ -36,37 +36,41 @@ pub fn read_arguments(alloc: Global, text: &str) -> Result<Vec<Value>, Fault>
     Ok(arguments)
 }
 
-/// The first element that is no value, with its number, from 0. None where memory is wanted for an
-/// element before it, or where each is a value.
-pub fn bad_argument(alloc: Global, text: &str) -> Option<(usize, &str)>
-    ensures { IfSome result (λ bad. IsFirstBad text.now bad.0 bad.1.now) }
+/// The first element that is no value, with its number, from 0; None where each is a value.
+///
+/// # Errors
+///
+/// `AllocError`, where memory is wanted for an element.
+pub fn bad_argument(alloc: Global, text: &str) -> Result<Option<(usize, &str)>, AllocError>
+    ensures { IfOk result (λ found. MatchOption found (All IsAnyArgument (elements text.now))
+        (λ bad. IsFirstBad text.now bad.0 bad.1.now)) }
 {
     let mut number = 0;
     let mut rest = text;
     while let Some((element, behind)) = rest.split_once(',') {
         if !is_argument(alloc, element)? {
-            return Some((number, element));
+            return Ok(Some((number, element)));
         }
         number += 1;
         rest = behind;
     }
     if is_argument(alloc, rest)? {
-        return None;
+        return Ok(None);
     }
-    Some((number, rest))
+    Ok(Some((number, rest)))
 }
 
-// Whether an element is a value; None where memory is wanted to tell.
-fn is_argument(alloc: Global, element: &str) -> Option<bool>
-    ensures { IfSome result
+// Whether an element is a value.
+fn is_argument(alloc: Global, element: &str) -> Result<bool, AllocError>
+    ensures { IfOk result
         (λ told. MatchBool told (IsAnyArgument element.now) (IsNoArgument element.now)) }
 {
     match read_argument(alloc, element) {
-        Ok(_) => Some(true),
+        Ok(_) => Ok(true),
         Err(fault) => {
             match fault.cause {
-                FaultCause::NoMemory => None,
-                _ => Some(false),
+                FaultCause::NoMemory => Err(AllocError),
+                _ => Ok(false),
             }
         }
     }
@@ -151,7 +155,7 @@ fn hex_digits(element: &str) -> Option<&str>
 }
 
 // `from_str_radix` takes a sign too, which no element has.
-fn read_digits(digits: &str, radix: u32) -> Option<u64>
+pub(crate) fn read_digits(digits: &str, radix: u32) -> Option<u64>
     requires least { 2 ≤ radix }
     requires most { radix ≤ 36 }
     ensures { MatchOption result

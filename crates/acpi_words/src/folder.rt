@@ -3,6 +3,7 @@
 ghost use Rattle.std.specs.Prelude.{◌≡◌, ◌++◌, ◌<◌, ℕ, List, IfOk, false, length, map, string_bytes, vec_items};
 ghost use Rattle.acpi_words.specs.Folders.{HasFolders, StandsFor, takes_value};
 
+use crate::arguments::read_digits;
 use std::alloc::AllocError;
 use std::fs;
 use std::rt::Files;
@@ -167,7 +168,7 @@ fn rank_of(name: &str) -> Option<(u8, u64)> {
     }
     let number = match digits {
         "" => 0,
-        _ => digits.parse::<u64>().ok()?,
+        _ => read_digits(digits, 10)?,
     };
     if signature.eq_ignore_ascii_case("dsdt") {
         return Some((0, number));

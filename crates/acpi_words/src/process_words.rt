@@ -33,7 +33,8 @@ pub fn command_words<R: Env + Files + Eprint + AllocGlobal + Clone + Drop>(
 
 // Why the words cannot be had.
 fn fault_of_unread(kind: ErrorKind) -> Fault
-    ensures { (result ≡ nowhere cause.CommandLine) ⊎ (result ≡ nowhere cause.NoMemory) }
+    ensures memory { kind ≡ ErrorKind.OutOfMemory → result ≡ nowhere cause.NoMemory }
+    ensures words { (kind ≡ ErrorKind.OutOfMemory → ⊥) → result ≡ nowhere cause.CommandLine }
 {
     match kind {
         ErrorKind::OutOfMemory => Fault::nowhere(FaultCause::NoMemory),

@@ -114,6 +114,7 @@ pub fn words_error<S: AsStr>(alloc: Global, words: &[S]) -> Option<Error>
 
 fn fault_of_kind(kind: ErrorKind) -> Fault
     ensures memory { kind ≡ ErrorKind.OutOfMemory → result ≡ nowhere cause.NoMemory }
+    ensures words { (kind ≡ ErrorKind.OutOfMemory → ⊥) → result ≡ nowhere cause.CommandLine }
     ensures faults { (result ≡ nowhere cause.CommandLine) ⊎ (result ≡ nowhere cause.NoMemory) }
 {
     match kind {

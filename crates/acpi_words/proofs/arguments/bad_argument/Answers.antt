@@ -1,4 +1,5 @@
-use Rattle.std.proofs.Common.{◌+◌, [], ◌∷◌, ◌++◌, ◌∙◌, Some, None, rules, arith, ap, append_assoc, length, sym}
+use Rattle.std.proofs.Common.{◌+◌, [], ◌∷◌, ◌++◌, ◌∙◌, Some, None, rules, arith, ap, append_assoc, length, subst, sym}
+use Rattle.std.specs.Prelude.{All}
 use Rattle.std.proofs.lemmas.Bool.{MatchBool-at_false, MatchBool-at_true}
 use Rattle.std.proofs.lemmas.List.{length-append, length_push}
 use Rattle.std.proofs.lemmas.List.Elements.{All-push}
@@ -55,3 +56,12 @@ returns c =
       values,
       MatchBool-at_false (IsAnyArgument last) (IsNoArgument last) c.if-branch.false c.in_ok-is_argument-2.ensures,
     )
+
+-- each element is a value
+pub returns-then-branch : goal.returns-then-branch
+returns-then-branch c =
+    let lacks = split_parts 44 c.loop-element.rest.now None c.in_default.ensures.cases (omega arith) in
+    let (done, before, count, values) = c.loop-element.invariant.2 in
+    let last = c.loop-element.rest.now in
+    subst (All IsAnyArgument) (sym (before ∙ ap (λ l. done ++ l) (elements_one last lacks)))
+    (All-push IsAnyArgument done last values (MatchBool-at_true (IsAnyArgument last) (IsNoArgument last) c.if-branch.true c.in_ok-is_argument-2.ensures))
