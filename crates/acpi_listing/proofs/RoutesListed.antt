@@ -20,7 +20,7 @@ use Rattle.aml_namespace.specs.Load.{Shown}
 use Rattle.aml_namespace.specs.Shows.{shown}
 use Rattle.aml_regions.specs.Events.{Event, Log}
 use Rattle.aml_regions.specs.Registers.{contents}
-use Rattle.aml_registers.specs.Answers.{AnswerReads}
+use Rattle.aml_registers.specs.Answers.{AreAnswered}
 use Rattle.aml_registers.specs.declared.registers.Registers.{Registers}
 use Rattle.aml_signatures.specs.Signed.{kinds_told}
 use Rattle.aml_signatures.specs.declared.signatures.Signatures.{Signatures}
@@ -51,7 +51,7 @@ use Rattle.acpi_listing.proofs.Chains.{given, given_fault, quiet, quiet_fault, s
 pub link_told : (bytes : ℕ → ℕ → ℕ) (checked : Checked) (id : ℕ) (held names : State.Names) (had before log : Log) (e : LinkFault) (r : Result Prt Fault)
     → IsErrAnd r (λ f. f ≡ link_fault e) → Asks (λ (prt : Prt). prt) (λ x. GivesPrt checked id x held had names log) (Err e)
     → held ≡ names_first (shown checked.namespace.now) → had ≡ before
-    → ((events : List Event) → log.events ≡ before.events ++ events → AnswerReads bytes events) → IsPrtOver bytes checked id r
+    → ((events : List Event) → log.events ≡ before.events ++ events → AreAnswered bytes events) → IsPrtOver bytes checked id r
 link_told bytes checked id held names had before log e (Ok prt) is gives first same answers = absurd is
 link_told bytes checked id held names had before log links.NoMemory (Err f) is gives first same answers = inl is
 link_told bytes checked id held names had before log (links.Refused refused) (Err f) is gives first same answers =

@@ -5,7 +5,7 @@ use Rattle.aml_regions.specs.Events.{Event, Log, Slept}
 use Rattle.aml_regions.specs.EventViews.{events_of}
 use Rattle.aml_regions.specs.Registers.{contents}
 use Rattle.aml_regions.specs.Text.{TextSets}
-use Rattle.aml_registers.specs.Answers.{AnswerReads, start_of}
+use Rattle.aml_registers.specs.Answers.{AreAnswered, start_of}
 use Rattle.aml_registers.specs.declared.registers.Registers.{Registers}
 
 -- a log of a text at its front, and events behind it
@@ -23,8 +23,8 @@ same_text old new events growth is = ap text_first is
 
 -- so the reads among what it went on with are answered as these registers answer them
 pub answered : (first left : Registers) → TextSets first.text.items (contents first.file) → (events : List Event)
-    → start_of left.text.items ∷ events_of left.file.events.items ≡ (start_of first.text.items ∷ []) ++ events → AnswerReads (contents first.file) events
+    → start_of left.text.items ∷ events_of left.file.events.items ≡ (start_of first.text.items ∷ []) ++ events → AreAnswered (contents first.file) events
 answered first left sets events is =
     let same : left.text.items ≡ first.text.items = same_text first.text.items left.text.items (events_of left.file.events.items) events is in
-    subst (AnswerReads (contents first.file)) (ap (drop 1) is)
+    subst (AreAnswered (contents first.file)) (ap (drop 1) is)
     (left.answers (contents first.file) (subst (λ (text : List ℕ). TextSets text (contents first.file)) (sym same) sets))

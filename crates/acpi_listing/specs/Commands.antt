@@ -17,7 +17,7 @@ use Rattle.aml_contents.specs.FirstContents.{first_contents, first_kinds}
 use Rattle.aml_meaning.specs.State as State
 use Rattle.aml_regions.specs.Events.{Event, Log}
 use Rattle.aml_regions.specs.Registers.{contents}
-use Rattle.aml_registers.specs.Answers.{AnswerReads}
+use Rattle.aml_registers.specs.Answers.{AreAnswered}
 use Rattle.aml_bodies.specs.Methods.{Around}
 use Rattle.aml_interp.specs.Answers.{AnswersBody}
 use Rattle.aml_meaning.specs.Methods.{setting_in}
@@ -151,7 +151,7 @@ pub record IsOutcome (ns : Shown) (bytes : ℕ → ℕ → ℕ) (id : ℕ) (m : 
   pub refusals : ℕ
   pub evaluates : Evaluates ns id m body arguments steps (names_first ns) before (Ok outcome) names
       (record { events = before.events ++ events; refusals = refusals })
-  pub answered : AnswerReads bytes events
+  pub answered : AreAnswered bytes events
 
 abbrev pub IsMeant : Shown → (ℕ → ℕ → ℕ) → ℕ → Method → Trees → List Value → ℕ →
     Result (Outcome × List Event) Fault → Type 0
@@ -169,7 +169,7 @@ pub record IsAnswered (ns : Shown) (bytes : ℕ → ℕ → ℕ) (id : ℕ) (m :
       AnswersBody (setting_in ns around.bodies id m body) body arguments steps (names_first ns)
       before (Ok outcome) names
       (record { events = before.events ++ events; refusals = refusals })
-  pub answered : AnswerReads bytes events
+  pub answered : AreAnswered bytes events
 
 -- an accepted method's outcome and the events until then: it is done, and both are those of the
 -- statements that the grammar ties to its bytes
@@ -336,7 +336,7 @@ pub record GivesOver (bytes : ℕ → ℕ → ℕ) (checked : Checked) (id : ℕ
   pub gives : GivesBy checked id (said_of checked id) g (names_first (shown checked.namespace.now))
       before names log
   pub answered :
-      (events : List Event) → log.events ≡ before.events ++ events → AnswerReads bytes events
+      (events : List Event) → log.events ≡ before.events ++ events → AreAnswered bytes events
 
 -- the same; or memory is wanted
 abbrev pub IsGivenOver : (ℕ → ℕ → ℕ) → Checked → ℕ → Result Given Fault → Type 0
@@ -408,7 +408,7 @@ pub record PrtOver (bytes : ℕ → ℕ → ℕ) (checked : Checked) (id : ℕ)
   pub log : Log
   pub gives : GivesPrt checked id r (names_first (shown checked.namespace.now)) before names log
   pub answered :
-      (events : List Event) → log.events ≡ before.events ++ events → AnswerReads bytes events
+      (events : List Event) → log.events ≡ before.events ++ events → AreAnswered bytes events
 
 -- what an object gives and the items of the links that it names, or the first link whose bytes are
 -- no items

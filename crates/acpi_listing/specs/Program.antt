@@ -6,12 +6,14 @@ use Rattle.acpi_listing.specs.Commands.{Reports, RunsWords, RunsInput}
 use Rattle.acpi_sources.specs.Files.{Answers}
 use Rattle.acpi_sources.specs.declared.fault.Fault.{Fault}
 
--- a command by words where there are some, else by standard input
+-- a command by words where there are some, and standard input is left alone; else by standard input,
+-- and no file is asked for
 abbrev pub RunsByWords : {F : Type 0} → Answers F → F → F → List (List ℕ) → Option (List ℕ) →
     Option (List ℕ) → Option (List ℕ) → Option (List ℕ) → Result ℕ RunFault → Type 0
-RunsByWords answers old new [] from to held holds r = RunsInput from to held holds r
+RunsByWords answers old new [] from to held holds r =
+    RunsInput from to held holds r × (new ≡ old)
 RunsByWords answers old new (word ∷ words) from to held holds r =
-    RunsWords answers (word ∷ words) old new held holds r
+    RunsWords answers (word ∷ words) old new held holds r × (to ≡ from)
 
 -- words that cannot be had are told as a fault, and nothing is read
 abbrev pub RunsEither : {F B : Type 0} → Answers F → F → F → Result (Vec (String B) B) Fault →

@@ -13,8 +13,8 @@ use std::alloc::Global;
 use std::io::{BufWriter, ErrorKind, Read, Write};
 
 /// Runs the program by its words, without words by its standard input, and answers the status that
-/// it ends with: that of [`run_words`] or [`run`]; 1 where, and only where, a fault was told or not
-/// all was written.
+/// it ends with: that of [`run_words`] or [`run`], and 1 where not all was written. By words standard
+/// input is left alone; by standard input no file is asked for.
 pub fn run_program<R: Read, F: Source, W: Write + Drop, N: Eprint>(
     alloc: Global,
     words: Result<Vec<String>, Fault>,

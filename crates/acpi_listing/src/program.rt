@@ -63,7 +63,7 @@ pub fn run_words_noted<S: AsStr, F: Source, N: Notes, W: Write>(
 /// file `@` is the next line's hex text.
 ///
 /// Answers as [`run_words`]. E523 where there is no line, or the input cannot be read to its end or
-/// has more than [`INPUT_LIMIT`] bytes.
+/// has more than 16,777,216 bytes.
 pub fn run<R: Read, W: Write>(alloc: Global, input: &mut R, out: &mut W) -> Result<u8, RunFault>
     ensures status { IfOk result (λ status. status ≤ 3) }
     ensures printed { RunsInput (R.remaining input.old) (R.remaining input.new)

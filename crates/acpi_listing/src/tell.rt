@@ -1,8 +1,8 @@
 // What is told of a fault beside its line.
 
 use acpi_notes::{
-    Files, argument_note, count_note, file_label, greatest_note, help_of, load_note, object_note,
-    registers_note, signatures_note, table_note,
+    Files, WantedTable, argument_note, count_note, file_label, greatest_note, help_of, load_note,
+    object_note, registers_note, signatures_note, table_note,
 };
 use acpi_resources::{Item, RouteCause};
 use acpi_routing::{LinkRefusal, entry_note, link_text, source_text};
@@ -39,7 +39,11 @@ pub(crate) fn tell_table<N: Notes>(
     let Ok(label) = file_label(alloc, name, number) else {
         return;
     };
-    tell(notes, table_note(alloc, label.as_str(), bytes, fault));
+    let wanted = WantedTable::Definitions;
+    tell(
+        notes,
+        table_note(alloc, label.as_str(), bytes, fault, wanted),
+    );
 }
 
 /// Of tables that cannot be loaded; where a table is refused for an If that `--dead-externals`
@@ -65,7 +69,7 @@ pub(crate) fn tell_load<N: Notes>(
 
 /// Of a text of `--args` that is no list of values.
 pub(crate) fn tell_argument<N: Notes>(alloc: Global, notes: &N, text: &str) {
-    if let Some((number, element)) = bad_argument(alloc, text) {
+    if let Ok(Some((number, element))) = bad_argument(alloc, text) {
         tell(notes, argument_note(alloc, number, element));
     }
 }
@@ -126,7 +130,10 @@ pub(crate) fn tell_madt<N: Notes>(
         Some(name) if name != "@" => name,
         _ => "the file of --madt",
     };
-    tell(notes, table_note(alloc, label, bytes, fault));
+    tell(
+        notes,
+        table_note(alloc, label, bytes, fault, WantedTable::Madt),
+    );
 }
 
 /// Of a link whose `_CRS` gives bytes that are no list of resource descriptors.

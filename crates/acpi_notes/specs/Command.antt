@@ -34,5 +34,5 @@ signatures_note label line =
 
 -- a line of standard input that is no file
 unfoldable pub line_note : ℕ → List ℕ
-line_note number = joined (codes "file " ∷ decimal number
-    ∷ codes " of standard input: a line of hex text is wanted, two digits a byte" ∷ [])
+line_note number = joined (codes "line " ∷ decimal number
+    ∷ codes " behind the words on standard input: hex text is wanted, two digits a byte" ∷ [])

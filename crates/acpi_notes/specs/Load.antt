@@ -4,6 +4,7 @@ use Rattle.aml_objects.specs.declared.fault.LoadCause.{LoadCause}
 use Rattle.aml_objects.specs.declared.fault.LoadCause.TheVariants.{Table, Tree, Duplicate, ScopeMissing, TooMany, AliasMissing}
 use Rattle.acpi_notes.specs.Text.{joined}
 use Rattle.acpi_notes.specs.Table.{table_note}
+use Rattle.acpi_notes.specs.declared.table.WantedTable.TheVariants.{Definitions}
 use Rattle.acpi_notes.specs.Tree.{tree_note}
 
 -- the bytes of the file with a number
@@ -26,7 +27,7 @@ BeginsWith front text = (rest : List ℕ) × (text ≡ front ++ rest)
 
 -- what is told of a file, by what is wrong; of its definitions more than the file is told
 abbrev pub IsLoadNote : List ℕ → List ℕ → LoadCause → ℕ → List ℕ → Type 0
-IsLoadNote label bytes (Table cause) at note = note ≡ table_note label bytes cause at
+IsLoadNote label bytes (Table cause) at note = note ≡ table_note label bytes Definitions cause at
 IsLoadNote label bytes (Tree cause) at note = note ≡ tree_note label bytes at cause
 IsLoadNote label bytes TooMany at note = note ≡ too_many_note label at
 IsLoadNote label bytes Duplicate at note = BeginsWith label note

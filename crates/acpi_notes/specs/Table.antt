@@ -4,6 +4,8 @@ use Rattle.std.specs.List.{starts_with}
 use Rattle.acpi_tables.specs.declared.fault.TableCause.TheVariants.{Short, BadLength, BadSum, BadSignature, BadEntry}
 use Rattle.acpi_tables.specs.declared.fault.TableCause.{TableCause}
 use Rattle.acpi_notes.specs.Text.{joined, shown_bytes}
+use Rattle.acpi_notes.specs.declared.table.WantedTable.{WantedTable}
+use Rattle.acpi_notes.specs.declared.table.WantedTable.TheVariants.{Definitions, Madt}
 
 -- the byte at a place, 0 past the end
 abbrev pub byte_at : List ℕ → ℕ → ℕ
@@ -48,21 +50,25 @@ unfoldable pub sum_note : List ℕ → ℕ → List ℕ
 sum_note label sum = joined (label ∷ codes ": its bytes sum to " ∷ decimal sum
     ∷ codes " modulo 256, and 0 is wanted" ∷ [])
 
-unfoldable pub signature_note : List ℕ → List ℕ → List ℕ
-signature_note label signature =
-    joined (label ∷ codes ": its signature is " ∷ signature
-    ∷ codes ", and the first file is to be a DSDT, the others SSDTs" ∷ [])
+-- which table is wanted
+abbrev pub wanted_text : WantedTable → List ℕ
+wanted_text Definitions = codes "the first file is to be a DSDT, the others SSDTs"
+wanted_text Madt = codes "the file of --madt is to be a MADT, of signature APIC"
+
+unfoldable pub signature_note : List ℕ → List ℕ → List ℕ → List ℕ
+signature_note label signature wanted =
+    joined (label ∷ codes ": its signature is " ∷ signature ∷ codes ", and " ∷ wanted ∷ [])
 
 unfoldable pub entry_note : List ℕ → ℕ → ℕ → List ℕ
 entry_note label at kind =
     joined (label ∷ codes ": the entry at byte " ∷ decimal at ∷ codes ", which begins with "
     ∷ decimal kind ∷ codes ", is cut or too short" ∷ [])
 
--- what is told of a file, by what is wrong and where
-abbrev pub table_note : List ℕ → List ℕ → TableCause → ℕ → List ℕ
-table_note label bytes Short at = short_note label (length bytes) (least_of bytes)
-table_note label bytes BadLength at = length_note label (length bytes) (stated bytes at)
-table_note label bytes BadSum at = sum_note label (summed bytes at)
-table_note label bytes BadSignature at =
-    signature_note label (shown_bytes (take (min (length bytes) 4) bytes))
-table_note label bytes BadEntry at = entry_note label at (byte_at bytes at)
+-- what is told of a file that is to have such a table, by what is wrong and where
+abbrev pub table_note : List ℕ → List ℕ → WantedTable → TableCause → ℕ → List ℕ
+table_note label bytes wanted Short at = short_note label (length bytes) (least_of bytes)
+table_note label bytes wanted BadLength at = length_note label (length bytes) (stated bytes at)
+table_note label bytes wanted BadSum at = sum_note label (summed bytes at)
+table_note label bytes wanted BadSignature at =
+    signature_note label (shown_bytes (take (min (length bytes) 4) bytes)) (wanted_text wanted)
+table_note label bytes wanted BadEntry at = entry_note label at (byte_at bytes at)

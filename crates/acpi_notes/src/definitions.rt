@@ -1,9 +1,9 @@
 // The definitions of tables over again, to tell of one that was refused which others it met (ACPI
 // 6.5, 5.3).
 
-ghost use Rattle.std.specs.Prelude.{◌≡◌, IfOk, IfSome, map, true, vec_items};
+ghost use Rattle.std.specs.Prelude.{◌≡◌, ◌∷◌, ◌++◌, [], IfOk, IfSome, OnOk, Some, map, true, vec_items, vec_len};
 ghost use Rattle.std.specs.Option.{option_map};
-ghost use Rattle.acpi_notes.specs.Definitions.{HaveOneSegment, last_segment};
+ghost use Rattle.acpi_notes.specs.Definitions.{EndsIn, HaveOneSegment, IsEndAt, IsRepeat, is_predefined, last_segment, place_of};
 
 use aml_lex::{NameRef, NameSeg, name_there};
 use aml_tree::{Op, Term, TreeFault, read_module};
@@ -133,7 +133,15 @@ impl Paths {
         segment: NameSeg,
         place: Option<Place>,
         holds: bool,
-    ) -> Result<(), AllocError> {
+    ) -> Result<(), AllocError>
+        ensures { OnOk result (self.new.known.items ≡ self.old.known.items ++ record {
+          above = above;
+          segment = segment;
+          place = place;
+          holds = holds;
+          object = vec_len self.old.known;
+        } ∷ []) }
+    {
         let number = self.known.len();
         self.below.insert((above, segment), number)?;
         self.known.push(Known {
@@ -236,7 +244,9 @@ impl Paths {
     }
 
     /// How the definitions end at a place, if that is the refused one.
-    fn end(&self, place: Place, found: Found) -> End {
+    fn end(&self, place: Place, found: Found) -> End
+        ensures { IsEndAt self.now.refused place found result }
+    {
         if place == self.refused {
             return End::Met(found);
         }
@@ -252,7 +262,9 @@ impl Paths {
     }
 
     /// Ends the definitions where a path is there already.
-    fn repeat(&self, named: &Named<'_>, path: usize) -> End {
+    fn repeat(&self, named: &Named<'_>, path: usize) -> End
+        ensures { IsRepeat self.now.known.items path result }
+    {
         let first = match self.known.get(path) {
             Some(known) => known.place,
             None => None,
@@ -264,7 +276,10 @@ impl Paths {
     }
 
     /// Makes the path of a name.
-    fn enter(&mut self, scope: usize, named: &Named<'_>, holds: bool) -> Result<usize, End> {
+    fn enter(&mut self, scope: usize, named: &Named<'_>, holds: bool) -> Result<usize, End>
+        ensures { IfOk result (λ number.
+            place_of self.new.known.items number ≡ Some named.now.place) }
+    {
         let count = named.name.segs();
         if count == 0 {
             return Err(match self.start(scope, &named.name) {
@@ -461,16 +476,46 @@ fn last_segment(tables: &[Vec<u8>], place: Place) -> Option<NameSeg>
     Some(name.seg(count - 1))
 }
 
-/// Whether the names of a path that is defined twice have one last segment.
+/// Whether a path is there from the beginning.
+fn is_predefined(path: &str) -> bool
+    ensures { result ≡ is_predefined path.now }
+{
+    path == "\\_GPE"
+        || path == "\\_PR_"
+        || path == "\\_SB_"
+        || path == "\\_SI_"
+        || path == "\\_TZ_"
+        || path == "\\_REV"
+        || path == "\\_OSI"
+        || path == "\\_OS_"
+        || path == "\\_GL_"
+}
+
+/// Whether a path ends in a segment, where there is one.
+fn ends_in(path: &[u8], segment: Option<NameSeg>) -> bool
+    ensures { result ≡ true → EndsIn (option_map (λ segment. segment.bytes) segment) path.now }
+{
+    match segment {
+        Some(segment) => path.ends_with(&segment.bytes),
+        None => true,
+    }
+}
+
+/// Whether the names of a path that is defined twice have one last segment, in which it ends; and
+/// whether one that no table defines is predefined.
 fn have_one_segment(tables: &[Vec<u8>], refused: Place, found: &Found) -> bool
     ensures { result ≡ true → HaveOneSegment (map vec_items tables.now) refused found.now }
 {
     match found {
-        Found::Twice {
-            path: _,
-            first: Some(first),
-        } => { last_segment(tables, *first) == last_segment(tables, refused) }
-        _ => true,
+        Found::Twice { path, first } => {
+            let segment = last_segment(tables, refused);
+            let known = match first {
+                Some(first) => last_segment(tables, *first) == segment,
+                None => is_predefined(path.as_str()),
+            };
+            known && ends_in(path.as_bytes(), segment)
+        }
+        Found::Nothing { wanted: _ } => true,
     }
 }
 

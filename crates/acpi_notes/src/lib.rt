@@ -19,5 +19,5 @@ pub use help::{Help, help_of};
 pub use label::file_label;
 pub use load::{Files, load_note};
 pub use near::{near_path, object_note};
-pub use table::table_note;
+pub use table::{WantedTable, table_note};
 pub use tree::{TreePlace, tree_note};

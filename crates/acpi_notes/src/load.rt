@@ -1,11 +1,12 @@
 // Tables that cannot be loaded.
 
-ghost use Rattle.std.specs.Prelude.{◌≡◌, ℕ, List, IfOk, Some, codes, map, slice_get, string_bytes, unwrap_or, vec_items, []};
+ghost use Rattle.std.specs.Prelude.{◌≡◌, ◌++◌, ℕ, List, IfOk, None, Some, codes, decimal, map, slice_get, string_bytes, unwrap_or, vec_items, []};
+ghost use Rattle.acpi_notes.specs.Label.{line_label};
 ghost use Rattle.acpi_notes.specs.Load.{BeginsWith, IsLoadNote, bytes_numbered, found_note, too_many_note};
 
 use crate::definitions::{Found, Place, find_again};
 use crate::label::file_label;
-use crate::table::table_note;
+use crate::table::{WantedTable, table_note};
 use crate::tree::{TreePlace, tree_note};
 use acpi_tables::TableFault;
 use aml_namespace::{LoadCause, LoadRefusal};
@@ -21,9 +22,13 @@ pub struct Files<'a> {
 impl Files<'_> {
     /// How the file with a number is called.
     pub fn label(&self, alloc: Global, number: usize) -> Result<String, AllocError>
-        ensures { (name : List ℕ) →
+        ensures named { (name : List ℕ) →
             slice_get (map (λ n. n.now) self.now.names.now) number ≡ Some name
             → (name ≡ codes "@" → ⊥) → IfOk result (λ label. string_bytes label ≡ name) }
+        ensures line { slice_get (map (λ n. n.now) self.now.names.now) number ≡ Some (codes "@")
+            → IfOk result (λ label. string_bytes label ≡ line_label number) }
+        ensures past { slice_get (map (λ n. n.now) self.now.names.now) number ≡ None
+            → IfOk result (λ label. string_bytes label ≡ codes "file " ++ decimal number) }
     {
         match self.names.get(number) {
             Some(name) => file_label(alloc, name, number),
@@ -56,7 +61,10 @@ pub fn load_note(
     let bytes = files.bytes(refusal.table);
     let at = refusal.at;
     match refusal.cause {
-        LoadCause::Table(cause) => { table_note(alloc, label, bytes, TableFault { cause, at }) }
+        LoadCause::Table(cause) => {
+            let fault = TableFault { cause, at };
+            table_note(alloc, label, bytes, fault, WantedTable::Definitions)
+        }
         LoadCause::Tree(cause) => tree_note(alloc, TreePlace { label, bytes, at }, cause),
         LoadCause::TooMany => too_many_note(alloc, label, at),
         LoadCause::Duplicate | LoadCause::ScopeMissing | LoadCause::AliasMissing => {

@@ -1,10 +1,10 @@
 // A path that is no method's, and what stands near it.
 
-ghost use Rattle.std.specs.Prelude.{◌≡◌, IfOk, IfSome, Some, string_bytes, ℕ};
+ghost use Rattle.std.specs.Prelude.{◌≡◌, ◌++◌, ◌-◌, IfOk, OnOk, replicate, string_bytes};
+ghost use Rattle.std.specs.Option.{option_map};
 ghost use Rattle.aml_namespace.specs.PrintedObjects.{printed_object};
 ghost use Rattle.aml_namespace.specs.Shows.{shown};
-ghost use Rattle.acpi_notes.specs.Load.{BeginsWith};
-ghost use Rattle.acpi_notes.specs.Near.{IsObjectNote, missing_part, no_method_note};
+ghost use Rattle.acpi_notes.specs.Near.{IsMissingNote, IsObjectNote, IsThere, below_root, far_note, near_note, near_path, no_method_note, padded, printed_form, printed_segments};
 
 use aml_namespace::Namespace;
 use std::alloc::{AllocError, Global};
@@ -16,8 +16,8 @@ pub fn near_path(
     namespace: &Namespace<'_>,
     word: &str,
 ) -> Result<Option<String>, AllocError>
-    ensures { IfOk result (λ near. IfSome near (λ path.
-        (id : ℕ) × (printed_object (shown namespace.now).entries (string_bytes path) ≡ Some id))) }
+    ensures { IfOk result (λ near. option_map string_bytes near
+        ≡ near_path (shown namespace.now).entries word.now) }
 {
     let path = printed_form(alloc, word)?;
     match namespace.find(path.as_bytes()) {
@@ -26,34 +26,69 @@ pub fn near_path(
     }
 }
 
-fn printed_form(alloc: Global, word: &str) -> Result<String, AllocError> {
+/// The path as it is printed that a word may mean.
+#[tactic(auto, unfolding(crate::specs::Near::printed_form))]
+fn printed_form(alloc: Global, word: &str) -> Result<String, AllocError>
+    ensures { IfOk result (λ path. string_bytes path ≡ printed_form word.now) }
+{
     let mut path = String::from_str(alloc, "\\")?;
-    let below = word.strip_prefix('\\').unwrap_or(word);
-    if below.is_empty() {
-        return Ok(path);
-    }
-    for (i, segment) in below.split('.').enumerate() {
-        if i > 0 {
-            path.push('.')?;
-        }
-        push_padded(&mut path, segment)?;
+    let below = below_root(word);
+    if !below.is_empty() {
+        push_segments(alloc, &mut path, below)?;
     }
     Ok(path)
 }
 
+/// A word without the `\` in front.
+fn below_root(word: &str) -> &str
+    ensures { result.now ≡ below_root word.now }
+{
+    match word.strip_prefix('\\') {
+        Some(below) => below,
+        None => word,
+    }
+}
+
+/// Adds what stands between the dots of a text, each padded.
+fn push_segments(alloc: Global, path: &mut String, text: &str) -> Result<(), AllocError>
+    ensures { OnOk result (string_bytes path.new
+        ≡ string_bytes path.old ++ printed_segments text.now) }
+{
+    let mut rest = text;
+    while let Some((segment, behind)) = rest.split_once('.') {
+        push_padded(alloc, path, segment)?;
+        path.push('.')?;
+        rest = behind;
+    }
+    push_padded(alloc, path, rest)
+}
+
 /// Adds a segment in upper case, with `_` behind it up to four characters.
-fn push_padded(path: &mut String, segment: &str) -> Result<(), AllocError> {
-    for character in segment.chars() {
-        path.push(character.to_ascii_uppercase())?;
+fn push_padded(alloc: Global, path: &mut String, segment: &str) -> Result<(), AllocError>
+    ensures { OnOk result (string_bytes path.new ≡ string_bytes path.old ++ padded segment.now) }
+{
+    let upper = segment.to_ascii_uppercase(alloc)?;
+    path.push_str(upper.as_str())?;
+    path.push_str(padding(segment.len()))
+}
+
+/// What so many characters want up to four.
+fn padding(length: usize) -> &'static str
+    ensures { result.now ≡ replicate (4 - length) 95 }
+{
+    match length {
+        0 => "____",
+        1 => "___",
+        2 => "__",
+        3 => "_",
+        _ => "",
     }
-    for _ in segment.len()..4 {
-        path.push('_')?;
-    }
-    Ok(())
 }
 
 /// The longest front of a path, cut between segments, that something has; the root is always there.
-fn front_there<'a>(namespace: &Namespace<'_>, path: &'a str) -> &'a str {
+fn front_there<'a>(namespace: &Namespace<'_>, path: &'a str) -> &'a str
+    ensures { IsThere (shown namespace.now).entries result.now }
+{
     let mut front = path;
     while let Some((before, _)) = front.rsplit_once('.') {
         front = before;
@@ -71,7 +106,7 @@ pub fn object_note(
     namespace: &Namespace<'_>,
     word: &str,
 ) -> Result<String, AllocError>
-    ensures { IfOk result (λ note. IsObjectNote word.now
+    ensures { IfOk result (λ note. IsObjectNote (shown namespace.now).entries word.now
         (printed_object (shown namespace.now).entries word.now) (string_bytes note)) }
 {
     match namespace.find(word.as_bytes()) {
@@ -89,23 +124,28 @@ fn no_method_note(alloc: Global, word: &str) -> Result<String, AllocError>
 
 /// Of a path that nothing has.
 fn missing_note(alloc: Global, namespace: &Namespace<'_>, word: &str) -> Result<String, AllocError>
-    ensures { IfOk result (λ note. BeginsWith (missing_part word.now) (string_bytes note)) }
+    ensures { IfOk result (λ note. IsMissingNote (shown namespace.now).entries word.now
+        (near_path (shown namespace.now).entries word.now) (string_bytes note)) }
 {
-    let mut note = missing_part(alloc, word)?;
-    if let Some(path) = near_path(alloc, namespace, word)? {
-        note.push_str(path.as_str())?;
-    } else {
-        let path = printed_form(alloc, word)?;
-        note.push_str("of it ")?;
-        note.push_str(front_there(namespace, path.as_str()))?;
+    match near_path(alloc, namespace, word)? {
+        Some(path) => near_note(alloc, word, path.as_str()),
+        None => {
+            let path = printed_form(alloc, word)?;
+            far_note(alloc, word, front_there(namespace, path.as_str()))
+        }
     }
-    note.push_str(" is there")?;
-    Ok(note)
 }
 
-#[tactic(auto, unfolding(crate::specs::Near::missing_part))]
-fn missing_part(alloc: Global, word: &str) -> Result<String, AllocError>
-    ensures { IfOk result (λ part. string_bytes part ≡ missing_part word.now) }
+#[tactic(auto, unfolding(crate::specs::Near::near_note))]
+fn near_note(alloc: Global, word: &str, path: &str) -> Result<String, AllocError>
+    ensures { IfOk result (λ note. string_bytes note ≡ near_note word.now path.now) }
 {
-    format!(in alloc; "nothing has the path {word}; ")
+    format!(in alloc; "nothing has the path {word}; {path} is there")
+}
+
+#[tactic(auto, unfolding(crate::specs::Near::far_note))]
+fn far_note(alloc: Global, word: &str, front: &str) -> Result<String, AllocError>
+    ensures { IfOk result (λ note. string_bytes note ≡ far_note word.now front.now) }
+{
+    format!(in alloc; "nothing has the path {word}; of it {front} is there")
 }

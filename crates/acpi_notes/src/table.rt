@@ -2,7 +2,7 @@
 
 ghost use Rattle.std.specs.Prelude.{◌≡◌, ◌+◌, ◌*◌, ◌%◌, ◌≤◌, IfOk, length, min, string_bytes, sum, take};
 ghost use Rattle.acpi_notes.specs.Text.{shown_byte, shown_bytes};
-ghost use Rattle.acpi_notes.specs.Table.{byte_at, entry_note, least_of, length_note, number_at, short_note, signature_note, stated, sum_note, summed, table_note};
+ghost use Rattle.acpi_notes.specs.Table.{byte_at, entry_note, least_of, length_note, number_at, short_note, signature_note, stated, sum_note, summed, table_note, wanted_text};
 
 use acpi_tables::{TableCause, TableFault};
 use std::alloc::{AllocError, Global};
@@ -99,16 +99,38 @@ fn shown_character(byte: u8) -> char
     '?'
 }
 
+/// Which table a file is to have.
+#[derive(Clone, Copy, Debug, PartialEq, Eq)]
+pub enum WantedTable {
+    /// That of its place among the tables that are loaded.
+    Definitions,
+    /// A MADT.
+    Madt,
+}
+
+impl WantedTable {
+    /// What is told of it behind another signature.
+    fn text(self) -> &'static str
+        ensures { result.now ≡ wanted_text self }
+    {
+        match self {
+            WantedTable::Definitions => "the first file is to be a DSDT, the others SSDTs",
+            WantedTable::Madt => "the file of --madt is to be a MADT, of signature APIC",
+        }
+    }
+}
+
 /// Of the fault of a file's table: how many bytes it has, and is said or wanted to have; what they
-/// sum to; its signature; how the entry begins that cannot be read.
+/// sum to; its signature, and which is wanted; how the entry begins that cannot be read.
 pub fn table_note(
     alloc: Global,
     label: &str,
     bytes: &[u8],
     fault: TableFault,
+    wanted: WantedTable,
 ) -> Result<String, AllocError>
     ensures { IfOk result (λ note. string_bytes note
-        ≡ table_note label.now bytes.now fault.cause fault.at) }
+        ≡ table_note label.now bytes.now wanted fault.cause fault.at) }
 {
     let length = bytes.len();
     match fault.cause {
@@ -117,7 +139,7 @@ pub fn table_note(
         TableCause::BadSum => sum_note(alloc, label, summed(bytes, fault.at)),
         TableCause::BadSignature => {
             let signature = shown_text(alloc, front(bytes, 4))?;
-            signature_note(alloc, label, signature.as_str())
+            signature_note(alloc, label, signature.as_str(), wanted.text())
         }
         TableCause::BadEntry => entry_note(alloc, label, fault.at, byte_at(bytes, fault.at)),
     }
@@ -145,12 +167,16 @@ fn sum_note(alloc: Global, label: &str, sum: u8) -> Result<String, AllocError>
 }
 
 #[tactic(auto, unfolding(crate::specs::Table::signature_note))]
-fn signature_note(alloc: Global, label: &str, signature: &str) -> Result<String, AllocError>
-    ensures { IfOk result (λ note. string_bytes note ≡ signature_note label.now signature.now) }
+fn signature_note(
+    alloc: Global,
+    label: &str,
+    signature: &str,
+    wanted: &str,
+) -> Result<String, AllocError>
+    ensures { IfOk result (λ note. string_bytes note
+        ≡ signature_note label.now signature.now wanted.now) }
 {
-    format!(in alloc;
-        "{label}: its signature is {signature}, and the first file is to be a DSDT, the others SSDTs"
-    )
+    format!(in alloc; "{label}: its signature is {signature}, and {wanted}")
 }
 
 #[tactic(auto, unfolding(crate::specs::Table::entry_note))]

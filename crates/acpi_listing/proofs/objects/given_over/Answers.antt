@@ -2,7 +2,7 @@ use Rattle.std.proofs.Common.{◌≡◌, [], ◌∷◌, ap, drop, subst, sym}
 use Rattle.aml_regions.specs.EventViews.{events_of}
 use Rattle.aml_regions.specs.Registers.{contents}
 use Rattle.aml_regions.specs.Text.{TextSets}
-use Rattle.aml_registers.specs.Answers.{AnswerReads, start_of}
+use Rattle.aml_registers.specs.Answers.{AreAnswered, start_of}
 use Rattle.acpi_listing.proofs.Started.{same_text}
 use Rattle.acpi_listing.proofs.objects.given_over.Goals as goal
 
@@ -23,6 +23,6 @@ returns c =
       gives = gave;
       answered = λ events is.
           let same : left.text.items ≡ first.text.items = same_text first.text.items left.text.items (events_of left.file.events.items) events is in
-          subst (AnswerReads (contents first.file)) (ap (drop 1) is)
+          subst (AreAnswered (contents first.file)) (ap (drop 1) is)
           (left.answers (contents first.file) (subst (λ text. TextSets text (contents first.file)) (sym same) c.requires.set));
     }
