@@ -124,6 +124,21 @@ def head_of(lines, at):
     return re.sub(r"<.*", "", back).split()[-1] if back else "", "".join(it for it in words if it != "impl")
 
 
+def last_line(lines, at, indent):
+    """The last line of the function that begins at a line: of a trait's method without a body that of its signature."""
+    if lines[at].endswith(("}", ";")) and lines[at].count("{") == lines[at].count("}"):
+        return at
+    has_body = lines[at].endswith("{")
+    for it in range(at + 1, len(lines)):
+        if lines[it].startswith((indent + "}", indent + "{}")):
+            return it
+        # (a body begins at the function's own indent)
+        has_body = has_body or lines[it].startswith((indent + "{", indent + ")")) and lines[it].endswith("{")
+        if lines[it].endswith(";") and not has_body:
+            return it
+    return at
+
+
 def functions_of(path, text):
     """The functions of a source file in the layout of rt fmt, where what begins at an indent ends by a brace at the same."""
     module = "::".join(it for it in path.removeprefix("src/").removesuffix(".rt").split("/") if it != "mod")
@@ -137,9 +152,7 @@ def functions_of(path, text):
         head = FUNCTION.match(line)
         if not head:
             continue
-        ends = (it for it in range(at + 1, len(lines)) if lines[it].startswith((head[1] + "}", head[1] + "{}")))
-        last = at if line.endswith(("}", ";")) and line.count("{") == line.count("}") else next(ends, at)
-        found.append(Function(module, kind, trait, head[2], at, last))
+        found.append(Function(module, kind, trait, head[2], at, last_line(lines, at, head[1])))
     return found
 
 
