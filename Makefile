@@ -3,7 +3,7 @@ WORDS =
 # The toolchain's rt, which reads each library once where some kits read it once for each chain that leads to it.
 RT = python3 $(CURDIR)/bench/kit.py
 
-.PHONY: try run test cases rows growths edits wrong hostile accepted bench loops stack check fmt
+.PHONY: try run test cases rows growths edits wrong hostile accepted bench loops stack check fmt reference
 
 # The first answer in a minute: builds acpicheck from its sources, without proofs, and runs it on the example, or on
 # words and files of your own: make try WORDS="eval --plain 100 --method '\_SB_.PCI0._STA' my.dat".
@@ -14,9 +14,8 @@ try:
 run:
 	@cd crates/acpicheck && $(RT) run < stdin
 
-# The crates whose must-fail edits the gate tries: all but the two evaluators, of whose cycles each check takes ten
-# minutes, and which make edits tries; and but the worlds of aml_plain_tests, which stand in tests alone.
-EDITED = $(filter-out aml_direct aml_plain aml_plain_tests,$(notdir $(wildcard crates/*)))
+# The crates whose must-fail edits the gate tries: all but aml_plain_tests, whose edits turn worlds of tests alone.
+EDITED = $(filter-out aml_plain_tests,$(notdir $(wildcard crates/*)))
 
 # The gate: every crate proved from nothing; tests and programs run, then the built program over its stored cases and
 # rows, and the must-fail edits, many in one check, and those of a small crate that try the script itself.
@@ -53,6 +52,10 @@ hostile:
 # Bodies made at random, of which each that `verify` accepts is run over registers, by the program that `make test` leaves.
 accepted:
 	@python3 bench/accepted.py
+
+# Three other readings of the rules, in Python, beside the program that `make test` leaves: a short run of each.
+reference:
+	@python3 bench/reference/run.py
 
 # Loops timed beside ACPICA's acpiexec (apt-get install acpica-tools), by the program that `make run` builds.
 bench:
