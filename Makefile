@@ -14,8 +14,9 @@ try:
 run:
 	@cd crates/acpicheck && $(RT) run < stdin
 
-# The crates whose must-fail edits the gate tries: all but aml_plain_tests, whose edits turn worlds of tests alone.
-EDITED = $(filter-out aml_plain_tests,$(notdir $(wildcard crates/*)))
+# The crates whose must-fail edits the gate tries: all but the two evaluators, of whose cycles each check takes ten
+# minutes, and which make edits tries; and but the worlds of aml_plain_tests, which stand in tests alone.
+EDITED = $(filter-out aml_direct aml_plain aml_plain_tests,$(notdir $(wildcard crates/*)))
 
 # The gate: every crate proved from nothing; tests and programs run, then the built program over its stored cases and
 # rows, and the must-fail edits, many in one check, and those of a small crate that try the script itself.
