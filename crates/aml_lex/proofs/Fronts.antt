@@ -10,7 +10,7 @@ use Rattle.aml_lex.specs.Bounds.{EndsWithin}
 use Rattle.aml_lex.specs.Reading.{name_string_at, string_data_at}
 use Rattle.aml_lex.specs.Spelling.{SpellsName, SpellsString}
 use Rattle.aml_lex.specs.Exact.{Stands, Reads, IsRead}
-use Rattle.aml_lex.specs.Standing.{value_read, name_there, text_there}
+use Rattle.aml_lex.specs.Standing.{value_read, name_there}
 use Rattle.aml_lex.proofs.Laws.{name_string_ends, string_data_ends}
 use Rattle.aml_lex.proofs.ExactLaws.{name_string_reads, string_data_reads, name_string_full, string_data_full}
 
@@ -20,9 +20,6 @@ some_within read ends bytes at (Err fault) e some = absurd cc
 
 pub name_there_within : (bytes : List ℕ) (at : ℕ) → IsSome (name_there bytes at) → at < length bytes
 name_there_within bytes at some = some_within name_string_at name_string_ends bytes at (name_string_at bytes at) refl some
-
-pub text_there_within : (bytes : List ℕ) (at : ℕ) → IsSome (text_there bytes at) → at < length bytes
-text_there_within bytes at some = some_within string_data_at string_data_ends bytes at (string_data_at bytes at) refl some
 
 -- a spelling in a front of the bytes
 stands_in_all : {V : Type 0} (Spells : V → List ℕ → Type 0) (bytes : List ℕ) (end at : ℕ) (value : V) (next : ℕ) → Stands Spells (take end bytes) at value next → Stands Spells bytes at value next

@@ -20,10 +20,6 @@ value_read (Err fault) = None
 abbrev pub name_there : List ℕ → ℕ → Option NameString
 name_there bytes at = value_read (name_string_at bytes at)
 
--- the text of the string data at a place
-abbrev pub text_there : List ℕ → ℕ → Option (List ℕ)
-text_there bytes at = value_read (string_data_at bytes at)
-
 -- the bytes between two places
 abbrev pub bytes_between : List ℕ → ℕ → ℕ → List ℕ
 bytes_between bytes at stop = drop at (take stop bytes)

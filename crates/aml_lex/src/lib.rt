@@ -19,7 +19,7 @@ pub use integers::integer_data;
 pub use name_reader::{leads_segment, name_string};
 pub use names::{NameRef, NameSeg};
 pub use package::{package_end, pkg_length};
-pub use standing::{has_byte, name_there, standing_name, standing_text};
+pub use standing::{has_byte, name_there, standing_name};
 pub use strings::string_data;
 pub use theorems::{
     answers_end_within, faults_stand_within, spellings_are_read, spellings_are_unique,

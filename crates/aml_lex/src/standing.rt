@@ -3,11 +3,10 @@
 ghost use Rattle.std.specs.Prelude.{◌≡◌, ◌<◌, IsSome, Some, length, true};
 ghost use Rattle.std.specs.Option.{option_map};
 ghost use Rattle.aml_lex.specs.Names.{name_of};
-ghost use Rattle.aml_lex.specs.Standing.{has_byte, name_there, text_there};
+ghost use Rattle.aml_lex.specs.Standing.{has_byte, name_there};
 
 use crate::name_reader::{find_name_string, name_string};
 use crate::names::NameRef;
-use crate::strings::find_string_data;
 
 /// Whether such a byte stands at a place; false also past the bytes.
 pub fn has_byte(byte: u8, bytes: &[u8], at: usize) -> bool
@@ -39,18 +38,6 @@ pub fn standing_name(bytes: &[u8], at: usize) -> NameRef<'_>
 {
     match find_name_string(bytes, at) {
         Ok((name, _)) => name,
-        Err(_) => unreachable!(),
-    }
-}
-
-/// The text that is known to stand at a place, without its closing 00.
-#[tactic(auto, using(crate::proofs::Fronts::text_there_within))]
-pub fn standing_text(bytes: &[u8], at: usize) -> &[u8]
-    requires { IsSome (text_there bytes.now at) }
-    ensures { text_there bytes.now at ≡ Some result.now }
-{
-    match find_string_data(bytes, at) {
-        Ok((text, _)) => text,
         Err(_) => unreachable!(),
     }
 }

@@ -3,4 +3,4 @@
 
 mod places;
 
-pub use places::{has_else, leads, name_end, package, past_else, target_at};
+pub use places::{has_else, name_end, package, past_else, target_at};

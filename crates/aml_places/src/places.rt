@@ -1,13 +1,12 @@
 // Where parts end that are known to stand at a place (ACPI 6.5, 20.2.2 to 20.2.5).
 
 ghost use Rattle.std.specs.Prelude.{◌≡◌, ◌≤◌, ◌<◌, IfOk, IsOk, Ok, length, slice_get};
-ghost use Rattle.aml_lex.specs.Characters.{is_lead_name_char};
 ghost use Rattle.aml_lex.specs.Reading.{name_string_at, package_end_at};
 ghost use Rattle.aml_operators.specs.declared.row.Spot.TheVariants as spot;
 ghost use Rattle.aml_places.specs.Forms.{ElseThere, Form, LiesSome};
 ghost use Rattle.aml_places.specs.Lies.{LieElse, LiesTarget, is_else_byte};
 
-use aml_lex::{name_string, package_end};
+use aml_lex::{leads_segment, name_string, package_end};
 use aml_operators::Op;
 use aml_tree::op_at;
 
@@ -25,13 +24,6 @@ pub fn package(bytes: &[u8], at: usize) -> (usize, usize)
     }
 }
 
-/// Whether a byte leads a segment of a name (ACPI 6.5, 20.2.2).
-pub fn leads(byte: u8) -> bool
-    ensures { result ≡ is_lead_name_char byte }
-{
-    matches!(byte, b'A'..=b'Z' | b'_')
-}
-
 /// The place behind the name at a place. One that begins with a segment has no other, so that
 /// nothing behind its first byte is looked at.
 pub fn name_end(bytes: &[u8], at: usize) -> usize
@@ -41,7 +33,7 @@ pub fn name_end(bytes: &[u8], at: usize) -> usize
     ensures within { result ≤ length bytes.now }
 {
     if let Some(byte) = bytes.get(at) {
-        if leads(*byte) {
+        if leads_segment(*byte) {
             return at + 4;
         }
     }
