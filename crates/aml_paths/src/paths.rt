@@ -143,6 +143,7 @@ impl Paths {
         requires there { number < length (paths_seen self.now) }
         ensures leads { let paths = paths_seen self.now in
             slice_get paths number ≡ Some (path_of paths result) }
+        ensures spot { slice_get (spots_of self.now.steps.items) number ≡ Some result.spot }
         ensures earlier { result.parent < number }
     {
         self.steps[number - 1]
