@@ -1,12 +1,10 @@
 -- The operator at a place decides which tree may stand there: one lemma over the table for every operator.
-use Rattle.std.proofs.Common.{◌≡◌, ◌≢◌, ℕ, zero, suc, ◌+◌, ◌<◌, inl, inr, List, length, Option, Some, None, refl, sym, ap, ◌∙◌, subst, arith}
-use Rattle.std.specs.Prelude.{◌==◌, slice_get, true, false}
+use Rattle.std.proofs.Common.{◌≡◌, ◌≢◌, ℕ, zero, suc, ◌+◌, ◌<◌, inl, inr, List, Option, Some, None, refl, sym, ap, ◌∙◌, subst, arith}
+use Rattle.std.specs.Prelude.{slice_get, true, false}
 use Rattle.aml_lex.specs.NameStrings.{NameString}
 use Rattle.aml_operators.specs.declared.op.Op.{Op}
 use Rattle.aml_operators.specs.declared.op.Op.TheVariants.{Zero}
 use Rattle.aml_operators.specs.declared.row.Code.TheVariants as code
-use Rattle.aml_operators.specs.declared.row.Naming.{Naming}
-use Rattle.aml_operators.specs.declared.row.Naming.TheVariants as named
 use Rattle.aml_operators.specs.declared.row.Ruling.TheVariants as ruled
 use Rattle.aml_operators.specs.declared.row.Spot.{Spot}
 use Rattle.aml_operators.specs.declared.row.Spot.TheVariants as spot

@@ -127,6 +127,9 @@ impl<'a, A: Arity> Reader<'a, A> {
             }
             Opening::Operator(op, next) => {
                 let letters = row_of(op).letters;
+                if letters.is_empty() {
+                    return Ok(leaf(self.alloc, op, at, next));
+                }
                 let mut parts = Vec::with_capacity(self.alloc, count_of(letters))?;
                 let end = self.parts(&mut parts, letters, at, bytes, next, depth)?;
                 parts.shrink_to_fit();

@@ -1,9 +1,11 @@
-use Rattle.std.proofs.Common.{◌≡◌, ◌<◌, ◌++◌, ◌∷◌, [], arith, refl, ap, ◌∙◌, map, length}
+use Rattle.std.proofs.Common.{◌≡◌, ◌<◌, ◌++◌, ◌∷◌, [], List, arith, refl, sym, ap, ◌∙◌, map, length}
+use Rattle.std.specs.Prelude.{◌==◌}
+use Rattle.aml_operators.specs.declared.row.Letter.{Letter}
 use Rattle.aml_operators.specs.Tree.{view, stop_of}
 use Rattle.aml_operators.specs.declared.term.Term.{out-Term}
 use Rattle.aml_operators.proofs.Views.{view_out, pushed}
 use Rattle.aml_tree.specs.Reading.{term_at}
-use Rattle.aml_tree.proofs.Turns.{until_on, items_on, counted_on}
+use Rattle.aml_tree.proofs.Turns.{until_on, items_on, counted_on, bare_form}
 use Rattle.aml_tree.proofs.walk.Reader.+read.Goals as goal
 
 pub terms-loop-at-init : goal.terms-loop-at-init
@@ -40,3 +42,9 @@ counted-loop-left-preserved g t c =
     let new : map view c.push.new.self.items ≡ map view c.loop-left.parts.items ++ view term ∷ [] = rw c.in_ok-push.ensures.items (pushed c.loop-left.parts.items term) in
     let on = counted_on counts (term_at c.args.self.now.code counts c.args.depth) c.args.own c.args.bytes.now c.loop-left.left (map view c.loop-left.parts.items) c.loop-left.at (view term) c.loop-left-test.true c.in_ok-term.ensures.gives in
     rw (new, ← e) (omega (arith, e, c.in_ok-term.ensures.ahead), omega (arith, e, c.in_ok-term.ensures.within), c.loop-left.invariant.2 ∙ on)
+
+pub form-returns-then-is_empty-clause-gives : goal.form-returns-then-is_empty-clause-gives
+form-returns-then-is_empty-clause-gives g t c =
+    let counts = g.A.Arity.counts c.args.self.now.arity.now in
+    let none_left = ap (λ (ls : List Letter). length ls == 0) (sym c.row_of.ensures.letters) ∙ sym c.is_empty.ensures ∙ c.if-is_empty.true in
+    rw (c.in-Operator.is, c.leaf-then-is_empty.ensures.tree) (bare_form counts (term_at c.args.self.now.code counts c.args.depth) c.in-Operator.op c.args.bytes.now c.args.at c.in-Operator.next none_left)
