@@ -1,5 +1,5 @@
 -- What methods call, as it is gathered one by one.
-use Rattle.std.proofs.Common.{◌≡◌, ◌<◌, ◌≤◌, ◌+◌, ℕ, zero, suc, List, [], ◌∷◌, ◌++◌, length, map, take, Option, Some, None, Err, refl, sym, ap, ◌∙◌, subst, inl, inr, drop, get_or, drop-cons, add-one, append_assoc, arith}
+use Rattle.std.proofs.Common.{◌≡◌, ◌<◌, ◌≤◌, ◌+◌, ℕ, zero, suc, List, [], ◌∷◌, ◌++◌, length, map, take, Option, Some, None, Err, refl, sym, ap, ◌∙◌, subst, inl, inr, drop, get_or, append_assoc, arith}
 use Rattle.std.proofs.lemmas.Bool.{eqb-true}
 use Rattle.std.proofs.lemmas.Bool.Decides.{eqb_tells}
 use Rattle.std.proofs.lemmas.List.{append-nil, at_drop_all, map-append, map_push, take_more}
@@ -9,6 +9,7 @@ use Rattle.std.specs.declared.alloc.Global.{Global}
 use Rattle.aml_calls.specs.Calls.{called_by, calls_in_term, calls_of}
 use Rattle.aml_calls.specs.Chains.{is_among}
 use Rattle.aml_calls.specs.Pairs.{calls_in, named, numbers, Pair}
+use Rattle.aml_bodies.proofs.Linking.{views_at}
 use Rattle.aml_calls.proofs.Among.{among_back, among_cases, among_front, first_among, neither, not_both}
 use Rattle.aml_meaning.specs.Actions.{action}
 use Rattle.aml_meaning.specs.declared.action.Action.{Action}
@@ -22,7 +23,7 @@ use Rattle.aml_objects.specs.LookUp.{is_method, methods_before, methods_in}
 use Rattle.aml_namespace.specs.Names.{body_bytes, IsBodyOf, link_with_owns, method_at, method_in, ReadsBodyOf}
 use Rattle.aml_operators.specs.declared.term.Term.{Term}
 use Rattle.aml_operators.specs.declared.term.Term.TheViews.{out-Term}
-use Rattle.aml_operators.specs.Tree.{more, Tree, trees, view, views}
+use Rattle.aml_operators.specs.Tree.{Tree, trees, view, views}
 use Rattle.aml_operators.proofs.Views.{view_out}
 use Rattle.aml_own_names.specs.declared.own_names.OwnName.{OwnName}
 use Rattle.aml_own_names.specs.OwnNames.{own_names}
@@ -150,10 +151,6 @@ all_gathered ns pairs are all = record {
 pub term_calls : (links : ℕ → Link) (t : Term) → calls_in_term links (view t)
     ≡ called_by links (action (out-Term t).op) (views (out-Term t).parts.items) ++ calls_of links (views (out-Term t).parts.items)
 term_calls links t = ap (calls_in_term links) (view_out t)
-
-views_at : (ts : List Term) (i : ℕ) (t : Term) → i < length ts → t ≡ get_or ts i t → views (drop i ts) ≡ more (view t) (views (drop (i + 1) ts))
-views_at ts i t lt is =
-    ap views (drop-cons ts i t lt ∙ ap (λ x. x ∷ drop (suc i) ts) (sym is) ∙ ap (λ n. t ∷ drop n ts) (sym (add-one i)))
 
 -- its own callee, and then what its parts call
 pub term_gathered : (links : ℕ → Link) (t : Term) (a : Action) (parts again : List Term) (callee : Option ObjectId) (old mid new : List ℕ)
