@@ -20,7 +20,6 @@ use crate::accepts::are_of;
 use crate::verdict::{Verdict, accepted_at};
 use aml_bodies::Kept;
 use aml_contents::Names;
-use aml_known::Known;
 use aml_namespace::{Link, Namespace};
 use aml_paths::ObjectId;
 use aml_shapes::ShapeTable;
@@ -31,8 +30,6 @@ use aml_values::Value;
 pub struct Checked<'a> {
     pub(crate) namespace: &'a Namespace<'a>,
     pub(crate) shapes: ShapeTable,
-    /// The kinds of data names, by the numbers of their objects.
-    pub(crate) shared: Vec<Option<Known>>,
     /// By the numbers of the methods' objects.
     pub(crate) verdicts: Vec<Option<Verdict>>,
     /// What is kept of the methods' bodies that were read, by the same numbers.

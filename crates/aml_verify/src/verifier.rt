@@ -349,7 +349,6 @@ impl<'a, 's> Verifier<'a, 's> {
         Checked {
             namespace: self.read.namespace,
             shapes: self.shapes,
-            shared: self.shared,
             verdicts: self.verdicts,
             kept: self.kept,
             integers: self.integers,
