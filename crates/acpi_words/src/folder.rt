@@ -99,7 +99,8 @@ fn is_file<R: Files>(rt: &R, name: &str) -> bool {
     }
 }
 
-/// Adds the files of a folder that are taken; where none is, the folder's name.
+/// Adds the files of a folder that are taken; where none is, the folder's name, and standard error
+/// tells that.
 fn push_files<R: Files + Eprint + AllocGlobal + Clone + Drop>(
     rt: &R,
     words: &mut Vec<String>,
@@ -113,6 +114,7 @@ fn push_files<R: Files + Eprint + AllocGlobal + Clone + Drop>(
 {
     let mut taken = files_in(rt, folder.as_str(), wanted)?;
     if taken.is_empty() {
+        tell_none(rt, folder.as_str(), wanted);
         words.push(folder)?;
         return Ok(());
     }
@@ -121,6 +123,16 @@ fn push_files<R: Files + Eprint + AllocGlobal + Clone + Drop>(
         words.push(file.path)?;
     }
     Ok(())
+}
+
+/// Tells that a folder has no file that the command takes.
+fn tell_none<R: Eprint>(rt: &R, folder: &str, wanted: Wanted) {
+    let _ = rt.eprint("acpicheck: ");
+    let _ = rt.eprint(folder);
+    let _ = rt.eprintln(match wanted {
+        Wanted::Tables => ": no table's file in this folder",
+        Wanted::Definitions => ": no file of a DSDT or an SSDT in this folder",
+    });
 }
 
 /// The files of a folder that are taken, in any order. Of what is no table's file standard error
