@@ -19,8 +19,9 @@ what ran before are read from standard input and printed, the last line counts i
 gate has just built are used; crates that are named are tried, or else all. As soon as a line says that a crate is
 proved, its edits are tried on what processors the gate leaves idle, and those of the rest when it has ended. MINUTES
 behind the start no other crate is begun, and what was not is told: on a slow machine the gate ends all the same, and
-the next one there goes on from what is kept. Nothing in the work tree changes. With the word `clear` the libraries that an earlier gate left are removed, so that those that are
-found later are of the gate that ran in between.
+the next one there goes on from what is kept. The crates whose checks are long come last, and are not begun in the
+second half of MINUTES. Nothing in the work tree changes. With the word `clear` the libraries that an earlier gate left
+are removed, so that those that are found later are of the gate that ran in between.
 """
 import concurrent.futures
 import glob
@@ -43,6 +44,8 @@ COUNTS = re.compile(r"(\d+) passed, (\d+) failed\n?")
 IS_PROVED = re.compile(r"rt: (\w+) proved\n?")
 # How often an edit goes into a check with others before it is tried alone.
 MOST = 3
+# The evaluators, in whose cycles of calls a check of any function is one of all, and takes ten minutes.
+LONG = ("aml_direct", "aml_plain")
 
 
 class Trial:
@@ -236,7 +239,7 @@ class Runs:
     def __init__(self, try_crate, minutes):
         self.try_crate, self.lock, self.begun = try_crate, threading.Lock(), set()
         self.passed = self.failed = 0
-        self.until = time.monotonic() + 60 * minutes
+        self.start, self.seconds = time.monotonic(), 60 * minutes
 
     def one(self, crate, jobs, prefix=(), least=0):
         """Tries a crate's edits and prints what was found, unless less memory is free or they were tried already."""
@@ -244,7 +247,7 @@ class Runs:
             if crate in self.begun or free_memory() < least:
                 return
             self.begun.add(crate)
-            if time.monotonic() > self.until:
+            if time.monotonic() - self.start > self.seconds / (2 if crate in LONG else 1):
                 print(f"edits of {crate}: not tried, as the time for them is over: make edits CRATE={crate} does", flush=True)
                 return
         try:
@@ -270,7 +273,7 @@ def counts_of(lines, top, chosen, runs):
     for last in lines:
         print(last, end="", flush=True)
         proved = IS_PROVED.fullmatch(last)
-        if proved and proved[1] in chosen and can_begin_early(top):
+        if proved and proved[1] in chosen and proved[1] not in LONG and can_begin_early(top):
             begun.append(pool.submit(runs.one, proved[1], 1, ("nice", "-n", "19"), 6_000_000_000))
     pool.shutdown(wait=False, cancel_futures=True)
     counts = COUNTS.fullmatch(last)
@@ -315,8 +318,8 @@ def main(words, top=TOP, kept=None):
         print("\n".join(f"edits_test: {it}" for it in found or ["passed"]), flush=True)
         passed, failed = passed + (not found), failed + bool(found)
     with concurrent.futures.ThreadPoolExecutor(at_once) as pool:
-        # those with the most edits first
-        for it in sorted(chosen, key=lambda it: -len(edit_texts.edit_files(top, it))):
+        # those with the most edits first, and the long ones last
+        for it in sorted(chosen, key=lambda it: (it in LONG, -len(edit_texts.edit_files(top, it)))):
             pool.submit(runs.one, it, jobs)
     concurrent.futures.wait(early)
     passed, failed = passed + runs.passed, failed + runs.failed
