@@ -13,6 +13,7 @@ use Rattle.aml_bodies.proofs.Linking.{views_at}
 use Rattle.aml_calls.proofs.Among.{among_back, among_cases, among_front, first_among, neither, not_both}
 use Rattle.aml_meaning.specs.Actions.{action}
 use Rattle.aml_meaning.specs.declared.action.Action.{Action}
+use Rattle.aml_meaning.specs.declared.action.Action.TheVariants.{Invoke}
 use Rattle.aml_namespace.specs.declared.link.Link.{Link}
 use Rattle.aml_objects.specs.declared.object.Method.{Method}
 use Rattle.aml_objects.specs.declared.object.Object.{Object}
@@ -151,6 +152,18 @@ all_gathered ns pairs are all = record {
 pub term_calls : (links : ℕ → Link) (t : Term) → calls_in_term links (view t)
     ≡ called_by links (action (out-Term t).op) (views (out-Term t).parts.items) ++ calls_of links (views (out-Term t).parts.items)
 term_calls links t = ap (calls_in_term links) (view_out t)
+
+no_parts_call : (links : ℕ → Link) (a : Action) → called_by links a (views []) ++ calls_of links (views []) ≡ []
+no_parts_call links Invoke = refl
+no_parts_call links a = refl
+
+-- what has no parts calls nothing
+pub bare_calls : (links : ℕ → Link) (t : Term) (parts : List Term) (old : List ℕ) → parts ≡ (out-Term t).parts.items → (length parts == 0) ≡ true → old ≡ old ++ calls_in_term links (view t)
+bare_calls links t [] old are e =
+    sym (append-nil old)
+    ∙ ap (λ (ks : List ℕ). old ++ ks)
+    (sym (term_calls links t ∙ ap (λ (ps : List Term). called_by links (action (out-Term t).op) (views ps) ++ calls_of links (views ps)) (sym are) ∙ no_parts_call links (action (out-Term t).op)))
+bare_calls links t (p ∷ ps) old are e = let none_there = eqb-true (length (p ∷ ps)) 0 e in absurd (omega (arith, none_there))
 
 -- its own callee, and then what its parts call
 pub term_gathered : (links : ℕ → Link) (t : Term) (a : Action) (parts again : List Term) (callee : Option ObjectId) (old mid new : List ℕ)

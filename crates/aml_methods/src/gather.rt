@@ -82,20 +82,18 @@ fn gather(
     ensures { OnOk result (numbers callees.new.items
         ≡ numbers callees.old.items ++ calls_in_term (links_of place.entry) (view term.now)) }
 {
+    let parts = term.parts.as_slice();
+    // What has no parts calls nothing, and is no literal of data.
+    if parts.is_empty() {
+        return Ok(());
+    }
     let action = action_of(term.op);
-    push(callees, place.callee(action, &term.parts))?;
+    push(callees, place.callee(action, parts))?;
     let literal = matches!(action, Action::Data(_));
     if literal && !inside {
-        shapes.intern(alloc, place.namespace.width(), term.op, &term.parts)?;
+        shapes.intern(alloc, place.namespace.width(), term.op, parts)?;
     }
-    gather_all(
-        alloc,
-        place,
-        inside || literal,
-        &term.parts,
-        shapes,
-        callees,
-    )
+    gather_all(alloc, place, inside || literal, parts, shapes, callees)
 }
 
 /// Adds the method that is called behind some, if one is.
