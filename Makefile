@@ -14,13 +14,13 @@ try:
 run:
 	@cd crates/acpicheck && $(RT) run < stdin
 
-# The crates whose must-fail edits the gate tries: all but the two evaluators, of whose cycles each check takes ten
-# minutes, and which make edits tries; and but the worlds of aml_plain_tests, which stand in tests alone.
-EDITED = $(filter-out aml_direct aml_plain aml_plain_tests,$(notdir $(wildcard crates/*)))
+# The crates whose must-fail edits the gate tries: all but the worlds of aml_plain_tests, which stand in tests alone.
+EDITED = $(filter-out aml_plain_tests,$(notdir $(wildcard crates/*)))
 
 # The gate: every crate proved from nothing; tests and programs run, then the built program over its stored cases and
 # rows, and the must-fail edits, many in one check, and those of a small crate that try the script itself.
-# Behind 90 minutes the edits of no further crate are begun. The last line counts all.
+# Behind 90 minutes the edits of no further crate are begun, and behind 45 none of the two evaluators, of whose cycles
+# of calls each check takes some minutes. The last line counts all.
 test:
 	@python3 bench/edits.py clear
 	@$(RT) ci | python3 bench/cases.py after | python3 bench/edits.py after 90 $(EDITED)
