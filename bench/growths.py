@@ -171,11 +171,11 @@ def row_in_turn(shim, program, row):
         answer = run_row(shim, program, row, room, -1)
         with open(f"{room}/count") as it:
             growths = int(it.read())
-        if not rows.is_answer(answer, row.output):
+        if not rows.is_answer(answer, row, row.output):
             failed.append(f"row {row.place}: without a refusal: {answer}")
         for number in range(1, growths + 1):
             answer = run_row(shim, program, row, room, number)
-            if not rows.is_answer(answer, row.output) and not wants_memory(answer, output):
+            if not rows.is_answer(answer, row, row.output) and not wants_memory(answer, output):
                 failed.append(f"row {row.place}: growth {number}: {answer}")
     return growths, failed
 

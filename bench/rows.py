@@ -413,10 +413,17 @@ def run(program, row, room, words=None, env=None):
     return ran.returncode, ran.stdout, ran.stderr
 
 
-def is_answer(answer, lines):
-    """Whether an answer of the program is what a row wants."""
+def is_told_why(row, lines):
+    """Whether people are told why: of a method that was asked for and judged, and is refused."""
+    words = row.words or row.input.partition(b"\n")[0].decode(errors="replace").split()
+    asked = words[:1] in (["eval"], ["resources"], ["routing"]) and "--plain" not in words
+    return asked and bool(re.match(r"\\\S* refused ", (lines or [""])[-1]))
+
+
+def is_answer(answer, row, lines):
+    """Whether an answer of the program is what a row wants. Standard error is silent unless something is wrong."""
     written, status = answer_of(lines)
-    return answer[:2] == (status, written) and (status in (1, 2) or not answer[2])
+    return answer[:2] == (status, written) and (status in (1, 2) or is_told_why(row, lines) == bool(answer[2]))
 
 
 def differences(program, row):
@@ -428,7 +435,7 @@ def differences(program, row):
             lay_out(row, room)
             for words, lines in tries:
                 answer = run(program, row, room, words)
-                if not is_answer(answer, lines):
+                if not is_answer(answer, row, lines):
                     status, written, notes = answer
                     text = written.decode(errors="replace").strip().replace("\n", "; ")
                     found.append(f"{' '.join(words)}: status {status}, {text[:200]!r}, {notes[:200]!r}: not "

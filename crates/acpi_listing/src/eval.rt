@@ -31,7 +31,7 @@ use crate::load::load_counted;
 use crate::regs::read_registers;
 use crate::signed::read_signatures;
 use crate::stop::Stop;
-use crate::tell::{tell_argument, tell_misfit, tell_object};
+use crate::tell::{tell_argument, tell_misfit, tell_object, tell_plain, tell_reason};
 use crate::verify::verdicts_on;
 use acpi_sources::{Fault, FaultCause, Inputs, Source};
 use acpi_text::{RunFault, list_evaluation, list_events, list_refusal};
@@ -160,15 +160,7 @@ fn evaluate_inputs<N: Notes, W: Write>(
             )
         }
         None => evaluate_judged(
-            alloc,
-            request.method,
-            &namespace,
-            signatures,
-            id,
-            method,
-            given,
-            notes,
-            out,
+            alloc, request, &namespace, signatures, id, method, given, notes, out,
         ),
     }
 }
@@ -176,7 +168,7 @@ fn evaluate_inputs<N: Notes, W: Write>(
 // Evaluates a method that is judged first. A method that is not accepted has its line.
 fn evaluate_judged<N: Notes, W: Write>(
     alloc: Global,
-    word: &str,
+    request: &EvalRequest<'_>,
     namespace: &Namespace<'_>,
     signatures: &Signatures,
     id: ObjectId,
@@ -196,10 +188,20 @@ fn evaluate_judged<N: Notes, W: Write>(
 {
     let checked = verdicts_on(alloc, namespace, signatures)?;
     if !is_accepted(&checked, id) {
+        let names = request.inputs.files.as_slice();
+        tell_reason(alloc, notes, &checked, names, id);
+        tell_plain(notes, &checked, id);
         return tell_said(alloc, out, &checked, id);
     }
     if !checked.accepts(id, &given.arguments) {
-        tell_misfit(alloc, notes, namespace, word, method, &given.arguments);
+        tell_misfit(
+            alloc,
+            notes,
+            namespace,
+            request.method,
+            method,
+            &given.arguments,
+        );
         return Err(Stop::Fault(Fault::nowhere(FaultCause::ArgsDontFit)));
     }
     let mut registers = given.registers;

@@ -19,6 +19,7 @@ use crate::objects::{find_object, given_over};
 use crate::regs::read_registers;
 use crate::signed::read_signatures;
 use crate::stop::Stop;
+use crate::tell::tell_reason;
 use crate::verify::verdicts_on;
 use acpi_objects::Given;
 use acpi_resource_text::list_resources;
@@ -74,20 +75,14 @@ fn list_inputs<N: Notes, W: Write>(
 {
     let namespace = load_counted(alloc, inputs, &request.inputs, &[], notes)?;
     list_loaded(
-        alloc,
-        request.object,
-        registers,
-        signatures,
-        &namespace,
-        notes,
-        out,
+        alloc, request, registers, signatures, &namespace, notes, out,
     )
 }
 
 // Prints what an object of a namespace gives, over registers.
 fn list_loaded<N: Notes, W: Write>(
     alloc: Global,
-    word: &str,
+    request: &ObjectRequest<'_>,
     registers: Registers,
     signatures: &Signatures,
     namespace: &Namespace<'_>,
@@ -98,22 +93,24 @@ fn list_loaded<N: Notes, W: Write>(
     requires fresh { registers.file.events.items ≡ [] }
     ensures status { IfOk result (λ status. status ≤ 3) }
     ensures printed { Writes (ListsLoaded (contents registers.file) (kinds_told signatures.now)
-        word.now (shown namespace.now))
+        request.now.object.now (shown namespace.now))
         tt tt (W.contents out.old) (W.contents out.new) result }
 {
-    let id = find_object(alloc, namespace, word, notes)?;
+    let id = find_object(alloc, namespace, request.object, notes)?;
     let checked = verdicts_on(alloc, namespace, signatures)?;
     let given = given_over(alloc, &checked, id, registers)?;
-    list_given(alloc, out, &checked, id, &given)
+    list_given(alloc, request, &checked, id, &given, notes, out)
 }
 
 // Prints what an object gave.
-fn list_given<W: Write>(
+fn list_given<N: Notes, W: Write>(
     alloc: Global,
-    out: &mut W,
+    request: &ObjectRequest<'_>,
     checked: &Checked<'_>,
     id: ObjectId,
     given: &Given,
+    notes: &N,
+    out: &mut W,
 ) -> Result<u8, Stop>
     ensures status { IfOk result (λ status. status ≤ 3) }
     ensures printed { Writes (ListsGiven checked.now id.0 given.now)
@@ -122,7 +119,11 @@ fn list_given<W: Write>(
     match given {
         Given::Value(value) => list_items(alloc, out, octets_of(value)),
         Given::Nothing => list_items(alloc, out, None),
-        Given::Refused => tell_said(alloc, out, checked, id),
+        Given::Refused => {
+            let names = request.inputs.files.as_slice();
+            tell_reason(alloc, notes, checked, names, id);
+            tell_said(alloc, out, checked, id)
+        }
     }
 }
 

@@ -21,7 +21,7 @@ use crate::objects::{find_object, prt_over};
 use crate::regs::read_registers;
 use crate::signed::read_signatures;
 use crate::stop::Stop;
-use crate::tell::tell_route;
+use crate::tell::{tell_reason, tell_route};
 use crate::verify::verdicts_on;
 use acpi_objects::Given;
 use acpi_resource_text::list_routes;
@@ -147,7 +147,11 @@ fn list_prt<N: Notes, W: Write>(
             list_value(alloc, request, madt, checked, value, &prt.links, notes, out)
         }
         Given::Nothing => Err(Stop::Fault(no_package(notes))),
-        Given::Refused => tell_said(alloc, out, checked, id),
+        Given::Refused => {
+            let names = request.asked.inputs.files.as_slice();
+            tell_reason(alloc, notes, checked, names, id);
+            tell_said(alloc, out, checked, id)
+        }
     }
 }
 

@@ -15,7 +15,7 @@ use aml_namespace::{LoadCause, LoadRefusal, Method, Namespace};
 use aml_paths::ObjectId;
 use aml_tree::TreeCause;
 use aml_values::Value;
-use aml_verify::Checked;
+use aml_verify::{Checked, Verdict};
 use std::alloc::{AllocError, Global};
 use std::convert::AsStr;
 use std::str;
@@ -108,13 +108,37 @@ pub(crate) fn tell_refused<N: Notes>(
     names: &[&str],
 ) {
     for id in checked.namespace().methods() {
-        match explain(alloc, checked, names, *id) {
-            Ok(text) => tell_lines(notes, &text),
-            Err(_) => {
-                notes.tell("out of memory");
-                return;
-            }
+        if !tell_reason(alloc, notes, checked, names, *id) {
+            return;
         }
+    }
+}
+
+/// Of a method that is refused why it is, with the files by their names; whether there was memory
+/// for it.
+pub(crate) fn tell_reason<N: Notes>(
+    alloc: Global,
+    notes: &N,
+    checked: &Checked<'_>,
+    names: &[&str],
+    id: ObjectId,
+) -> bool {
+    match explain(alloc, checked, names, id) {
+        Ok(text) => {
+            tell_lines(notes, &text);
+            true
+        }
+        Err(_) => {
+            notes.tell("out of memory");
+            false
+        }
+    }
+}
+
+/// Of a method that is refused, and so is not evaluated: how it is evaluated all the same.
+pub(crate) fn tell_plain<N: Notes>(notes: &N, checked: &Checked<'_>, id: ObjectId) {
+    if let Some(Verdict::Refused(..)) = checked.verdict(id) {
+        notes.tell("eval --plain N evaluates it without a verdict, in at most N steps");
     }
 }
 

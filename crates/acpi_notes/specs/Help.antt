@@ -1,5 +1,5 @@
 -- Which help the words of a command line ask for.
-use Rattle.std.specs.Prelude.{ℕ, ◌-◌, ◌||◌, length, List, Bool, Option, Some, None, codes, not, option_and_then, slice_get, if◌then◌else◌}
+use Rattle.std.specs.Prelude.{ℕ, ◌-◌, ◌||◌, length, List, Bool, true, Option, Some, None, codes, not, option_and_then, slice_get, if◌then◌else◌}
 use Rattle.std.specs.Str.{bytes_eq}
 use Rattle.acpi_notes.specs.declared.help.TheConstants.{COMMANDS, EVAL, NAMES, RESOURCES, ROUTING, TABLES, VERIFY, VERSION}
 use Rattle.acpi_notes.specs.declared.help.Help.{Help}
@@ -11,7 +11,7 @@ asks_for_help word = bytes_eq word (codes "--help") || bytes_eq word (codes "-h"
 -- by the first word, and by whether a word asks for help
 abbrev pub help_for : List ℕ → Bool → Option Help
 help_for first asks =
-    if bytes_eq first (codes "--version") then Some Version
+    if bytes_eq first (codes "--version") || bytes_eq first (codes "-V") then Some Version
     else if not asks then None
     else if bytes_eq first (codes "tables") then Some Tables
     else if bytes_eq first (codes "names") then Some Names
@@ -21,9 +21,11 @@ help_for first asks =
     else if bytes_eq first (codes "routing") then Some Routing
     else Some Commands
 
--- by the first word and the last one
+-- by the first word and the last one, which is the command where the first is `help`
 abbrev pub help_by : List ℕ → List ℕ → Option Help
-help_by first last = help_for first (asks_for_help first || asks_for_help last)
+help_by first last =
+    if bytes_eq first (codes "help") then help_for last true
+    else help_for first (asks_for_help first || asks_for_help last)
 
 abbrev pub help_of : List (List ℕ) → Option Help
 help_of words =

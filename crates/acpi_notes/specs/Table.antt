@@ -1,6 +1,6 @@
 -- What is told of a file that is no table, or another one than is wanted.
-use Rattle.std.specs.Prelude.{ℕ, ◌+◌, ◌*◌, ◌%◌, ◌==◌, ◌&&◌, List, [], ◌∷◌, codes, decimal, length, min, nat_eq, nat_le, nat_lt, slice_index, sum, take, if◌then◌else◌}
-use Rattle.std.specs.List.{starts_with}
+use Rattle.std.specs.Prelude.{ℕ, ◌+◌, ◌*◌, ◌%◌, ◌==◌, ◌&&◌, ◌||◌, Bool, List, [], ◌∷◌, codes, decimal, length, min, nat_eq, nat_le, nat_lt, slice_index, sum, take, if◌then◌else◌}
+use Rattle.std.specs.List.{list_all, starts_with}
 use Rattle.acpi_tables.specs.declared.fault.TableCause.TheVariants.{Short, BadLength, BadSum, BadSignature, BadEntry}
 use Rattle.acpi_tables.specs.declared.fault.TableCause.{TableCause}
 use Rattle.acpi_notes.specs.Text.{joined, shown_bytes}
@@ -36,6 +36,19 @@ summed bytes at =
     else if at == 32 then sum (take (min (length bytes) (number_at bytes 20)) bytes) % 256
     else sum bytes % 256
 
+-- a character of a text's lines: a printable one of ASCII, or a tab, LF or CR
+abbrev pub is_text_character : ℕ → Bool
+is_text_character b = (nat_le 32 b && nat_le b 126) || (b == 9) || (b == 10) || (b == 13)
+
+-- text stands where a table's header would: eight such characters at least, and none else up to 36.
+-- Four of them as a table's length are more than 144 MiB
+abbrev pub is_text : List ℕ → Bool
+is_text bytes = nat_le 8 (length bytes) && list_all is_text_character (take (min (length bytes) 36) bytes)
+
+unfoldable pub text_note : List ℕ → List ℕ
+text_note label = joined (label
+    ∷ codes ": it is text, and no table: acpixtract -a makes tables of a dump, iasl of ASL" ∷ [])
+
 unfoldable pub short_note : List ℕ → ℕ → ℕ → List ℕ
 short_note label length least =
     joined (label ∷ codes ": it has " ∷ decimal length ∷ codes " bytes, and such a table has "
@@ -64,11 +77,16 @@ entry_note label at kind =
     joined (label ∷ codes ": the entry at byte " ∷ decimal at ∷ codes ", which begins with "
     ∷ decimal kind ∷ codes ", is cut or too short" ∷ [])
 
--- what is told of a file that is to have such a table, by what is wrong and where
-abbrev pub table_note : List ℕ → List ℕ → WantedTable → TableCause → ℕ → List ℕ
-table_note label bytes wanted Short at = short_note label (length bytes) (least_of bytes)
-table_note label bytes wanted BadLength at = length_note label (length bytes) (stated bytes at)
-table_note label bytes wanted BadSum at = sum_note label (summed bytes at)
-table_note label bytes wanted BadSignature at =
+-- of a file that is to have such a table, by what is wrong and where
+abbrev pub cause_note : List ℕ → List ℕ → WantedTable → TableCause → ℕ → List ℕ
+cause_note label bytes wanted Short at = short_note label (length bytes) (least_of bytes)
+cause_note label bytes wanted BadLength at = length_note label (length bytes) (stated bytes at)
+cause_note label bytes wanted BadSum at = sum_note label (summed bytes at)
+cause_note label bytes wanted BadSignature at =
     signature_note label (shown_bytes (take (min (length bytes) 4) bytes)) (wanted_text wanted)
-table_note label bytes wanted BadEntry at = entry_note label at (byte_at bytes at)
+cause_note label bytes wanted BadEntry at = entry_note label at (byte_at bytes at)
+
+-- what is told of such a file
+abbrev pub table_note : List ℕ → List ℕ → WantedTable → TableCause → ℕ → List ℕ
+table_note label bytes wanted cause at =
+    if is_text bytes then text_note label else cause_note label bytes wanted cause at

@@ -148,8 +148,8 @@ impl Help {
     }
 }
 
-/// Which help the words ask for: `--version` in front, or `--help` or `-h` first or last, of the
-/// command that is the first word.
+/// Which help the words ask for: `--version` or `-V` in front; or `--help` or `-h` first or last, of
+/// the command that is the first word; or `help` in front, of the command that is the last.
 pub fn help_of<S: AsStr>(words: &[S]) -> Option<Help>
     ensures { result ≡ help_of (map S.text words.now) }
 {
@@ -162,6 +162,9 @@ pub fn help_of<S: AsStr>(words: &[S]) -> Option<Help>
 fn help_by(first: &str, last: &str) -> Option<Help>
     ensures { result ≡ help_by first.now last.now }
 {
+    if first == "help" {
+        return help_for(last, true);
+    }
     let asks = asks_for_help(first) || asks_for_help(last);
     help_for(first, asks)
 }
@@ -169,7 +172,7 @@ fn help_by(first: &str, last: &str) -> Option<Help>
 fn help_for(first: &str, asks: bool) -> Option<Help>
     ensures { result ≡ help_for first.now asks }
 {
-    if first == "--version" {
+    if first == "--version" || first == "-V" {
         Some(Help::Version)
     } else if !asks {
         None

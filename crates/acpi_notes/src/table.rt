@@ -1,8 +1,9 @@
 // A file that is no table, or another one than is wanted (ACPI 6.5, 5.2).
 
 ghost use Rattle.std.specs.Prelude.{◌≡◌, ◌+◌, ◌*◌, ◌%◌, ◌≤◌, IfOk, length, min, string_bytes, sum, take};
+ghost use Rattle.std.specs.List.{list_all};
 ghost use Rattle.acpi_notes.specs.Text.{shown_byte, shown_bytes};
-ghost use Rattle.acpi_notes.specs.Table.{byte_at, entry_note, least_of, length_note, number_at, short_note, signature_note, stated, sum_note, summed, table_note, wanted_text};
+ghost use Rattle.acpi_notes.specs.Table.{byte_at, cause_note, entry_note, is_text, is_text_character, least_of, length_note, number_at, short_note, signature_note, stated, sum_note, summed, table_note, text_note, wanted_text};
 
 use acpi_tables::{TableCause, TableFault};
 use std::alloc::{AllocError, Global};
@@ -120,8 +121,32 @@ impl WantedTable {
     }
 }
 
-/// Of the fault of a file's table: how many bytes it has, and is said or wanted to have; what they
-/// sum to; its signature, and which is wanted; how the entry begins that cannot be read.
+fn is_text_character(byte: u8) -> bool
+    ensures { result ≡ is_text_character byte }
+{
+    matches!(byte, b' '..=b'~' | b'\t' | b'\n' | b'\r')
+}
+
+fn are_text_characters(bytes: &[u8]) -> bool
+    ensures { result ≡ list_all is_text_character bytes.now }
+{
+    match bytes {
+        [] => true,
+        [first, rest @ ..] => is_text_character(*first) && are_text_characters(rest),
+    }
+}
+
+/// Whether text stands where a table's header would, as in a dump that was not taken apart, or in
+/// ASL that was not compiled.
+fn is_text(bytes: &[u8]) -> bool
+    ensures { result ≡ is_text bytes.now }
+{
+    bytes.len() >= 8 && are_text_characters(front(bytes, 36))
+}
+
+/// Of the fault of a file's table: that the file is text; or how many bytes it has, and is said or
+/// wanted to have; what they sum to; its signature, and which is wanted; how the entry begins that
+/// cannot be read.
 pub fn table_note(
     alloc: Global,
     label: &str,
@@ -131,6 +156,23 @@ pub fn table_note(
 ) -> Result<String, AllocError>
     ensures { IfOk result (λ note. string_bytes note
         ≡ table_note label.now bytes.now wanted fault.cause fault.at) }
+{
+    if is_text(bytes) {
+        return text_note(alloc, label);
+    }
+    cause_note(alloc, label, bytes, fault, wanted)
+}
+
+/// The same of a file that is no text.
+fn cause_note(
+    alloc: Global,
+    label: &str,
+    bytes: &[u8],
+    fault: TableFault,
+    wanted: WantedTable,
+) -> Result<String, AllocError>
+    ensures { IfOk result (λ note. string_bytes note
+        ≡ cause_note label.now bytes.now wanted fault.cause fault.at) }
 {
     let length = bytes.len();
     match fault.cause {
@@ -143,6 +185,15 @@ pub fn table_note(
         }
         TableCause::BadEntry => entry_note(alloc, label, fault.at, byte_at(bytes, fault.at)),
     }
+}
+
+#[tactic(auto, unfolding(crate::specs::Table::text_note))]
+fn text_note(alloc: Global, label: &str) -> Result<String, AllocError>
+    ensures { IfOk result (λ note. string_bytes note ≡ text_note label.now) }
+{
+    format!(in alloc;
+        "{label}: it is text, and no table: acpixtract -a makes tables of a dump, iasl of ASL"
+    )
 }
 
 #[tactic(auto, unfolding(crate::specs::Table::short_note))]

@@ -1,6 +1,6 @@
 // What an evaluation did to the world, as it is printed.
 
-ghost use Rattle.std.specs.Prelude.{◌≡◌, IfOk, string_bytes};
+ghost use Rattle.std.specs.Prelude.{◌≡◌, ◌++◌, IfOk, OnOk, codes, string_bytes};
 ghost use Rattle.acpi_text.specs.Events.{access_line, event_line, events_text, notify_line, space_text, wait_line};
 ghost use Rattle.acpi_text.specs.Lists.{Lists};
 ghost use Rattle.acpi_text.specs.Names.{object_text};
@@ -29,15 +29,18 @@ pub fn list_events<W: Write>(
     ensures { Lists result (W.contents out.old) (W.contents out.new)
         (events_text (shown namespace.now).entries (events_of events.now)) }
 {
+    let mut line = String::new(alloc);
     for event in events {
-        list_event(alloc, out, namespace, event)?;
+        list_event(alloc, &mut line, out, namespace, event)?;
     }
     Ok(())
 }
 
-// Prints the line of an event.
+// Prints the line of an event. It is made in a text that held the line before, whose room serves
+// again.
 fn list_event<W: Write>(
     alloc: Global,
+    line: &mut String,
     out: &mut W,
     namespace: &Namespace<'_>,
     event: &Event,
@@ -45,55 +48,44 @@ fn list_event<W: Write>(
     ensures { Lists result (W.contents out.old) (W.contents out.new)
         (event_line (shown namespace.now).entries (event_of event.now)) }
 {
+    line.clear();
     match event {
-        Event::Read(access, value) => list_access(alloc, out, "read", *access, *value),
-        Event::Written(access, value) => list_access(alloc, out, "write", *access, *value),
-        Event::Notified(object, value) => list_notify(alloc, out, namespace, *object, *value),
-        Event::Slept(milliseconds, _) => list_wait(alloc, out, "sleep", *milliseconds),
-        Event::Stalled(microseconds) => list_wait(alloc, out, "stall", *microseconds),
+        Event::Read(access, value) => push_access(line, "read", *access, *value)?,
+        Event::Written(access, value) => push_access(line, "write", *access, *value)?,
+        Event::Slept(milliseconds, _) => push_wait(line, "sleep", *milliseconds)?,
+        Event::Stalled(microseconds) => push_wait(line, "stall", *microseconds)?,
+        Event::Notified(object, value) => {
+            return list_notify(alloc, out, namespace, *object, *value);
+        }
     }
-}
-
-fn list_access<W: Write>(
-    alloc: Global,
-    out: &mut W,
-    verb: &str,
-    access: Access,
-    value: u64,
-) -> Result<(), RunFault>
-    ensures { Lists result (W.contents out.old) (W.contents out.new)
-        (access_line verb.now access value) }
-{
-    let line = access_line_of(alloc, verb, access, value)?;
     put(out, line.as_bytes())
 }
 
 #[tactic(auto, unfolding(crate::specs::Events::access_line))]
-fn access_line_of(
-    alloc: Global,
-    verb: &str,
-    access: Access,
-    value: u64,
-) -> Result<String, AllocError>
-    ensures { IfOk result (λ line. string_bytes line ≡ access_line verb.now access value) }
+fn push_access(line: &mut String, verb: &str, access: Access, value: u64) -> Result<(), AllocError>
+    ensures { OnOk result (string_bytes line.new ≡
+        string_bytes line.old ++ access_line verb.now access value) }
 {
-    let space = space_of(alloc, access.space)?;
     let address = access.address;
     let width = access.width;
-    format!(in alloc; "{verb} {space} 0x{address:x} {width} 0x{value:x}\n")
+    line.push_str(verb)?;
+    push_space(line, access.space)?;
+    writeln!(line, " 0x{address:x} {width} 0x{value:x}")
 }
 
-// An address space, by the word that a register file's text has for it, or else by its number.
-fn space_of(alloc: Global, space: u8) -> Result<String, AllocError>
-    ensures { IfOk result (λ text. string_bytes text ≡ space_text space) }
+// An address space behind a blank, by the word that a register file's text has for it, or else by
+// its number.
+fn push_space(line: &mut String, space: u8) -> Result<(), AllocError>
+    ensures { OnOk result (string_bytes line.new ≡
+        string_bytes line.old ++ codes " " ++ space_text space) }
 {
     match space {
-        0 => format!(in alloc; "mem"),
-        1 => format!(in alloc; "io"),
-        2 => format!(in alloc; "pci"),
-        3 => format!(in alloc; "ec"),
-        5 => format!(in alloc; "cmos"),
-        _ => format!(in alloc; "{space}"),
+        0 => line.push_str(" mem"),
+        1 => line.push_str(" io"),
+        2 => line.push_str(" pci"),
+        3 => line.push_str(" ec"),
+        5 => line.push_str(" cmos"),
+        _ => write!(line, " {space}"),
     }
 }
 
@@ -130,16 +122,10 @@ fn notify_line_of(
     Ok(line)
 }
 
-fn list_wait<W: Write>(alloc: Global, out: &mut W, verb: &str, time: u64) -> Result<(), RunFault>
-    ensures { Lists result (W.contents out.old) (W.contents out.new) (wait_line verb.now time) }
-{
-    let line = wait_line_of(alloc, verb, time)?;
-    put(out, line.as_bytes())
-}
-
 #[tactic(auto, unfolding(crate::specs::Events::wait_line))]
-fn wait_line_of(alloc: Global, verb: &str, time: u64) -> Result<String, AllocError>
-    ensures { IfOk result (λ line. string_bytes line ≡ wait_line verb.now time) }
+fn push_wait(line: &mut String, verb: &str, time: u64) -> Result<(), AllocError>
+    ensures { OnOk result
+        (string_bytes line.new ≡ string_bytes line.old ++ wait_line verb.now time) }
 {
-    format!(in alloc; "{verb} 0x{time:x}\n")
+    writeln!(line, "{verb} 0x{time:x}")
 }

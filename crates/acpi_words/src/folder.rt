@@ -114,7 +114,7 @@ fn push_files<R: Files + Eprint + AllocGlobal + Clone + Drop>(
 {
     let mut taken = files_in(rt, folder.as_str(), wanted)?;
     if taken.is_empty() {
-        tell_none(rt, folder.as_str(), wanted);
+        tell(rt, folder.as_str(), none_of(wanted));
         words.push(folder)?;
         return Ok(());
     }
@@ -125,14 +125,19 @@ fn push_files<R: Files + Eprint + AllocGlobal + Clone + Drop>(
     Ok(())
 }
 
-/// Tells that a folder has no file that the command takes.
-fn tell_none<R: Eprint>(rt: &R, folder: &str, wanted: Wanted) {
+/// Tells of a file or a folder on standard error.
+fn tell<R: Eprint>(rt: &R, name: &str, what: &str) {
     let _ = rt.eprint("acpicheck: ");
-    let _ = rt.eprint(folder);
-    let _ = rt.eprintln(match wanted {
+    let _ = rt.eprint(name);
+    let _ = rt.eprintln(what);
+}
+
+/// What is told of a folder that has no file that the command takes.
+fn none_of(wanted: Wanted) -> &'static str {
+    match wanted {
         Wanted::Tables => ": no table's file in this folder",
         Wanted::Definitions => ": no file of a DSDT or an SSDT in this folder",
-    });
+    }
 }
 
 /// The files of a folder that are taken, in any order. Of what is no table's file standard error
@@ -157,11 +162,7 @@ fn files_in<R: Files + Eprint + AllocGlobal + Clone + Drop>(
                     taken.push(Taken { rank, number, path })?;
                 }
             }
-            _ => {
-                let _ = rt.eprint("acpicheck: ");
-                let _ = rt.eprint(path.as_str());
-                let _ = rt.eprintln(": no table's file, passed over");
-            }
+            _ => tell(rt, path.as_str(), ": no table's file, passed over"),
         }
     }
     Ok(taken)

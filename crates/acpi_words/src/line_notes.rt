@@ -34,7 +34,7 @@ pub fn start_note(fault: Fault) -> &'static str
     match fault.cause {
         FaultCause::CommandLine => "the first line of standard input is no UTF-8",
         FaultCause::NoMemory => "no memory for the words",
-        _ => "standard input has no first line, from which words are taken where there are none",
+        _ => "no words, nor a first line of standard input that has them: see acpicheck --help",
     }
 }
 

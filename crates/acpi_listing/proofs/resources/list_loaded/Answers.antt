@@ -10,12 +10,12 @@ use Rattle.acpi_listing.proofs.resources.list_loaded.Goals as goal
 
 pub returns-in_err-id-clause-printed : goal.returns-in_err-id-clause-printed
 returns-in_err-id-clause-printed g c =
-    no_object (contents c.args.registers.file) (kinds_told c.args.signatures.now) c.args.word.now (shown c.args.namespace.now)
+    no_object (contents c.args.registers.file) (kinds_told c.args.signatures.now) c.args.request.now.object.now (shown c.args.namespace.now)
     _ _ c.from_residual.result c.from_residual.ensures.1 (λ id. c.in_err-id.ensures.none id, c.in_err-id.ensures.fault)
 
 pub returns-in_err-checked-clause-printed : goal.returns-in_err-checked-clause-printed
 returns-in_err-checked-clause-printed g c =
-    no_verdicts (contents c.args.registers.file) (kinds_told c.args.signatures.now) c.args.word.now (shown c.args.namespace.now)
+    no_verdicts (contents c.args.registers.file) (kinds_told c.args.signatures.now) c.args.request.now.object.now (shown c.args.namespace.now)
     c.in_ok-id.id.0 c.in_ok-id.ensures.found
     _ _ c.from_residual-in_err-checked.result c.from_residual-in_err-checked.ensures.1 c.in_err-checked.ensures.fault
 
@@ -29,12 +29,12 @@ given_over-requires-clause-gives g c =
 
 pub returns-in_err-given-clause-printed : goal.returns-in_err-given-clause-printed
 returns-in_err-given-clause-printed g c =
-    not_given (contents c.args.registers.file) (kinds_told c.args.signatures.now) c.args.word.now (shown c.args.namespace.now)
+    not_given (contents c.args.registers.file) (kinds_told c.args.signatures.now) c.args.request.now.object.now (shown c.args.namespace.now)
     c.in_ok-id.id.0 c.in_ok-id.ensures.found c.in_ok-checked.checked c.in_ok-checked.ensures.verdicts
     _ _ c.from_residual-in_err-given.result c.from_residual-in_err-given.ensures.1 c.in_err-given.ensures
 
 pub returns-clause-printed : goal.returns-clause-printed
 returns-clause-printed g c =
-    given_listed (contents c.args.registers.file) (kinds_told c.args.signatures.now) c.args.word.now (shown c.args.namespace.now)
+    given_listed (contents c.args.registers.file) (kinds_told c.args.signatures.now) c.args.request.now.object.now (shown c.args.namespace.now)
     c.in_ok-id.id.0 c.in_ok-id.ensures.found c.in_ok-checked.checked c.in_ok-checked.ensures.verdicts
     c.in_ok-given.given _ _ c.list_given.result c.in_ok-given.ensures c.list_given.ensures.printed
