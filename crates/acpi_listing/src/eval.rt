@@ -31,7 +31,7 @@ use crate::load::load_counted;
 use crate::regs::read_registers;
 use crate::signed::read_signatures;
 use crate::stop::Stop;
-use crate::tell::{tell_argument, tell_misfit, tell_object, tell_plain, tell_reason};
+use crate::tell::{tell_argument, tell_misfit, tell_object, tell_plain, tell_reason, tell_untold};
 use crate::verify::verdicts_on;
 use acpi_sources::{Fault, FaultCause, Inputs, Source};
 use acpi_text::{RunFault, list_evaluation, list_events, list_refusal};
@@ -190,6 +190,7 @@ fn evaluate_judged<N: Notes, W: Write>(
     if !is_accepted(&checked, id) {
         let names = request.inputs.files.as_slice();
         tell_reason(alloc, notes, &checked, names, id);
+        tell_untold(notes, &checked, &[id], request.kinds);
         tell_plain(notes, &checked, id);
         return tell_said(alloc, out, &checked, id);
     }

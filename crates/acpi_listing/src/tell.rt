@@ -10,6 +10,7 @@ use acpi_sources::{Fault, FaultCause, Where};
 use acpi_tables::TableFault;
 use acpi_verdicts::explain;
 use acpi_words::{Notes, bad_argument, words_error};
+use aml_causes::Cause;
 use aml_externals::is_dead_if;
 use aml_namespace::{LoadCause, LoadRefusal, Method, Namespace};
 use aml_paths::ObjectId;
@@ -140,6 +141,31 @@ pub(crate) fn tell_plain<N: Notes>(notes: &N, checked: &Checked<'_>, id: ObjectI
     if let Some(Verdict::Refused(..)) = checked.verdict(id) {
         notes.tell("eval --plain N evaluates it without a verdict, in at most N steps");
     }
+}
+
+/// Of methods of which one is refused for what an argument of it holds, as far as that can be seen,
+/// where no file tells the kinds of arguments: as what they count.
+pub(crate) fn tell_untold<N: Notes>(
+    notes: &N,
+    checked: &Checked<'_>,
+    methods: &[ObjectId],
+    kinds: Option<&str>,
+) {
+    if kinds.is_none() && methods.iter().any(|id| may_lack_kinds(checked, *id)) {
+        notes.tell(
+            "without --kinds each argument counts as an integer, but those of a _DSM: docs/SIGNATURES.md has how to tell what it holds",
+        );
+    }
+}
+
+// Whether a method that takes arguments is refused for a kind.
+fn may_lack_kinds(checked: &Checked<'_>, id: ObjectId) -> bool {
+    let takes = match checked.namespace().method(id) {
+        Some(method) => method.args > 0,
+        None => false,
+    };
+    takes
+        && matches!(checked.verdict(id), Some(Verdict::Refused(refusal, _)) if refusal.why == Cause::WrongKind)
 }
 
 /// Of a file of `--madt` that is no MADT.

@@ -13,7 +13,7 @@ ghost use Rattle.aml_signatures.specs.Signed.{kinds_told};
 use crate::load::load_counted;
 use crate::signed::read_signatures;
 use crate::stop::Stop;
-use crate::tell::tell_refused;
+use crate::tell::{tell_refused, tell_untold};
 use acpi_sources::{Fault, Inputs, Source};
 use acpi_verdicts::{any_refused, list_verdicts};
 use acpi_words::{Notes, VerifyRequest};
@@ -86,6 +86,7 @@ fn tell_reasons<N: Notes>(
 ) {
     if request.explain {
         tell_refused(alloc, notes, checked, request.inputs.files.as_slice());
+        tell_untold(notes, checked, checked.namespace().methods(), request.kinds);
     }
 }
 

@@ -43,7 +43,8 @@ is_text_character b = (nat_le 32 b && nat_le b 126) || (b == 9) || (b == 10) || 
 -- text stands where a table's header would: eight such characters at least, and none else up to 36.
 -- Four of them as a table's length are more than 144 MiB
 abbrev pub is_text : List ℕ → Bool
-is_text bytes = nat_le 8 (length bytes) && list_all is_text_character (take (min (length bytes) 36) bytes)
+is_text bytes =
+    nat_le 8 (length bytes) && list_all is_text_character (take (min (length bytes) 36) bytes)
 
 unfoldable pub text_note : List ℕ → List ℕ
 text_note label = joined (label

@@ -2,11 +2,12 @@
 
 ghost use Rattle.std.specs.Prelude.{◌≡◌, IfOk, string_bytes};
 ghost use Rattle.acpi_notes.specs.Table.{byte_at};
-ghost use Rattle.acpi_notes.specs.Tree.{lexical_note, module_note, opcode_note, tree_note};
+ghost use Rattle.acpi_notes.specs.Tree.{lexical_note, module_note, opcode_note, tree_note, word_at};
 
 use crate::table::byte_at;
 use aml_lex::LexCause;
-use aml_tree::TreeCause;
+use aml_place_text::operator_name;
+use aml_tree::{TreeCause, op_at};
 use std::alloc::{AllocError, Global};
 
 /// Where AML cannot be read: a byte of a file.
@@ -41,7 +42,10 @@ pub fn tree_note(
                 "{label}: the data at byte {at} has more than 65536 bytes or 65535 elements"
             )
         }
-        TreeCause::ModuleCode => { module_note(alloc, label, at, byte) }
+        TreeCause::ModuleCode => {
+            let word = word_at(place.bytes, at);
+            module_note(alloc, label, at, byte, word)
+        }
     }
 }
 
@@ -55,12 +59,28 @@ fn opcode_note(alloc: Global, label: &str, at: usize, byte: u8) -> Result<String
 }
 
 #[tactic(auto, unfolding(crate::specs::Tree::module_note))]
-fn module_note(alloc: Global, label: &str, at: usize, byte: u8) -> Result<String, AllocError>
-    ensures { IfOk result (λ note. string_bytes note ≡ module_note label.now at byte) }
+fn module_note(
+    alloc: Global,
+    label: &str,
+    at: usize,
+    byte: u8,
+    word: &str,
+) -> Result<String, AllocError>
+    ensures { IfOk result (λ note. string_bytes note ≡ module_note label.now at byte word.now) }
 {
     format!(in alloc;
-        "{label}: at byte {at} stands 0x{byte:x}, code outside methods or data that is no literal"
+        "{label}: at byte {at} stands 0x{byte:x} ({word}), code outside methods or data that is no literal"
     )
+}
+
+// How what stands at a place is called.
+fn word_at(bytes: &[u8], at: usize) -> &'static str
+    ensures { result.now ≡ word_at bytes.now at }
+{
+    match op_at(bytes, at) {
+        Some((op, _)) => operator_name(op),
+        None => "a name",
+    }
 }
 
 #[tactic(auto, unfolding(crate::specs::Tree::lexical_note))]

@@ -7,12 +7,14 @@ use Rattle.acpi_notes.specs.Tree.{tree_note}
 use Rattle.acpi_text.specs.Text.{joined}
 use Rattle.acpi_text.specs.Verdicts.{cause_text}
 use Rattle.acpi_verdicts.specs.Findings.{told_text}
+use Rattle.acpi_verdicts.specs.Outside.{outside_text}
 use Rattle.acpi_verdicts.specs.Verdicts.{said_of}
 use Rattle.acpi_verdicts.specs.Words.{cause_words}
 use Rattle.aml_causes.specs.declared.cause.Cause.{Cause}
 use Rattle.aml_causes.specs.declared.cause.Cause.TheVariants as cause
 use Rattle.aml_causes.specs.declared.cause.Refusal.{Refusal}
 use Rattle.aml_findings.specs.declared.finding.Finding.{Finding}
+use Rattle.aml_findings.specs.declared.finding.Finding.TheVariants as finding
 use Rattle.aml_namespace.specs.Bodies.{bytes_of}
 use Rattle.aml_namespace.specs.Load.{Shown}
 use Rattle.aml_namespace.specs.Names.{link_at}
@@ -63,13 +65,24 @@ refused_place label refusal =
     joined (codes ": " ∷ cause_text refusal.why ∷ codes ": " ∷ label ∷ codes ", byte "
     ∷ decimal refusal.at ∷ [])
 
+-- whether a form that has no meaning was refused, and nothing was found there
+abbrev pub is_form : Cause → Finding → Bool
+is_form cause.OutsideProfile finding.Nothing = true
+is_form _ _ = false
+
+-- what was found at a place and what was wanted there
+abbrev pub found_part : Shown → Refusal → Finding → List ℕ
+found_part ns refusal found =
+    if is_form refusal.why found then outside_text (bytes_of ns.tables refusal.table) refusal.at
+    else told_text ns found
+
 -- what stands behind the path of a method that is refused for a cause: that, what stands at the
 -- place, what the cause means, and what was found there and what was wanted
 abbrev pub refused_part : Shown → List ℕ → Refusal → Finding → List ℕ
-refused_part ns label refusal finding =
+refused_part ns label refusal found =
     refused_place label refusal
     ++ (standing_text (bytes_of ns.tables refusal.table) refusal.at
-    ++ (codes ": " ++ (cause_words refusal.why ++ told_text ns finding)))
+    ++ (codes ": " ++ (cause_words refusal.why ++ found_part ns refusal found)))
 
 -- the line of a method that is refused for a cause
 abbrev pub refused_text : Shown → List ℕ → ObjectId → Refusal → Finding → List ℕ

@@ -129,7 +129,8 @@ fault_words fault.Access =
     codes ": found access for buffers or a reserved one, wanted AnyAcc, ByteAcc, WordAcc, DWordAcc or QWordAcc"
 fault_words fault.Update =
     codes ": found the reserved update rule, wanted Preserve, WriteAsOnes or WriteAsZeros"
-fault_words fault.NoRegion = codes ": found a field of no OperationRegion, wanted a field of one"
+fault_words fault.NoRegion =
+    codes ": found a field of no OperationRegion that the tables define, wanted a field of one"
 fault_words fault.Place =
     codes ": found a region whose first place is computed, wanted an integer literal"
 fault_words fault.Length =

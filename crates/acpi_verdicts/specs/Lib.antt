@@ -1,4 +1,5 @@
 pub mod Verdicts
 pub mod Words
 pub mod Findings
+pub mod Outside
 pub mod Explained

@@ -1,11 +1,12 @@
 // What people are told of why a method is refused.
 
 ghost use Rattle.std.specs.Prelude.{◌≡◌, ◌++◌, IfErr, IfOk, OnOk, map, string_bytes};
-ghost use Rattle.acpi_verdicts.specs.Explained.{asks_callee, called_at, callee_told, chain_text, label_of, next_of, reason_text, refused_part, refused_place, refused_text, rest_text, unreadable_label, unreadable_text};
+ghost use Rattle.acpi_verdicts.specs.Explained.{asks_callee, called_at, callee_told, chain_text, found_part, is_form, label_of, next_of, reason_text, refused_part, refused_place, refused_text, rest_text, unreadable_label, unreadable_text};
 ghost use Rattle.acpi_text.specs.declared.writing.RunFault.TheVariants as told;
 ghost use Rattle.aml_namespace.specs.Shows.{shown};
 
 use crate::findings::push_finding;
+use crate::outside::push_outside;
 use crate::words::cause_words;
 use acpi_notes::{TreePlace, file_label, tree_note};
 use acpi_text::{RunFault, cause_text};
@@ -187,7 +188,34 @@ fn push_cause(
     push_standing(text, namespace.table_bytes(refusal.table), refusal.at)?;
     text.extend_from_slice(b": ")?;
     text.extend_from_slice(cause_words(refusal.why).as_bytes())?;
-    push_finding(alloc, text, namespace, finding)
+    push_found(alloc, text, namespace, refusal, finding)
+}
+
+// Adds what was found and what was wanted; where nothing was found of a form that has no meaning,
+// what is wanted of it.
+fn push_found(
+    alloc: Global,
+    text: &mut Vec<u8>,
+    namespace: &Namespace<'_>,
+    refusal: Refusal,
+    finding: Finding,
+) -> Result<(), RunFault>
+    ensures text { OnOk result (text.new.items ≡ text.old.items
+        ++ found_part (shown namespace.now) refusal finding) }
+    ensures fault { IfErr result (λ fault. fault ≡ told.NoMemory) }
+{
+    if is_form(refusal.why, finding) {
+        push_outside(text, namespace.table_bytes(refusal.table), refusal.at)
+    } else {
+        push_finding(alloc, text, namespace, finding)
+    }
+}
+
+// Whether a form that has no meaning was refused, and nothing was found there.
+fn is_form(cause: Cause, finding: Finding) -> bool
+    ensures { result ≡ is_form cause finding }
+{
+    matches!((cause, finding), (Cause::OutsideProfile, Finding::Nothing))
 }
 
 // A cause and its place.

@@ -206,7 +206,8 @@ fn fault_words(fault: FieldFault) -> &'static str
         FieldFault::Update => {
             ": found the reserved update rule, wanted Preserve, WriteAsOnes or WriteAsZeros"
         }
-        FieldFault::NoRegion => ": found a field of no OperationRegion, wanted a field of one",
+        FieldFault::NoRegion =>
+            ": found a field of no OperationRegion that the tables define, wanted a field of one",
         FieldFault::Place => {
             ": found a region whose first place is computed, wanted an integer literal"
         }

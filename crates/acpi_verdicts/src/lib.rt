@@ -2,13 +2,14 @@
 //! a method is refused.
 //!
 //! Rooms: `listed` prints the verdicts and answers whether a method is refused, `words` has what
-//! causes mean, `findings` what was found there and what was wanted, `explained` what is told of a
-//! refused method and of those that it calls.
+//! causes mean, `findings` what was found there and what was wanted, `outside` what is wanted of
+//! what has no meaning, `explained` what is told of a refused method and of those that it calls.
 #![tactic(auto)]
 
 mod explained;
 mod findings;
 mod listed;
+mod outside;
 mod words;
 
 pub use explained::explain;

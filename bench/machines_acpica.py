@@ -1,0 +1,125 @@
+#!/usr/bin/env python3
+"""Compares evaluations of machines' own methods with ACPICA's: machines_acpica.py FOLDER [ACPICHECK].
+
+In the folder, or in folders in it, each file whose name begins with DSDT is a machine, with the SSDT whose name ends as
+its own does. Each method that is accepted is evaluated with as many ones as it takes arguments, by acpicheck and by
+`acpiexec` (of Debian's acpica-tools), over registers that all hold zero. Printed are the methods whose values differ and,
+last, how many do not. Packages are compared without the names in them, which `acpiexec` prints by their last segments.
+What is refused is counted, and what is not evaluated: `_OSI`, and methods whose arguments are no integers.
+"""
+import collections
+import concurrent.futures
+import os
+import re
+import subprocess
+import sys
+from pathlib import Path
+
+ACPICHECK = Path(__file__).resolve().parent.parent / "crates/acpicheck/out/acpicheck"
+OURS = re.compile(r'(0x[0-9a-f]+)|buffer ?([0-9a-f]*)|string "((?:[^"\\]|\\.)*)"|package \[|\]|, |[^,\]]+')
+NAME = "a name, or nothing"
+# acpiexec prints no value that takes more than 16 KiB.
+TOO_LARGE = "AE_BUFFER_OVERFLOW"
+
+
+def run(*words):
+    done = subprocess.run([*map(str, words)], capture_output=True, text=True, stdin=subprocess.DEVNULL, timeout=60, check=False)
+    return done.returncode, done.stdout.splitlines()
+
+
+def ours(text):
+    """The value of a line `result`: an integer, a text, a buffer's bytes, a list, or None."""
+    if text == "none":
+        return None
+    lists = [[]]
+    for it in OURS.finditer(text):
+        if it[0] == "package [":
+            lists.append([])
+        elif it[0] == "]":
+            lists[-2].append(lists.pop())
+        elif it[1]:
+            lists[-1].append(int(it[1], 16))
+        elif it[2] is not None:
+            lists[-1].append(bytes.fromhex(it[2]))
+        elif it[3] is not None:
+            lists[-1].append(it[3].encode().decode("unicode_escape"))
+        elif it[0] != ", ":
+            lists[-1].append(NAME)
+    return lists[0][0]
+
+
+class Theirs:
+    """The value that `acpiexec` prints, line by line."""
+
+    def __init__(self, lines):
+        self.lines = iter(lines)
+
+    def buffer(self, length, line):
+        found = b""
+        while True:
+            digits = re.match(r"\s*(?:[0-9A-F]{4}: )?((?:[0-9A-F]{2} )*)", line + " ")
+            found += bytes.fromhex(digits[1])
+            if len(found) >= length:
+                return found[:length]
+            line = next(self.lines)
+
+    def value(self):
+        line = next(self.lines)
+        if found := re.match(r"\s*\[Integer\] = ([0-9A-F]+)", line):
+            return int(found[1], 16)
+        if found := re.match(r'\s*\[String\] Length [0-9A-F]+ = "(.*)"', line):
+            return found[1].encode().decode("unicode_escape")
+        if found := re.match(r"\s*\[Buffer\] Length ([0-9A-F]+) =(.*)", line):
+            return self.buffer(int(found[1], 16), found[2])
+        if found := re.match(r"\s*\[Package\] Contains (\d+) Elements", line):
+            return [self.value() for _ in range(int(found[1]))]
+        return NAME
+
+
+def theirs(path, files, arguments):
+    _, lines = run("acpiexec", "-di", "-b", " ".join(["execute", path, *arguments]), *files)
+    for number, line in enumerate(lines):
+        if line.startswith("No object was returned"):
+            return None
+        if re.match(r"Evaluation of .* returned object", line):
+            return Theirs(lines[number + 1:]).value()
+    return next(iter(re.findall(r"AE_\w+", "\n".join(lines))), "nothing was printed")
+
+
+def compare(program, files, path, count):
+    """Whether both give the same, or how the method was refused."""
+    arguments = ["1"] * count
+    given = ["--args", ",".join(arguments)] if arguments else []
+    status, lines = run(program, "eval", "--dead-externals", "--method", path, *given, *files)
+    if status != 0:
+        return "refused" if " refused " in lines[-1] else "not evaluated"
+    here, there = ours(lines[-1].removeprefix("result ")), theirs(path, files, arguments)
+    if there == TOO_LARGE:
+        return "not shown"
+    return "equal" if here == there else f"{path} of {files[0]}: here {here}, there {there}"
+
+
+def methods(program, files):
+    status, lines = run(program, "names", "--dead-externals", *files)
+    found = [line.split() for line in lines if re.search(r" method \d$", line)]
+    return [(files, path, int(count)) for path, _, count in found] if status == 0 else []
+
+
+def main(folder, program=ACPICHECK):
+    asked = []
+    for dsdt in sorted(Path(folder).rglob("DSDT*")):
+        ssdt = dsdt.with_name(dsdt.name.replace("DSDT", "SSDT", 1))
+        asked += methods(program, [dsdt, *filter(Path.exists, [ssdt])])
+    counts = collections.Counter()
+    with concurrent.futures.ThreadPoolExecutor(len(os.sched_getaffinity(0))) as pool:
+        for answer in pool.map(lambda it: compare(program, *it), asked):
+            kind = answer if answer in ("equal", "refused", "not evaluated", "not shown") else "differ"
+            counts[kind] += 1
+            if kind == "differ":
+                print(answer)
+    print(", ".join(f"{count} {kind}" for kind, count in sorted(counts.items())))
+    return 1 if counts["differ"] else 0
+
+
+if __name__ == "__main__":
+    sys.exit(main(*sys.argv[1:]))
