@@ -13,7 +13,7 @@ import sys
 KINDS = {
     "Device": "device", "Method": "method", "Integer": "integer", "String": "string", "Buffer": "buffer", "Package": "package",
     "Region": "region", "RegionField": "field", "IndexField": "field", "BankField": "field", "BufferField": "bufferfield",
-    "Mutex": "mutex", "Event": "event", "MethodAlias": "alias", "Processor": "processor", "Power": "power", "Thermal": "thermal", "Scope": "scope",
+    "Mutex": "mutex", "Event": "event", "MethodAlias": "alias", "Alias": "alias", "Processor": "processor", "Power": "power", "Thermal": "thermal", "Scope": "scope",
 }
 LINE = re.compile(r"^ ?([0-9A-F]+) +([A-Z_][A-Z0-9_]{3}) (\w+)(.*)$")
 PREDEFINED = {"\\_GPE", "\\_PR_", "\\_SB_", "\\_SI_", "\\_TZ_", "\\_REV", "\\_OSI", "\\_OS_", "\\_GL_"}

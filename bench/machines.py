@@ -13,6 +13,8 @@ import sys
 from pathlib import Path
 
 ACPICHECK = Path(__file__).resolve().parent.parent / "crates/acpicheck/out/acpicheck"
+# Tables are read as iasl writes them, with Externals in Ifs that never run.
+OPENED = "--dead-externals"
 PLACE = re.compile(r": (V\d+ \w+): .*?, byte \d+ \((.*?)\)")
 
 
@@ -28,7 +30,7 @@ def beside(dsdt, name):
 
 
 def judge(program, files, counts):
-    _, lines, notes = run(program, "verify", "--explain", *files)
+    _, lines, notes = run(program, "verify", "--explain", OPENED, *files)
     for words in map(str.split, lines):
         counts["verdict"][words[1] if words[1] == "accepted" else " ".join(words[4:])] += 1
     for cause, found in PLACE.findall("\n".join(notes)):
@@ -47,13 +49,13 @@ def ask(program, dsdt, files, path, kind, counts):
         words = ["routing", "--object", path, *(["--madt", madt] if madt.exists() else [])]
     else:
         return
-    status, lines, _ = run(program, *words, *files)
+    status, lines, _ = run(program, *words, OPENED, *files)
     counts[last]["done" if status == 0 else lines[-1]] += 1
 
 
 def machine(program, dsdt, counts):
     files = [dsdt, *filter(None, [beside(dsdt, "SSDT")])]
-    status, names, notes = run(program, "names", *files)
+    status, names, notes = run(program, "names", OPENED, *files)
     if status != 0:
         counts["not loaded"][f"{names[-1]}: {notes[-1]}"] += 1
         return

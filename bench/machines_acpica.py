@@ -5,6 +5,8 @@ In the folder, or in folders in it, each file whose name begins with DSDT is a m
 its own does. Each method that is accepted is evaluated with as many ones as it takes arguments, by acpicheck and by
 `acpiexec` (of Debian's acpica-tools), over registers that all hold zero. Printed are the methods whose values differ and,
 last, how many do not. Packages are compared without the names in them, which `acpiexec` prints by their last segments.
+As it runs methods named `_REG` and `_STA` of its own accord first, it has copies of the tables in which they are named
+otherwise.
 What is refused is counted, and what is not evaluated: `_OSI`, and methods whose arguments are no integers.
 """
 import collections
@@ -13,6 +15,7 @@ import os
 import re
 import subprocess
 import sys
+import tempfile
 from pathlib import Path
 
 ACPICHECK = Path(__file__).resolve().parent.parent / "crates/acpicheck/out/acpicheck"
@@ -86,6 +89,21 @@ def theirs(path, files, arguments):
     return next(iter(re.findall(r"AE_\w+", "\n".join(lines))), "nothing was printed")
 
 
+def renamed(text):
+    return text.replace(b"_REG", b"_RE0").replace(b"_STA", b"_ST0")
+
+
+def with_names_changed(files, folder):
+    """Copies of the tables in which nothing is named `_REG` or `_STA`."""
+    copies = []
+    for file in files:
+        table = bytearray(renamed(file.read_bytes()))
+        table[9] = (table[9] - sum(table)) % 256
+        copies.append(Path(folder, f"{len(copies)}.aml"))
+        copies[-1].write_bytes(table)
+    return copies
+
+
 def compare(program, files, path, count):
     """Whether both give the same, or how the method was refused."""
     arguments = ["1"] * count
@@ -93,7 +111,9 @@ def compare(program, files, path, count):
     status, lines = run(program, "eval", "--dead-externals", "--method", path, *given, *files)
     if status != 0:
         return "refused" if " refused " in lines[-1] else "not evaluated"
-    here, there = ours(lines[-1].removeprefix("result ")), theirs(path, files, arguments)
+    with tempfile.TemporaryDirectory() as folder:
+        there = theirs(renamed(path.encode()).decode(), with_names_changed(files, folder), arguments)
+    here = ours(lines[-1].removeprefix("result "))
     if there == TOO_LARGE:
         return "not shown"
     return "equal" if here == there else f"{path} of {files[0]}: here {here}, there {there}"

@@ -13,11 +13,12 @@ use Rattle.aml_operators.proofs.Rows.{op_of_finds}
 use Rattle.aml_externals.specs.declared.step.Step.{Step}
 use Rattle.aml_externals.specs.declared.step.Step.TheVariants.{Dead, Enter, Over, Stop}
 use Rattle.aml_lex.specs.Standing.{has_byte}
-use Rattle.aml_externals.specs.Extents.{package_at, operator_at, list_at, letters_end, term_end}
+use Rattle.aml_externals.specs.Extents.{package_at, list_at, letters_end, term_end}
 use Rattle.aml_externals.specs.DeadIfs.{dead_end, dead_end_of}
 use Rattle.aml_externals.specs.Steps.{over, enter, package_step, letters_step, class_step, operator_step, step_behind, step_of}
 use Rattle.aml_externals.proofs.Changes.{byte_there}
 use Rattle.aml_externals.proofs.Seen.{Seen, keeps, package_keeps, operator_keeps, package_past, operator_past, letters_ahead, letters_move, list_ahead, list_moves, term_ahead, term_moves}
+use Rattle.aml_tree.specs.OperatorAt.{op_there}
 
 -- a step over a definition, or into one
 abbrev pub IsLive : Step → Type 0
@@ -28,7 +29,7 @@ IsLive Stop = ⊥
 
 -- a definition's operator, and the step by its letters
 abbrev pub IsDefined : ℕ → List ℕ → Step → Type 0
-IsDefined d bytes s = (r : Op × ℕ) × (operator_at bytes 0 ≡ Some r) × (class_of r.0 ≡ class.Definition) × (letters_step d (letters_of r.0) bytes r.1 ≡ s)
+IsDefined d bytes s = (r : Op × ℕ) × (op_there bytes 0 ≡ Some r) × (class_of r.0 ≡ class.Definition) × (letters_step d (letters_of r.0) bytes r.1 ≡ s)
 
 no_step : (s : Step) → IsLive s → Stop ≡ s → ⊥
 no_step (Dead size) live e = live
@@ -48,12 +49,12 @@ class_is class.Debug d ls bytes at s live e = absurd (no_step s live e)
 class_is class.Statement d ls bytes at s live e = absurd (no_step s live e)
 class_is class.Part d ls bytes at s live e = absurd (no_step s live e)
 
-defined_by : (d : ℕ) (bytes : List ℕ) (o : Option (Op × ℕ)) (s : Step) → IsLive s → operator_at bytes 0 ≡ o → operator_step d bytes o ≡ s → IsDefined d bytes s
+defined_by : (d : ℕ) (bytes : List ℕ) (o : Option (Op × ℕ)) (s : Step) → IsLive s → op_there bytes 0 ≡ o → operator_step d bytes o ≡ s → IsDefined d bytes s
 defined_by d bytes None s live is e = absurd (no_step s live e)
 defined_by d bytes (Some r) s live is e = let c = class_is (class_of r.0) d (letters_of r.0) bytes r.1 s live e in (r, is, c.0, c.1)
 
 live_by : (d : ℕ) (bytes : List ℕ) (o : Option ℕ) (s : Step) → IsLive s → step_behind d bytes o ≡ s → IsDefined d bytes s
-live_by d bytes None s live e = defined_by d bytes (operator_at bytes 0) s live refl e
+live_by d bytes None s live e = defined_by d bytes (op_there bytes 0) s live refl e
 live_by d bytes (Some size) (Dead n) live e = absurd live
 live_by d bytes (Some size) (Enter from n) live e = absurd cc
 live_by d bytes (Some size) (Over n) live e = absurd cc
@@ -64,26 +65,25 @@ unfolding step_of
 live_step d bytes s live e = live_by d bytes (dead_end bytes) s live e
 
 -- where a definition stands, no dead If does
-if_found : (bytes : List ℕ) (r : Op × ℕ) → slice_get bytes 0 ≡ Some 0xA0 → operator_at bytes 0 ≡ Some r → r.0 ≡ op.If
-unfolding operator_at
+if_found : (bytes : List ℕ) (r : Op × ℕ) → slice_get bytes 0 ≡ Some 0xA0 → op_there bytes 0 ≡ Some r → r.0 ≡ op.If
 if_found bytes r here e =
     let found : op_of 0xA0 ≡ Some op.If = op_of_finds op.If (omega arith) in
     let is : ◌≡◌ {A = Option (Op × ℕ)} (Some (op.If, 0 + 1)) (Some r) = rw (here, found) at e in
     cc
 
-free_by : (bytes : List ℕ) (r : Op × ℕ) → operator_at bytes 0 ≡ Some r → class_of r.0 ≡ class.Definition → (t : Bool) → has_byte 0xA0 bytes 0 ≡ t → (if t then dead_end_of bytes (package_at bytes 1) else None) ≡ None
+free_by : (bytes : List ℕ) (r : Op × ℕ) → op_there bytes 0 ≡ Some r → class_of r.0 ≡ class.Definition → (t : Bool) → has_byte 0xA0 bytes 0 ≡ t → (if t then dead_end_of bytes (package_at bytes 1) else None) ≡ None
 free_by bytes r e c false is = refl
 free_by bytes r e c true is =
     let same = if_found bytes r (byte_there 0xA0 (slice_get bytes 0) is) e in
     let no : class.Statement ≡ class.Definition = rw same at c in
     absurd cc
 
-pub dead_free : (bytes : List ℕ) (r : Op × ℕ) → operator_at bytes 0 ≡ Some r → class_of r.0 ≡ class.Definition → dead_end bytes ≡ None
+pub dead_free : (bytes : List ℕ) (r : Op × ℕ) → op_there bytes 0 ≡ Some r → class_of r.0 ≡ class.Definition → dead_end bytes ≡ None
 unfolding dead_end
 dead_free bytes r e c = free_by bytes r e c (has_byte 0xA0 bytes 0) refl
 
 -- a definition's step is that of its letters
-pub step_is : (d : ℕ) (bytes : List ℕ) (s : Step) (r : Op × ℕ) → operator_at bytes 0 ≡ Some r → class_of r.0 ≡ class.Definition → letters_step d (letters_of r.0) bytes r.1 ≡ s → step_of d bytes ≡ s
+pub step_is : (d : ℕ) (bytes : List ℕ) (s : Step) (r : Op × ℕ) → op_there bytes 0 ≡ Some r → class_of r.0 ≡ class.Definition → letters_step d (letters_of r.0) bytes r.1 ≡ s → step_of d bytes ≡ s
 unfolding step_of
 step_is d bytes s r e c is = let free = dead_free bytes r e c in rw (free, e, c) is
 

@@ -15,10 +15,11 @@ use Rattle.aml_externals.specs.declared.step.Step.{Step}
 use Rattle.aml_externals.specs.declared.step.Step.TheVariants.{Dead, Enter, Over, Stop}
 use Rattle.aml_externals.specs.DeadIfs.{dead_end, dead_end_of, holds_externals, are_externals}
 use Rattle.aml_lex.specs.Standing.{has_byte, is_byte}
-use Rattle.aml_externals.specs.Extents.{package_at, operator_at, list_at, letters_end, term_end}
+use Rattle.aml_externals.specs.Extents.{package_at, list_at, letters_end, term_end}
 use Rattle.aml_externals.specs.Steps.{over, enter, package_step, letters_step, class_step, operator_step, step_of, step_behind}
 use Rattle.aml_externals.specs.Opened.{Opened, kept, joined, as_scope, entered, opened_by, opened_until, opened, dead_inside, dead_by, dead_until, dead_in}
 use Rattle.aml_externals.proofs.DeadTurns.{not_below}
+use Rattle.aml_tree.specs.OperatorAt.{op_there}
 
 -- bytes opened: as many; each one as it was, or a Scope's opcode where an If's was; and the sum is lower by 90 for each of these
 pub record Changes (old : List ℕ) (r : Opened) (dead : ℕ → Bool) : Type 0 where
@@ -141,7 +142,7 @@ operator_lives d bytes None size e = absurd cc
 operator_lives d bytes (Some p) size e = class_lives (class_of p.0) d (letters_of p.0) bytes p.1 size e
 
 dead_step_by : (d : ℕ) (bytes : List ℕ) (o : Option ℕ) (size : ℕ) → step_behind d bytes o ≡ Dead size → o ≡ Some size
-dead_step_by d bytes None size e = absurd (operator_lives d bytes (operator_at bytes 0) size e)
+dead_step_by d bytes None size e = absurd (operator_lives d bytes (op_there bytes 0) size e)
 dead_step_by d bytes (Some n) size e = cc
 
 pub dead_step : (d : ℕ) (bytes : List ℕ) (size : ℕ) → step_of d bytes ≡ Dead size → dead_end bytes ≡ Some size

@@ -29,9 +29,10 @@ use Rattle.aml_tree.specs.Begins.{Begins, HasOpcode, HasNameLead}
 use Rattle.aml_tree.specs.Grammar.{AreTerms, IsPiece, Meets, Follows, IsTerm}
 use Rattle.aml_tree.specs.Body.{no_arguments}
 use Rattle.aml_tree.proofs.Beginnings.{not_same}
-use Rattle.aml_externals.specs.Extents.{name_end, text_end, package_at, bytes_end, operator_at, piece_end, letters_end, list_at, form_end, term_end}
+use Rattle.aml_externals.specs.Extents.{name_end, text_end, package_at, bytes_end, piece_end, letters_end, list_at, form_end, term_end}
 use Rattle.aml_externals.specs.Reached.{AreBefore}
 use Rattle.aml_externals.proofs.Seen.{bytes_there, package_is, package_past}
+use Rattle.aml_tree.specs.OperatorAt.{op_there}
 
 -- what the lexical layer reads as a part ends where the part does
 refused_is : {X : Type 0} (o : Result X LexFault) (x : X) → refused o ≡ Ok x → o ≡ Ok x
@@ -78,15 +79,13 @@ lead_short : (b : ℕ) (t : Bool) → (b == 0x5B) ≡ t → is_name_lead b ≡ t
 lead_short b false e lead = refl
 lead_short b true e lead = let same : b ≡ 0x5B = eqb-true b 0x5B e in let no : is_name_lead 0x5B ≡ true = rw same at lead in absurd cc
 
-pub name_is_none : (bytes : List ℕ) (at : ℕ) → HasNameLead bytes at → operator_at bytes at ≡ None
-unfolding operator_at
+pub name_is_none : (bytes : List ℕ) (at : ℕ) → HasNameLead bytes at → op_there bytes at ≡ None
 name_is_none bytes at h =
     let short : (h.0 == 0x5B) ≡ false = lead_short h.0 (h.0 == 0x5B) refl h.2 in
     let found : op_of h.0 ≡ None = lead_found h.0 (op_of h.0) refl h.2 in
     rw (h.1, short, found) refl
 
-pub operator_full : (bytes : List ℕ) (at : ℕ) (o : Op) (next : ℕ) → (row o).code < 0x10000 → HasOpcode (row o).code bytes at next → operator_at bytes at ≡ Some (o, next)
-unfolding operator_at
+pub operator_full : (bytes : List ℕ) (at : ℕ) (o : Op) (next : ℕ) → (row o).code < 0x10000 → HasOpcode (row o).code bytes at next → op_there bytes at ≡ Some (o, next)
 operator_full bytes at o next lt (inl k) =
     let short = not_same (row o).code 0x5B k.2 in
     let found = op_of_finds o lt in
@@ -195,7 +194,7 @@ module _ (d : ℕ) (Below : ℕ → Spot → List ℕ → ℕ → Tree → Type 
   letters_full (Fields ∷ rest) own bytes at stop parts is h = absurd cc
   letters_full (Bytes ∷ rest) own bytes at stop parts is h = absurd cc
 
-  form_full : (s : Spot) (o : Opening) (bytes : List ℕ) (at : ℕ) (t : Tree) → Begins code.Module s bytes at o → Follows no_arguments Below o bytes at t → form_end (term_end d) bytes at (operator_at bytes at) ≡ Some (stop_of t)
+  form_full : (s : Spot) (o : Opening) (bytes : List ℕ) (at : ℕ) (t : Tree) → Begins code.Module s bytes at o → Follows no_arguments Below o bytes at t → form_end (term_end d) bytes at (op_there bytes at) ≡ Some (stop_of t)
   form_full s NoTarget bytes at t b h =
       let is = operator_full bytes at op.Zero (at + 1) (omega arith) (inl (b.1, refl, (λ e. absurd (omega (arith, e))), refl)) in
       rw is (zero_end d bytes at ∙ ap (λ (u : Tree). Some (stop_of u)) (sym h))

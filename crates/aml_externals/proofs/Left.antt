@@ -21,7 +21,7 @@ use Rattle.aml_tree.specs.Body.{no_arguments}
 use Rattle.aml_tree.proofs.Bounds.{term_in}
 use Rattle.aml_externals.specs.declared.step.Step.{Step}
 use Rattle.aml_externals.specs.declared.step.Step.TheVariants.{Dead, Enter, Over, Stop}
-use Rattle.aml_externals.specs.Extents.{package_at, operator_at, list_at, letters_end, term_end}
+use Rattle.aml_externals.specs.Extents.{package_at, list_at, letters_end, term_end}
 use Rattle.aml_externals.specs.DeadIfs.{dead_end}
 use Rattle.aml_externals.specs.Steps.{over, enter, letters_step, step_of}
 use Rattle.aml_externals.specs.Opened.{Opened, opened_by, opened_until, opened}
@@ -33,6 +33,7 @@ use Rattle.aml_externals.proofs.Seen.{Seen, package_past, package_moves, operato
 use Rattle.aml_externals.proofs.Again.{step_is}
 use Rattle.aml_externals.proofs.Complete.{are_walked, walked, operator_full, package_full, package_stop, letters_full, before_full, term_full}
 use Rattle.aml_externals.proofs.Twice.{rest_stays}
+use Rattle.aml_tree.specs.OperatorAt.{op_there}
 
 only_definition : (c : Class) → ruling code.Module spot.Statement c ≡ ruled.Fine → c ≡ class.Definition
 only_definition class.Definition e = refl
@@ -50,11 +51,11 @@ only_definition class.Part e = absurd cc
 from_there : (bytes : List ℕ) (at : ℕ) → at ≤ length bytes → Seen (length bytes - at) at bytes 0 (drop at bytes)
 from_there bytes at le = record { same = refl; in_xs = omega arith; in_ys = omega (arith, length-drop at bytes) }
 
-operator_there : (bytes : List ℕ) (at : ℕ) (o : Op) (next : ℕ) → operator_at bytes at ≡ Some (o, next) → (m : ℕ) × (next ≡ at + m) × (operator_at (drop at bytes) 0 ≡ Some (o, m)) × (0 < m) × (at + m ≤ length bytes)
+operator_there : (bytes : List ℕ) (at : ℕ) (o : Op) (next : ℕ) → op_there bytes at ≡ Some (o, next) → (m : ℕ) × (next ≡ at + m) × (op_there (drop at bytes) 0 ≡ Some (o, m)) × (0 < m) × (at + m ≤ length bytes)
 operator_there bytes at o next e =
     let w = operator_past bytes at (o, next) e in
     let z : at + 0 ≡ at = omega arith in
-    let there : operator_at bytes (at + 0) ≡ Some (o, next) = ap (λ (i : ℕ). operator_at bytes i) z ∙ e in
+    let there : op_there bytes (at + 0) ≡ Some (o, next) = ap (λ (i : ℕ). op_there bytes i) z ∙ e in
     let m = operator_moves (length bytes - at) at bytes 0 (drop at bytes) (from_there bytes at (omega (arith, w))) 0 (o, next) there (omega (arith, w)) in
     let is : 0 + m.0 ≡ m.0 = omega arith in
     (m.0, m.1, m.2 ∙ ap (λ (i : ℕ). Some (o, i)) is, omega (arith, w, m.1), omega (arith, w, m.1))

@@ -20,10 +20,11 @@ use Rattle.aml_operators.specs.declared.row.Letter.TheVariants.{One, Sized, Pack
 use Rattle.aml_operators.specs.Table.{op_of, letters_of}
 use Rattle.aml_operators.specs.Places.{size_of}
 use Rattle.aml_lex.specs.Standing.{has_byte}
-use Rattle.aml_externals.specs.Extents.{and_then, read_or_none, behind, name_end, text_end, package_at, bytes_end, and_next, long_operator, operator_of, operator_at, piece_end, letters_end, list_at, form_end, term_end}
+use Rattle.aml_externals.specs.Extents.{and_then, read_or_none, behind, name_end, text_end, package_at, bytes_end, piece_end, letters_end, list_at, form_end, term_end}
 use Rattle.aml_externals.proofs.DeadTurns.{not_below}
 use Rattle.aml_externals.proofs.Scopes.{get_first, get_rest, package_from}
 use Rattle.aml_externals.proofs.Changes.{byte_there}
+use Rattle.aml_tree.specs.OperatorAt.{ended_at, op_from, op_there, op_wide}
 
 -- so many bytes of both lists are the same, from a place of each on
 pub record Seen (n p : ℕ) (xs : List ℕ) (q : ℕ) (ys : List ℕ) : Type 0 where
@@ -173,7 +174,7 @@ package_moves n p xs q ys s k r low e le fits =
     (k + value, j, here, st.1, package_is ys (q + k) (q + (k + value), q + j) (rw is at whole))
 
 -- operators
-and_next_is : (found : Option Op) (next : ℕ) (r : Op × ℕ) → and_next found next ≡ Some r → (found ≡ Some r.0) × (r.1 ≡ next)
+and_next_is : (found : Option Op) (next : ℕ) (r : Op × ℕ) → ended_at next found ≡ Some r → (found ≡ Some r.0) × (r.1 ≡ next)
 and_next_is None next r e = absurd cc
 and_next_is (Some o) next r e = let same : (o, next) ≡ r = cc in (rw (← same) refl, rw (← same) refl)
 
@@ -183,24 +184,22 @@ IsCoded bytes at o next = (b : ℕ) × (slice_get bytes at ≡ Some b)
     × ((((b == 0x5B) ≡ false) × (op_of b ≡ Some o) × (next ≡ at + 1))
     ⊎ ((c : ℕ) × ((b == 0x5B) ≡ true) × (slice_get bytes (at + 1) ≡ Some c) × (op_of (0x5B00 + c) ≡ Some o) × (next ≡ at + 2)))
 
-coded_long : (bytes : List ℕ) (at b : ℕ) (r : Op × ℕ) → slice_get bytes at ≡ Some b → (b == 0x5B) ≡ true → (second : Option ℕ) → slice_get bytes (at + 1) ≡ second → long_operator second (at + 2) ≡ Some r → IsCoded bytes at r.0 r.1
+coded_long : (bytes : List ℕ) (at b : ℕ) (r : Op × ℕ) → slice_get bytes at ≡ Some b → (b == 0x5B) ≡ true → (second : Option ℕ) → slice_get bytes (at + 1) ≡ second → op_wide at second ≡ Some r → IsCoded bytes at r.0 r.1
 coded_long bytes at b r here long None is e = absurd cc
 coded_long bytes at b r here long (Some c) is e = let f = and_next_is (op_of (0x5B00 + c)) (at + 2) r e in (b, here, inr (c, long, is, f.0, f.1))
 
-coded_test : (bytes : List ℕ) (at b : ℕ) (r : Op × ℕ) → slice_get bytes at ≡ Some b → (t : Bool) → (b == 0x5B) ≡ t → (if t then long_operator (slice_get bytes (at + 1)) (at + 2) else and_next (op_of b) (at + 1)) ≡ Some r → IsCoded bytes at r.0 r.1
+coded_test : (bytes : List ℕ) (at b : ℕ) (r : Op × ℕ) → slice_get bytes at ≡ Some b → (t : Bool) → (b == 0x5B) ≡ t → (if t then op_wide at (slice_get bytes (at + 1)) else ended_at (at + 1) (op_of b)) ≡ Some r → IsCoded bytes at r.0 r.1
 coded_test bytes at b r here true long e = coded_long bytes at b r here long (slice_get bytes (at + 1)) refl e
 coded_test bytes at b r here false short e = let f = and_next_is (op_of b) (at + 1) r e in (b, here, inl (short, f.0, f.1))
 
-coded_by : (bytes : List ℕ) (at : ℕ) (first : Option ℕ) (r : Op × ℕ) → slice_get bytes at ≡ first → operator_of bytes at first ≡ Some r → IsCoded bytes at r.0 r.1
+coded_by : (bytes : List ℕ) (at : ℕ) (first : Option ℕ) (r : Op × ℕ) → slice_get bytes at ≡ first → op_from bytes at first ≡ Some r → IsCoded bytes at r.0 r.1
 coded_by bytes at None r is e = absurd cc
 coded_by bytes at (Some b) r is e = coded_test bytes at b r is (b == 0x5B) refl e
 
-pub operator_coded : (bytes : List ℕ) (at : ℕ) (r : Op × ℕ) → operator_at bytes at ≡ Some r → IsCoded bytes at r.0 r.1
-unfolding operator_at
+pub operator_coded : (bytes : List ℕ) (at : ℕ) (r : Op × ℕ) → op_there bytes at ≡ Some r → IsCoded bytes at r.0 r.1
 operator_coded bytes at r e = coded_by bytes at (slice_get bytes at) r refl e
 
-coded_is : (bytes : List ℕ) (at : ℕ) (o : Op) (next : ℕ) → IsCoded bytes at o next → operator_at bytes at ≡ Some (o, next)
-unfolding operator_at
+coded_is : (bytes : List ℕ) (at : ℕ) (o : Op) (next : ℕ) → IsCoded bytes at o next → op_there bytes at ≡ Some (o, next)
 coded_is bytes at o next (b, here, inl h) = rw (here, h.0, h.1, h.2) refl
 coded_is bytes at o next (b, here, inr h) = rw (here, h.1, h.2, h.3, h.4) refl
 
@@ -208,7 +207,7 @@ coded_past : (bytes : List ℕ) (at : ℕ) (o : Op) (next : ℕ) → IsCoded byt
 coded_past bytes at o next (b, here, inl h) = let w = slice_get_within bytes at b here in (omega (arith, h.2), omega (arith, h.2, w))
 coded_past bytes at o next (b, here, inr h) = let w = slice_get_within bytes (at + 1) h.0 h.2 in (omega (arith, h.4), omega (arith, h.4, w))
 
-pub operator_past : (bytes : List ℕ) (at : ℕ) (r : Op × ℕ) → operator_at bytes at ≡ Some r → (at < r.1) × (r.1 ≤ length bytes)
+pub operator_past : (bytes : List ℕ) (at : ℕ) (r : Op × ℕ) → op_there bytes at ≡ Some r → (at < r.1) × (r.1 ≤ length bytes)
 operator_past bytes at r e = coded_past bytes at r.0 r.1 (operator_coded bytes at r e)
 
 coded_moves : (n p : ℕ) (xs : List ℕ) (q : ℕ) (ys : List ℕ) → Seen n p xs q ys → (k : ℕ) (o : Op) (next : ℕ) → IsCoded xs (p + k) o next → next ≤ p + n
@@ -223,8 +222,8 @@ coded_moves n p xs q ys s k o next (b, here, inr h) le =
     let c : q + (k + 1) ≡ q + k + 1 = omega arith in
     (k + 2, omega (arith, h.4), (b, g ∙ here, inr (h.0, h.1, rw (a, c) at g2 ∙ h.2, h.3, omega arith)))
 
-pub operator_moves : (n p : ℕ) (xs : List ℕ) (q : ℕ) (ys : List ℕ) → Seen n p xs q ys → (k : ℕ) (r : Op × ℕ) → operator_at xs (p + k) ≡ Some r → r.1 ≤ p + n
-    → (m : ℕ) × (r.1 ≡ p + m) × (operator_at ys (q + k) ≡ Some (r.0, q + m))
+pub operator_moves : (n p : ℕ) (xs : List ℕ) (q : ℕ) (ys : List ℕ) → Seen n p xs q ys → (k : ℕ) (r : Op × ℕ) → op_there xs (p + k) ≡ Some r → r.1 ≤ p + n
+    → (m : ℕ) × (r.1 ≡ p + m) × (op_there ys (q + k) ≡ Some (r.0, q + m))
 operator_moves n p xs q ys s k r e le =
     let c = coded_moves n p xs q ys s k r.0 r.1 (operator_coded xs (p + k) r e) le in
     (c.0, c.1, coded_is ys (q + k) r.0 (q + c.0) c.2)
@@ -240,23 +239,22 @@ no_name bytes at b here e =
     let g = get_rest bytes at 0x5B (here ∙ ap Some same) in
     no_name_by bytes at g.0 g.1
 
-none_next : (found : Option Op) (a b : ℕ) → and_next found a ≡ None → and_next found b ≡ None
+none_next : (found : Option Op) (a b : ℕ) → ended_at a found ≡ None → ended_at b found ≡ None
 none_next None a b e = refl
 none_next (Some o) a b e = absurd cc
 
 -- a name is no operator, wherever it stands
 bare_test : (bytes other : List ℕ) (at to next b : ℕ) → slice_get bytes at ≡ Some b → slice_get other to ≡ Some b → name_end bytes at ≡ Some next → (t : Bool) → (b == 0x5B) ≡ t
-    → operator_at bytes at ≡ None → operator_at other to ≡ None
-unfolding operator_at
+    → op_there bytes at ≡ None → op_there other to ≡ None
 bare_test bytes other at to next b here there e true is none = let no = no_name bytes at b here is in absurd cc
 bare_test bytes other at to next b here there e false is none =
-    let f : and_next (op_of b) (at + 1) ≡ None = rw (here, is) at none in
+    let f : ended_at (at + 1) (op_of b) ≡ None = rw (here, is) at none in
     rw (there, is) (none_next (op_of b) (at + 1) (to + 1) f)
 
 byte_there_is : (bytes : List ℕ) (at : ℕ) → at < length bytes → (b : ℕ) × (slice_get bytes at ≡ Some b)
 byte_there_is bytes at lt = elim (slice_get_cases bytes at).1 [ inl h ↦ (h.0, h.2) | inr h ↦ absurd (omega (arith, h.0)) ]
 
-bare_moves : (n p : ℕ) (xs : List ℕ) (q : ℕ) (ys : List ℕ) → Seen n p xs q ys → (k next : ℕ) → name_end xs (p + k) ≡ Some next → next ≤ p + n → operator_at xs (p + k) ≡ None → operator_at ys (q + k) ≡ None
+bare_moves : (n p : ℕ) (xs : List ℕ) (q : ℕ) (ys : List ℕ) → Seen n p xs q ys → (k next : ℕ) → name_end xs (p + k) ≡ Some next → next ≤ p + n → op_there xs (p + k) ≡ None → op_there ys (q + k) ≡ None
 bare_moves n p xs q ys s k next e le none =
     let w = name_past xs (p + k) next e in
     let b = byte_there_is xs (p + k) (omega (arith, w)) in
@@ -344,7 +342,7 @@ module _ (below : List ℕ → ℕ → Option ℕ) (goes : Ahead below) where
   list_ahead (Fields ∷ rest) = none_ahead
   list_ahead (Bytes ∷ rest) = none_ahead
 
-  form_ahead : (bytes : List ℕ) (at next : ℕ) → at ≤ length bytes → (o : Option (Op × ℕ)) → operator_at bytes at ≡ o → form_end below bytes at o ≡ Some next → (at ≤ next) × (next ≤ length bytes)
+  form_ahead : (bytes : List ℕ) (at next : ℕ) → at ≤ length bytes → (o : Option (Op × ℕ)) → op_there bytes at ≡ o → form_end below bytes at o ≡ Some next → (at ≤ next) × (next ≤ length bytes)
   form_ahead bytes at next le None is e = name_ahead bytes at next le e
   form_ahead bytes at next le (Some r) is e =
       let w = operator_past bytes at r is in
@@ -383,8 +381,8 @@ module _ (below : List ℕ → ℕ → Option ℕ) (goes : Ahead below) (moves :
   list_moves (Fields ∷ rest) = none_moves
   list_moves (Bytes ∷ rest) = none_moves
 
-  form_moves : (n p : ℕ) (xs : List ℕ) (q : ℕ) (ys : List ℕ) → Seen n p xs q ys → (k next : ℕ) → k ≤ n → next ≤ p + n → (o : Option (Op × ℕ)) → operator_at xs (p + k) ≡ o → form_end below xs (p + k) o ≡ Some next
-      → (m : ℕ) × (next ≡ p + m) × (form_end below ys (q + k) (operator_at ys (q + k)) ≡ Some (q + m))
+  form_moves : (n p : ℕ) (xs : List ℕ) (q : ℕ) (ys : List ℕ) → Seen n p xs q ys → (k next : ℕ) → k ≤ n → next ≤ p + n → (o : Option (Op × ℕ)) → op_there xs (p + k) ≡ o → form_end below xs (p + k) o ≡ Some next
+      → (m : ℕ) × (next ≡ p + m) × (form_end below ys (q + k) (op_there ys (q + k)) ≡ Some (q + m))
   form_moves n p xs q ys s k next low le None is e =
       let m = name_moves n p xs q ys s k next low e le in
       let none = bare_moves n p xs q ys s k next e le is in
@@ -408,7 +406,7 @@ term_ahead zero bytes at next le e =
     let h = no_target_by bytes at next (has_byte 0x00 bytes at) refl e in
     let w = slice_get_within bytes at 0 h.1 in
     (omega (arith, h.0), omega (arith, h.0, w))
-term_ahead (suc d) bytes at next le e = form_ahead (term_end d) (term_ahead d) bytes at next le (operator_at bytes at) refl e
+term_ahead (suc d) bytes at next le e = form_ahead (term_end d) (term_ahead d) bytes at next le (op_there bytes at) refl e
 
 pub term_moves : (d : ℕ) → Moves (term_end d)
 unfolding term_end
@@ -418,7 +416,7 @@ term_moves zero n p xs q ys s k next low e le =
     let there : slice_get ys (q + k) ≡ Some 0 = g ∙ h.1 in
     let is : q + k + 1 ≡ q + (k + 1) = omega arith in
     (k + 1, omega (arith, h.0), rw (there, is) refl)
-term_moves (suc d) n p xs q ys s k next low e le = form_moves (term_end d) (term_ahead d) (term_moves d) n p xs q ys s k next low le (operator_at xs (p + k)) refl e
+term_moves (suc d) n p xs q ys s k next low e le = form_moves (term_end d) (term_ahead d) (term_moves d) n p xs q ys s k next low le (op_there xs (p + k)) refl e
 
 -- the same from the first byte on
 pub keeps : (f : List ℕ → ℕ → Option ℕ) → Moves f → (n : ℕ) (xs ys : List ℕ) → Seen n 0 xs 0 ys → (k next : ℕ) → k ≤ n → f xs k ≡ Some next → next ≤ n → f ys k ≡ Some next
@@ -438,7 +436,7 @@ package_keeps n xs ys s k r low e le fits =
     let b : 0 + m.1 ≡ r.1 = omega (arith, m.3) in
     ap (λ (i : ℕ). package_at ys i) (sym z) ∙ m.4 ∙ rw (a, b) refl
 
-pub operator_keeps : (n : ℕ) (xs ys : List ℕ) → Seen n 0 xs 0 ys → (r : Op × ℕ) → operator_at xs 0 ≡ Some r → r.1 ≤ n → operator_at ys 0 ≡ Some r
+pub operator_keeps : (n : ℕ) (xs ys : List ℕ) → Seen n 0 xs 0 ys → (r : Op × ℕ) → op_there xs 0 ≡ Some r → r.1 ≤ n → op_there ys 0 ≡ Some r
 operator_keeps n xs ys s r e le =
     let m = operator_moves n 0 xs 0 ys s 0 r e (omega arith) in
     let a : 0 + m.0 ≡ r.1 = omega (arith, m.1) in

@@ -7,7 +7,6 @@ use Rattle.std.proofs.Math.ListN.{drop_of_length-le, set}
 use Rattle.std.proofs.lemmas.Slice.{take-put_mid, drop-put_mid}
 use borrow.Rule.Slice.PartMut.{put_mid, mid_of}
 use Rattle.aml_externals.specs.declared.step.Step.TheVariants.{Dead, Enter, Over, Stop}
-use Rattle.aml_externals.specs.Extents.{operator_at}
 use Rattle.aml_externals.specs.DeadIfs.{dead_end}
 use Rattle.aml_externals.specs.Steps.{step_of}
 use Rattle.aml_externals.specs.Table.{with_checksum}
@@ -35,7 +34,7 @@ inside_is list at from size le =
 
 -- nothing stands in no bytes
 pub step_of_none : (d : ℕ) → step_of d [] ≡ Stop
-unfolding step_of dead_end operator_at
+unfolding step_of dead_end
 step_of_none d = refl
 
 -- a list's depth is one above that of its definitions' lists

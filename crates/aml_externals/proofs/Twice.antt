@@ -16,7 +16,7 @@ use Rattle.aml_lex.specs.Reading.{name_string_at}
 use Rattle.aml_externals.specs.declared.step.Step.{Step}
 use Rattle.aml_externals.specs.declared.step.Step.TheVariants.{Dead, Enter, Over, Stop}
 use Rattle.aml_lex.specs.Standing.{has_byte}
-use Rattle.aml_externals.specs.Extents.{package_at, name_end, bytes_end, operator_at, list_at, piece_end, letters_end, term_end}
+use Rattle.aml_externals.specs.Extents.{package_at, name_end, bytes_end, list_at, piece_end, letters_end, term_end}
 use Rattle.aml_externals.specs.DeadIfs.{external_end, externals_until, holds_behind, dead_end, dead_end_of}
 use Rattle.aml_externals.specs.Steps.{over, step_of}
 use Rattle.aml_externals.specs.Opened.{Opened, kept, joined, entered, opened_by, opened_until, opened, dead_inside, dead_in}
@@ -29,6 +29,7 @@ use Rattle.aml_externals.proofs.TableLaws.{stays_when, length_stays}
 use Rattle.aml_externals.proofs.Scopes.{IsParts, external_parts, IsDead, dead_is, get_first, get_rest}
 use Rattle.aml_externals.proofs.Seen.{Seen, package_moves, package_is, package_past}
 use Rattle.aml_externals.proofs.Again.{step_is, over_stays, enter_stays}
+use Rattle.aml_tree.specs.OperatorAt.{op_there}
 
 -- an External is stepped over
 external_letters : (d : ℕ) (w : List ℕ) (next : ℕ) → IsParts w 0 next → letters_end (term_end d) (One piece.NameString ∷ One (piece.Number Byte) ∷ One (piece.Number Byte) ∷ []) w 1 ≡ Some next
@@ -40,8 +41,7 @@ external_letters d w next parts =
     let e : 1 + parts.len + 1 + 1 ≡ next = omega (arith, parts.is_next) in
     rw (named, a, b, e) refl
 
-external_operator : (w : List ℕ) → slice_get w 0 ≡ Some 0x15 → operator_at w 0 ≡ Some (op.External, 1)
-unfolding operator_at
+external_operator : (w : List ℕ) → slice_get w 0 ≡ Some 0x15 → op_there w 0 ≡ Some (op.External, 1)
 external_operator w here =
     let found : op_of 0x15 ≡ Some op.External = op_of_finds op.External (omega arith) in
     rw (here, found) refl
@@ -122,8 +122,7 @@ module _ (below : List ℕ → Opened) (d : ℕ) where
       rw (is, t, u, inside, more, take-append-drop from a) refl
 
 -- a Scope that was a dead If
-scope_operator : (w : List ℕ) → operator_at (0x10 ∷ w) 0 ≡ Some (op.Scope, 1)
-unfolding operator_at
+scope_operator : (w : List ℕ) → op_there (0x10 ∷ w) 0 ≡ Some (op.Scope, 1)
 scope_operator w = let found : op_of 0x10 ≡ Some op.Scope = op_of_finds op.Scope (omega arith) in rw found refl
 
 scope_name : (bytes : List ℕ) (at : ℕ) (w : List ℕ) → drop at bytes ≡ 0 ∷ w → name_end bytes at ≡ Some (at + 1)

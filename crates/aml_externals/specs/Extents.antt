@@ -1,6 +1,6 @@
 -- How far a definition goes, by the letters of its row (ACPI 6.5, 20.2.5): its parts are read no
 -- further than their ends, and a package is stepped over.
-use Rattle.std.specs.Prelude.{◌==◌, slice_get, ℕ, zero, suc, ◌+◌, List, [], ◌∷◌, length, Option, Some, None, Result, Ok, Err, nat_lt, if◌then◌else◌}
+use Rattle.std.specs.Prelude.{ℕ, zero, suc, ◌+◌, List, [], ◌∷◌, length, Option, Some, None, Result, Ok, Err, nat_lt, if◌then◌else◌}
 use Rattle.aml_lex.specs.declared.fault.LexFault.{LexFault}
 use Rattle.aml_lex.specs.Reading.{package_end_at, name_string_at, string_data_at}
 use Rattle.aml_lex.specs.Standing.{has_byte}
@@ -9,8 +9,9 @@ use Rattle.aml_operators.specs.declared.row.Piece.{Piece}
 use Rattle.aml_operators.specs.declared.row.Piece.TheVariants as piece
 use Rattle.aml_operators.specs.declared.row.Letter.{Letter}
 use Rattle.aml_operators.specs.declared.row.Letter.TheVariants.{One, Sized, Package, Branch, Terms, Fields, Bytes}
-use Rattle.aml_operators.specs.Table.{op_of, letters_of}
+use Rattle.aml_operators.specs.Table.{letters_of}
 use Rattle.aml_operators.specs.Places.{size_of}
+use Rattle.aml_tree.specs.OperatorAt.{op_there}
 
 -- what follows a place, where there is one
 abbrev pub and_then : {X Y : Type 0} → Option X → (X → Option Y) → Option Y
@@ -42,23 +43,6 @@ package_at bytes at = read_or_none (package_end_at bytes at)
 -- the place behind so many bytes
 unfoldable pub bytes_end : ℕ → List ℕ → ℕ → Option ℕ
 bytes_end count bytes at = if nat_lt (length bytes) (at + count) then None else Some (at + count)
-
-abbrev pub and_next : Option Op → ℕ → Option (Op × ℕ)
-and_next None next = None
-and_next (Some o) next = Some (o, next)
-
-abbrev pub long_operator : Option ℕ → ℕ → Option (Op × ℕ)
-long_operator None next = None
-long_operator (Some b) next = and_next (op_of (0x5B00 + b)) next
-
-abbrev pub operator_of : List ℕ → ℕ → Option ℕ → Option (Op × ℕ)
-operator_of bytes at None = None
-operator_of bytes at (Some b) = if b == 0x5B then long_operator (slice_get bytes (at + 1)) (at + 2)
-    else and_next (op_of b) (at + 1)
-
--- the operator whose opcode stands at a place, and the place behind the opcode
-unfoldable pub operator_at : List ℕ → ℕ → Option (Op × ℕ)
-operator_at bytes at = operator_of bytes at (slice_get bytes at)
 
 -- a term below: in bytes, from a place on
 module _ (below : List ℕ → ℕ → Option ℕ) where
@@ -102,4 +86,4 @@ module _ (below : List ℕ → ℕ → Option ℕ) where
 -- one in another; a target that is none counts for no term
 unfoldable pub term_end : ℕ → List ℕ → ℕ → Option ℕ
 term_end zero bytes at = if has_byte 0x00 bytes at then Some (at + 1) else None
-term_end (suc d) bytes at = form_end (term_end d) bytes at (operator_at bytes at)
+term_end (suc d) bytes at = form_end (term_end d) bytes at (op_there bytes at)

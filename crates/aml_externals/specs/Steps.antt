@@ -8,8 +8,9 @@ use Rattle.aml_operators.specs.declared.row.Letter.TheVariants.{Package}
 use Rattle.aml_operators.specs.Table.{class_of, letters_of}
 use Rattle.aml_externals.specs.declared.step.Step.{Step}
 use Rattle.aml_externals.specs.declared.step.Step.TheVariants.{Dead, Enter, Over, Stop}
-use Rattle.aml_externals.specs.Extents.{package_at, term_end, letters_end, list_at, operator_at}
+use Rattle.aml_externals.specs.Extents.{package_at, term_end, letters_end, list_at}
 use Rattle.aml_externals.specs.DeadIfs.{dead_end}
+use Rattle.aml_tree.specs.OperatorAt.{op_there}
 
 abbrev pub over : Option ℕ → Step
 over None = Stop
@@ -40,7 +41,7 @@ operator_step d bytes (Some (o, next)) = class_step (class_of o) d (letters_of o
 
 abbrev pub step_behind : ℕ → List ℕ → Option ℕ → Step
 step_behind d bytes (Some size) = Dead size
-step_behind d bytes None = operator_step d bytes (operator_at bytes 0)
+step_behind d bytes None = operator_step d bytes (op_there bytes 0)
 
 -- what the bytes of a list begin with: a dead If; a definition that holds a list; another
 -- definition; or what is none, at which the list is left as it stands. In a definition stand at

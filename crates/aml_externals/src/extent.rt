@@ -2,10 +2,11 @@
 
 ghost use Rattle.std.specs.Prelude.{◌≡◌, ◌≤◌, ◌<◌, ◌+◌, length, IfSome, Some, None, if◌then◌else◌};
 ghost use Rattle.aml_lex.specs.Standing.{has_byte};
-ghost use Rattle.aml_externals.specs.Extents.{name_end, text_end, package_at, bytes_end, operator_at, piece_end, letters_end, list_at, term_end};
+ghost use Rattle.aml_externals.specs.Extents.{name_end, text_end, package_at, bytes_end, piece_end, letters_end, list_at, term_end};
 
 use aml_lex::{name_string, package_end, string_data};
-use aml_operators::{Letter, Op, Piece, op_of_code, row_of};
+use aml_operators::{Letter, Piece, row_of};
+use aml_tree::op_at;
 
 /// What a target place holds for none.
 const NO_TARGET: u8 = 0x00;
@@ -66,31 +67,6 @@ pub(crate) fn bytes_end(count: usize, bytes: &[u8], at: usize) -> Option<usize>
         return None;
     }
     Some(at + count)
-}
-
-/// The operator whose opcode stands at a place, and the place behind the opcode.
-#[tactic(auto, unfolding(crate::specs::Extents::operator_at))]
-pub(crate) fn operator_at(bytes: &[u8], at: usize) -> Option<(Op, usize)>
-    ensures gives { result ≡ operator_at bytes.now at }
-    ensures ahead { IfSome result (λ r. at < r.1) }
-    ensures within { IfSome result (λ r. r.1 ≤ length bytes.now) }
-{
-    if at >= bytes.len() {
-        return None;
-    }
-    if bytes[at] != 0x5B {
-        return match op_of_code(bytes[at] as u16) {
-            None => None,
-            Some(op) => Some((op, at + 1)),
-        };
-    }
-    if at + 1 >= bytes.len() {
-        return None;
-    }
-    match op_of_code(0x5B00 + bytes[at + 1] as u16) {
-        None => None,
-        Some(op) => Some((op, at + 2)),
-    }
 }
 
 /// The place behind one part.
@@ -161,7 +137,7 @@ fn term_end(bytes: &[u8], at: usize, depth: u8) -> Option<usize>
     if depth == 0 {
         return no_target_end(bytes, at);
     }
-    match operator_at(bytes, at) {
+    match op_at(bytes, at) {
         None => name_end(bytes, at),
         Some((op, next)) => letters_end(row_of(op).letters, bytes, next, depth - 1),
     }

@@ -2,12 +2,13 @@
 
 ghost use Rattle.std.specs.Prelude.{◌≡◌, ◌≤◌, ◌<◌, ◌-◌, length, drop};
 ghost use Rattle.aml_externals.specs.Steps.{letters_step, operator_step, step_of};
-ghost use Rattle.aml_externals.specs.Extents.{operator_at};
+ghost use Rattle.aml_tree.specs.OperatorAt.{op_there};
 ghost use Rattle.aml_externals.specs.Lengths.{IsAhead};
 
 use crate::dead_if::dead_end;
-use crate::extent::{letters_end, list_at, operator_at, package};
+use crate::extent::{letters_end, list_at, package};
 use aml_operators::{Class, Letter, row_of};
+use aml_tree::op_at;
 
 /// What the bytes of a list begin with, and how many bytes it has.
 #[derive(Clone, Copy, Debug, PartialEq, Eq)]
@@ -45,10 +46,10 @@ fn letters_step(letters: &[Letter], bytes: &[u8], at: usize, depth: u8) -> Step
 }
 
 fn operator_step(bytes: &[u8], depth: u8) -> Step
-    ensures gives { result ≡ operator_step depth bytes.now (operator_at bytes.now 0) }
+    ensures gives { result ≡ operator_step depth bytes.now (op_there bytes.now 0) }
     ensures ahead { IsAhead (length bytes.now) result }
 {
-    match operator_at(bytes, 0) {
+    match op_at(bytes, 0) {
         None => Step::Stop,
         Some((op, next)) => match row_of(op).class {
             Class::Definition => letters_step(row_of(op).letters, bytes, next, depth),
