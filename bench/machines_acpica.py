@@ -21,12 +21,13 @@ from pathlib import Path
 ACPICHECK = Path(__file__).resolve().parent.parent / "crates/acpicheck/out/acpicheck"
 OURS = re.compile(r'(0x[0-9a-f]+)|buffer ?([0-9a-f]*)|string "((?:[^"\\]|\\.)*)"|package \[|\]|, |[^,\]]+')
 NAME = "a name, or nothing"
-# acpiexec prints no value that takes more than 16 KiB.
-TOO_LARGE = "AE_BUFFER_OVERFLOW"
+# acpiexec prints no value that takes more than 16 KiB, and sleeps as long as a method asks it to.
+TOO_LARGE, TOO_LONG = "AE_BUFFER_OVERFLOW", "it sleeps"
+SECONDS = 10
 
 
 def run(*words):
-    done = subprocess.run([*map(str, words)], capture_output=True, text=True, stdin=subprocess.DEVNULL, timeout=60, check=False)
+    done = subprocess.run([*map(str, words)], capture_output=True, text=True, stdin=subprocess.DEVNULL, timeout=SECONDS, check=False)
     return done.returncode, done.stdout.splitlines()
 
 
@@ -80,7 +81,10 @@ class Theirs:
 
 
 def theirs(path, files, arguments):
-    _, lines = run("acpiexec", "-di", "-b", " ".join(["execute", path, *arguments]), *files)
+    try:
+        _, lines = run("acpiexec", "-di", "-b", " ".join(["execute", path, *arguments]), *files)
+    except subprocess.TimeoutExpired:
+        return TOO_LONG
     for number, line in enumerate(lines):
         if line.startswith("No object was returned"):
             return None
@@ -114,7 +118,7 @@ def compare(program, files, path, count):
     with tempfile.TemporaryDirectory() as folder:
         there = theirs(renamed(path.encode()).decode(), with_names_changed(files, folder), arguments)
     here = ours(lines[-1].removeprefix("result "))
-    if there == TOO_LARGE:
+    if there in (TOO_LARGE, TOO_LONG):
         return "not shown"
     return "equal" if here == there else f"{path} of {files[0]}: here {here}, there {there}"
 
@@ -131,7 +135,8 @@ def main(folder, program=ACPICHECK):
         ssdt = dsdt.with_name(dsdt.name.replace("DSDT", "SSDT", 1))
         asked += methods(program, [dsdt, *filter(Path.exists, [ssdt])])
     counts = collections.Counter()
-    with concurrent.futures.ThreadPoolExecutor(len(os.sched_getaffinity(0))) as pool:
+    # (more than there are processors, since most of the time acpiexec sleeps)
+    with concurrent.futures.ThreadPoolExecutor(4 * len(os.sched_getaffinity(0))) as pool:
         for answer in pool.map(lambda it: compare(program, *it), asked):
             kind = answer if answer in ("equal", "refused", "not evaluated", "not shown") else "differ"
             counts[kind] += 1
