@@ -6,6 +6,7 @@ use Rattle.acpi_notes.specs.Label.{line_label}
 use Rattle.acpi_notes.specs.Tree.{tree_note}
 use Rattle.acpi_text.specs.Text.{joined}
 use Rattle.acpi_text.specs.Verdicts.{cause_text}
+use Rattle.acpi_verdicts.specs.About.{about_text, called_at}
 use Rattle.acpi_verdicts.specs.Findings.{told_text}
 use Rattle.acpi_verdicts.specs.Outside.{outside_text}
 use Rattle.acpi_verdicts.specs.Verdicts.{said_of}
@@ -17,10 +18,7 @@ use Rattle.aml_findings.specs.declared.finding.Finding.{Finding}
 use Rattle.aml_findings.specs.declared.finding.Finding.TheVariants as finding
 use Rattle.aml_namespace.specs.Bodies.{bytes_of}
 use Rattle.aml_namespace.specs.Load.{Shown}
-use Rattle.aml_namespace.specs.Names.{link_at}
 use Rattle.aml_namespace.specs.Shows.{shown}
-use Rattle.aml_namespace.specs.declared.link.Link.{Link}
-use Rattle.aml_namespace.specs.declared.link.Link.TheVariants as link
 use Rattle.aml_path_text.specs.Paths.{path_of}
 use Rattle.aml_place_text.specs.Place.{standing_text}
 use Rattle.aml_paths.specs.Printed.{path_text}
@@ -37,27 +35,6 @@ unfoldable pub label_of : List (List ℕ) → ℕ → List ℕ
 label_of names number =
     option_map_or (λ name. if bytes_eq name (codes "@") then line_label number else name)
     (slice_get names number) (codes "file " ++ decimal number)
-
--- the method that a name means, if it means one
-abbrev pub method_meant : Link → Option ObjectId
-method_meant (link.Method id) = Some id
-method_meant _ = None
-
--- the method that the name at the place of a refusal calls
-abbrev pub called_at : Shown → ObjectId → Refusal → Option ObjectId
-called_at ns id refusal =
-    method_meant (link_at ns.entries id.0 (bytes_of ns.tables refusal.table) refusal.at)
-
--- whether a cause tells of the method that is called
-abbrev pub asks_callee : Cause → Bool
-asks_callee cause.Cycle = true
-asks_callee cause.CalleeRefused = true
-asks_callee cause.Depth = true
-asks_callee _ = false
-
--- the method that is called where a method is refused, if the cause tells of a call
-abbrev pub callee_told : Shown → ObjectId → Refusal → Option ObjectId
-callee_told ns id refusal = if asks_callee refusal.why then called_at ns id refusal else None
 
 -- a cause and its place
 unfoldable pub refused_place : List ℕ → Refusal → List ℕ
@@ -88,9 +65,7 @@ refused_part ns label refusal found =
 abbrev pub refused_text : Shown → List ℕ → ObjectId → Refusal → Finding → List ℕ
 refused_text ns label id refusal finding =
     path_text (path_of ns.entries id.0) ++ refused_part ns label refusal finding
-    ++ option_map_or (λ (callee : ObjectId). codes ": " ++ path_text (path_of ns.entries callee.0))
-    (callee_told ns id refusal) []
-    ++ codes "\n"
+    ++ about_text ns id refusal ++ codes "\n"
 
 -- how the place of a body that cannot be read is called, behind the method's path
 unfoldable pub unreadable_label : List ℕ → Unread → List ℕ

@@ -1,5 +1,6 @@
 pub mod Verdicts
 pub mod Words
 pub mod Findings
+pub mod About
 pub mod Outside
 pub mod Explained

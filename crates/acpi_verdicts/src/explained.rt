@@ -1,10 +1,11 @@
 // What people are told of why a method is refused.
 
 ghost use Rattle.std.specs.Prelude.{◌≡◌, ◌++◌, IfErr, IfOk, OnOk, map, string_bytes};
-ghost use Rattle.acpi_verdicts.specs.Explained.{asks_callee, called_at, callee_told, chain_text, found_part, is_form, label_of, next_of, reason_text, refused_part, refused_place, refused_text, rest_text, unreadable_label, unreadable_text};
+ghost use Rattle.acpi_verdicts.specs.Explained.{chain_text, found_part, is_form, label_of, next_of, reason_text, refused_part, refused_place, refused_text, rest_text, unreadable_label, unreadable_text};
 ghost use Rattle.acpi_text.specs.declared.writing.RunFault.TheVariants as told;
 ghost use Rattle.aml_namespace.specs.Shows.{shown};
 
+use crate::about::{called_at, push_about};
 use crate::findings::push_finding;
 use crate::outside::push_outside;
 use crate::words::cause_words;
@@ -12,7 +13,7 @@ use acpi_notes::{TreePlace, file_label, tree_note};
 use acpi_text::{RunFault, cause_text};
 use aml_causes::{Cause, Refusal};
 use aml_findings::Finding;
-use aml_namespace::{Link, Namespace};
+use aml_namespace::Namespace;
 use aml_path_text::push_path;
 use aml_paths::ObjectId;
 use aml_place_text::push_standing;
@@ -162,10 +163,7 @@ fn push_refused(
 {
     push_path(alloc, text, namespace, id)?;
     push_cause(alloc, text, namespace, label, refusal, finding)?;
-    if let Some(callee) = callee_told(namespace, id, refusal) {
-        text.extend_from_slice(b": ")?;
-        push_path(alloc, text, namespace, callee)?;
-    }
+    push_about(alloc, text, namespace, id, refusal)?;
     text.extend_from_slice(b"\n")?;
     Ok(())
 }
@@ -268,35 +266,6 @@ fn next_of(checked: &Checked<'_>, id: ObjectId) -> Option<ObjectId>
         Some(Verdict::Refused(refusal, _)) if refusal.why == Cause::CalleeRefused => {
             called_at(checked.namespace(), id, *refusal)
         }
-        _ => None,
-    }
-}
-
-// The method that is called where a method is refused, if the cause tells of a call.
-fn callee_told(namespace: &Namespace<'_>, id: ObjectId, refusal: Refusal) -> Option<ObjectId>
-    ensures { result ≡ callee_told (shown namespace.now) id refusal }
-{
-    if asks_callee(refusal.why) {
-        called_at(namespace, id, refusal)
-    } else {
-        None
-    }
-}
-
-// Whether a cause tells of the method that is called.
-fn asks_callee(cause: Cause) -> bool
-    ensures { result ≡ asks_callee cause }
-{
-    matches!(cause, Cause::Cycle | Cause::CalleeRefused | Cause::Depth)
-}
-
-// The method that the name at the place of a refusal calls. The name of a call is no own name.
-fn called_at(namespace: &Namespace<'_>, id: ObjectId, refusal: Refusal) -> Option<ObjectId>
-    ensures { result ≡ called_at (shown namespace.now) id refusal }
-{
-    let bytes = namespace.table_bytes(refusal.table);
-    match namespace.link(id, bytes, refusal.at) {
-        Link::Method(callee) => Some(callee),
         _ => None,
     }
 }

@@ -3,9 +3,11 @@
 //!
 //! Rooms: `listed` prints the verdicts and answers whether a method is refused, `words` has what
 //! causes mean, `findings` what was found there and what was wanted, `outside` what is wanted of
-//! what has no meaning, `explained` what is told of a refused method and of those that it calls.
+//! what has no meaning, `about` the region or the method that a cause is about, `explained` what is
+//! told of a refused method and of those that it calls.
 #![tactic(auto)]
 
+mod about;
 mod explained;
 mod findings;
 mod listed;
