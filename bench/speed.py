@@ -2,26 +2,27 @@
 """Times acpicheck beside ACPICA's acpiexec on loops: speed.py [ACPICHECK] [LOOP ..].
 
 `iasl` and `acpiexec` are of Debian's acpica-tools (apt-get install acpica-tools). One DSDT has a method for each loop and number of
-turns. Each is run at two sizes, the second twice the first, the better of three runs; what a turn costs is the difference of both over
-the difference of the turns, so that starting, loading, reading and judging are left out. It is evaluated straight from its bytes (`eval`),
-where the verifier accepts it, then from its tree (`eval --plain`), and by acpiexec; all must give the same value.
+turns. Each is run at two sizes, the second twice the first; of each the least processor time of five runs counts. What a turn costs is
+the difference of both over the difference of the turns, so that starting, loading, reading and judging are left out. It is evaluated
+straight from its bytes (`eval`), where the verifier accepts it, then from its tree (`eval --plain`), and by acpiexec; all must give the
+same value.
 
 Behind `resident` stands how much memory acpicheck had resident at most, at each of its two sizes, by `/usr/bin/time` (apt-get install
 time). It should not grow with the turns, but in TEXT, whose string does, and in KEEP and INDX, fields of regions, each access of which is an
 event that is kept to be printed.
 """
 import re
+import resource
 import shutil
 import subprocess
 import sys
 import tempfile
-import time
 from pathlib import Path
 
 ACPICHECK = Path(__file__).resolve().parent.parent / "crates/acpicheck/out/acpicheck"
 TIME = "/usr/bin/time"
 STEPS = str(2**64 - 1)
-RUNS = 3
+RUNS = 5
 
 # the turns of the first size, here and there
 LOOPS = {
@@ -150,16 +151,22 @@ Method (SUM3, 3) {{ Return (And (Add (Add (Arg0, Arg1), Arg2), 0xFFFFFF)) }}
 """
 
 
+def processor_time():
+    """What all commands took so far, in seconds."""
+    used = resource.getrusage(resource.RUSAGE_CHILDREN)
+    return used.ru_utime + used.ru_stime
+
+
 def run(command):
-    """How long a command took, how many KiB it had resident at most, and what it printed."""
+    """The processor time of a command, how many KiB it had resident at most, and what it printed."""
     with tempfile.NamedTemporaryFile("r") as noted:
-        start = time.monotonic()
+        start = processor_time()
         said = subprocess.run([TIME, "-f", "%M", "-o", noted.name, *command], capture_output=True, text=True, check=False).stdout
-        return time.monotonic() - start, int(noted.read().split()[-1]), said
+        return processor_time() - start, int(noted.read().split()[-1]), said
 
 
 def best(command):
-    """The least time of some runs, the most that one had resident, and what the last one printed."""
+    """The least processor time of some runs, the most that one had resident, and what the last one printed."""
     took, resident, said = zip(*(run(command) for _ in range(RUNS)))
     return min(took), max(resident), said[-1]
 
