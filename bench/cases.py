@@ -14,7 +14,7 @@ A case is a folder crates/acpicheck/cases/NAME:
 | NAME.hex | hex text, spaces and line ends left out, whose bytes stand in the file NAME where the program runs |
 | output | what standard output must be; no file: nothing |
 | status | the status that the program must end with; no file: 0 |
-| notes | texts of which each line must stand on standard error; no file: standard error must be empty |
+| notes | lines that must stand on standard error, parts of lines where they do not begin as the program's own; no file: it must be empty |
 | sink | the file that standard output goes to, as /dev/full, in place of a pipe |
 | memory | how many bytes of memory the program may have; no file: as many as there are |
 
@@ -35,6 +35,8 @@ import rows
 TOP = os.path.dirname(os.path.dirname(os.path.abspath(__file__)))
 CRATE = f"{TOP}/crates/acpicheck"
 SECONDS = 60
+# What a line that the program itself tells begins with.
+OWN = "acpicheck: "
 COUNTS = re.compile(r"(\d+) passed, (\d+) failed\n?")
 
 
@@ -94,8 +96,14 @@ def differences(program, case):
     told = part(case, "notes", b"").decode().splitlines()
     if not told and notes:
         found.append(f"on standard error {notes[:200]!r}")
-    found += [f"not on standard error: {line}" for line in told if line.encode() not in notes]
+    lines = notes.decode(errors="replace").splitlines()
+    found += [f"not on standard error: {line}" for line in told if not is_told(line, lines)]
     return found
+
+
+def is_told(note, lines):
+    """Whether a note is told: a line of the program's own as it stands, any other text within a line."""
+    return note in lines if note.startswith(OWN) else any(note in line for line in lines)
 
 
 def counts_of(lines):

@@ -6,8 +6,8 @@ its own does. Each method that is accepted is evaluated with as many ones as it 
 `acpiexec` (of Debian's acpica-tools), over registers that all hold zero. Printed are the methods whose values differ and,
 last, how many do not. Packages are compared without the names in them, which `acpiexec` prints by their last segments.
 As it runs methods named `_REG` and `_STA` of its own accord first, it has copies of the tables in which they are named
-otherwise.
-What is refused is counted, and what is not evaluated: `_OSI`, and methods whose arguments are no integers.
+otherwise. What is refused is counted, what is not evaluated (`_OSI`, and methods whose arguments are no integers), and
+what `acpiexec` does not show.
 """
 import collections
 import concurrent.futures

@@ -160,12 +160,13 @@ pub(crate) fn tell_untold<N: Notes>(
 
 // Whether a method that takes arguments is refused for a kind.
 fn may_lack_kinds(checked: &Checked<'_>, id: ObjectId) -> bool {
-    let takes = match checked.namespace().method(id) {
-        Some(method) => method.args > 0,
-        None => false,
+    let Some(method) = checked.namespace().method(id) else {
+        return false;
     };
-    takes
-        && matches!(checked.verdict(id), Some(Verdict::Refused(refusal, _)) if refusal.why == Cause::WrongKind)
+    match checked.verdict(id) {
+        Some(Verdict::Refused(refusal, _)) => method.args > 0 && refusal.why == Cause::WrongKind,
+        _ => false,
+    }
 }
 
 /// Of a file of `--madt` that is no MADT.

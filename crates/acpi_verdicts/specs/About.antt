@@ -3,6 +3,10 @@ use Rattle.std.specs.Prelude.{ℕ, List, [], ◌++◌, Bool, true, false, Option
 use Rattle.aml_causes.specs.declared.cause.Cause.{Cause}
 use Rattle.aml_causes.specs.declared.cause.Cause.TheVariants as cause
 use Rattle.aml_causes.specs.declared.cause.Refusal.{Refusal}
+use Rattle.aml_findings.specs.declared.finding.FieldFault.{FieldFault}
+use Rattle.aml_findings.specs.declared.finding.FieldFault.TheVariants as fault
+use Rattle.aml_findings.specs.declared.finding.Finding.{Finding}
+use Rattle.aml_findings.specs.declared.finding.Finding.TheVariants as finding
 use Rattle.aml_namespace.specs.Bodies.{bytes_of}
 use Rattle.aml_namespace.specs.Load.{Shown}
 use Rattle.aml_namespace.specs.Names.{link_at}
@@ -43,10 +47,16 @@ asks_callee _ = false
 abbrev pub callee_told : Shown → ObjectId → Refusal → Option ObjectId
 callee_told ns id refusal = if asks_callee refusal.why then called_at ns id refusal else None
 
--- whether a cause tells of a field
-abbrev pub asks_region : Cause → Bool
-asks_region cause.Region = true
-asks_region _ = false
+-- whether what is wrong with a field is told of fields of regions alone
+abbrev pub is_of_listed : FieldFault → Bool
+is_of_listed (fault.Bits bits) = false
+is_of_listed _ = true
+
+-- whether what was found is of a field of a region
+abbrev pub is_of_region : Finding → Bool
+is_of_region (finding.Units at count unit length) = true
+is_of_region (finding.Fault fault) = is_of_listed fault
+is_of_region _ = false
 
 -- where a field's units lie: the place of the region's name, if they lie in one
 abbrev pub region_through : Through → Option NamePlace
@@ -63,10 +73,10 @@ abbrev pub region_meant : Shown → Link → Option NamePlace
 region_meant ns (link.Field id) = region_of (object_at ns.entries id.0)
 region_meant ns _ = None
 
--- where the region of a field is named that a method is refused for
-abbrev pub region_named : Shown → ObjectId → Refusal → Option NamePlace
-region_named ns id refusal =
-    if asks_region refusal.why then region_meant ns (meant_at ns id refusal) else None
+-- where the region of a field is named, where something of that was found
+abbrev pub region_named : Shown → ObjectId → Refusal → Finding → Option NamePlace
+region_named ns id refusal found =
+    if is_of_region found then region_meant ns (meant_at ns id refusal) else None
 
 -- the name of a region, or else the path of a method
 abbrev pub one_of : Shown → Option NamePlace → Option ObjectId → List ℕ
@@ -75,5 +85,6 @@ one_of ns (Some name) callee =
 one_of ns None (Some callee) = codes ": " ++ path_text (path_of ns.entries callee.0)
 one_of ns None None = []
 
-abbrev pub about_text : Shown → ObjectId → Refusal → List ℕ
-about_text ns id refusal = one_of ns (region_named ns id refusal) (callee_told ns id refusal)
+abbrev pub about_text : Shown → ObjectId → Refusal → Finding → List ℕ
+about_text ns id refusal found =
+    one_of ns (region_named ns id refusal found) (callee_told ns id refusal)

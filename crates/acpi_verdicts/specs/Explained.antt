@@ -65,7 +65,7 @@ refused_part ns label refusal found =
 abbrev pub refused_text : Shown → List ℕ → ObjectId → Refusal → Finding → List ℕ
 refused_text ns label id refusal finding =
     path_text (path_of ns.entries id.0) ++ refused_part ns label refusal finding
-    ++ about_text ns id refusal ++ codes "\n"
+    ++ about_text ns id refusal finding ++ codes "\n"
 
 -- how the place of a body that cannot be read is called, behind the method's path
 unfoldable pub unreadable_label : List ℕ → Unread → List ℕ

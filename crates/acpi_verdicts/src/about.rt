@@ -7,27 +7,28 @@ ghost use Rattle.aml_namespace.specs.Shows.{shown};
 
 use acpi_text::RunFault;
 use aml_causes::{Cause, Refusal};
+use aml_findings::{FieldFault, Finding};
 use aml_namespace::{Link, Namespace, Object, Through};
 use aml_path_text::push_path;
 use aml_paths::{NamePlace, ObjectId};
 use aml_place_text::push_standing;
 use std::alloc::Global;
 
-/// Adds the name of the region that a field lies in, as its list spells it, where the cause is of
-/// the field; where it tells of a call, the path of the method that is called; of any other cause
-/// nothing.
+/// Adds the name of the region that a field lies in, as its list spells it, where that is what was
+/// found; where the cause tells of a call, the path of the method that is called; else nothing.
 pub(crate) fn push_about(
     alloc: Global,
     text: &mut Vec<u8>,
     namespace: &Namespace<'_>,
     id: ObjectId,
     refusal: Refusal,
+    finding: Finding,
 ) -> Result<(), RunFault>
     ensures text { OnOk result (text.new.items
-        ≡ text.old.items ++ spec.about_text (shown namespace.now) id refusal) }
+        ≡ text.old.items ++ spec.about_text (shown namespace.now) id refusal finding) }
     ensures fault { IfErr result (λ fault. fault ≡ told.NoMemory) }
 {
-    if let Some(name) = region_named(namespace, id, refusal) {
+    if let Some(name) = region_named(namespace, id, refusal, finding) {
         text.extend_from_slice(b"; in the region")?;
         push_standing(text, namespace.table_bytes(name.table), name.at)?;
         return Ok(());
@@ -39,11 +40,17 @@ pub(crate) fn push_about(
     Ok(())
 }
 
-// Where the region of a field is named that a method is refused for.
-fn region_named(namespace: &Namespace<'_>, id: ObjectId, refusal: Refusal) -> Option<NamePlace>
-    ensures { result ≡ spec.region_named (shown namespace.now) id refusal }
+// Where the region of a field is named, where something of that was found. Then the field's name is
+// no own name of the body, whose fields lie in buffers.
+fn region_named(
+    namespace: &Namespace<'_>,
+    id: ObjectId,
+    refusal: Refusal,
+    finding: Finding,
+) -> Option<NamePlace>
+    ensures { result ≡ spec.region_named (shown namespace.now) id refusal finding }
 {
-    if !asks_region(refusal.why) {
+    if !is_of_region(finding) {
         return None;
     }
     match meant_at(namespace, id, refusal) {
@@ -65,11 +72,15 @@ fn region_of(object: Option<Object>) -> Option<NamePlace>
     }
 }
 
-// Whether a cause tells of a field.
-fn asks_region(cause: Cause) -> bool
-    ensures { result ≡ spec.asks_region cause }
+// Whether what was found is of a field of a region: so many bits are found of fields of buffers too.
+fn is_of_region(finding: Finding) -> bool
+    ensures { result ≡ spec.is_of_region finding }
 {
-    matches!(cause, Cause::Region)
+    match finding {
+        Finding::Units { .. } => true,
+        Finding::Fault(fault) => !matches!(fault, FieldFault::Bits(_)),
+        _ => false,
+    }
 }
 
 // The method that is called where a method is refused, if the cause tells of a call.

@@ -163,7 +163,7 @@ fn push_refused(
 {
     push_path(alloc, text, namespace, id)?;
     push_cause(alloc, text, namespace, label, refusal, finding)?;
-    push_about(alloc, text, namespace, id, refusal)?;
+    push_about(alloc, text, namespace, id, refusal, finding)?;
     text.extend_from_slice(b"\n")?;
     Ok(())
 }
