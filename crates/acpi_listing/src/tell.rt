@@ -8,7 +8,7 @@ use acpi_resources::{Item, RouteCause};
 use acpi_routing::{LinkRefusal, entry_note, link_text, source_text};
 use acpi_sources::{Fault, FaultCause, Where};
 use acpi_tables::TableFault;
-use acpi_verdicts::explain;
+use acpi_verdicts::{any_refused, explain, summary};
 use acpi_words::{Notes, bad_argument, words_error};
 use aml_causes::Cause;
 use aml_externals::is_dead_if;
@@ -112,6 +112,17 @@ pub(crate) fn tell_refused<N: Notes>(
         if !tell_reason(alloc, notes, checked, names, *id) {
             return;
         }
+    }
+}
+
+/// How many methods are accepted, and how many are refused for which cause, where one is refused.
+pub(crate) fn tell_summary<N: Notes>(alloc: Global, notes: &N, checked: &Checked<'_>) {
+    if !any_refused(checked) {
+        return;
+    }
+    match summary(alloc, checked) {
+        Ok(text) => tell_lines(notes, &text),
+        Err(_) => notes.tell("out of memory"),
     }
 }
 

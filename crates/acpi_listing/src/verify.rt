@@ -13,7 +13,7 @@ ghost use Rattle.aml_signatures.specs.Signed.{kinds_told};
 use crate::load::load_counted;
 use crate::signed::read_signatures;
 use crate::stop::Stop;
-use crate::tell::{tell_refused, tell_untold};
+use crate::tell::{tell_refused, tell_summary, tell_untold};
 use acpi_sources::{Fault, Inputs, Source};
 use acpi_verdicts::{any_refused, list_verdicts};
 use acpi_words::{Notes, VerifyRequest};
@@ -77,7 +77,7 @@ fn verify_loaded<N: Notes, W: Write>(
     tell_verdicts(alloc, out, &checked)
 }
 
-// Tells people why methods are refused, where that is asked for.
+// Tells people why methods are refused, and how many for which cause, where that is asked for.
 fn tell_reasons<N: Notes>(
     alloc: Global,
     request: &VerifyRequest<'_>,
@@ -86,6 +86,7 @@ fn tell_reasons<N: Notes>(
 ) {
     if request.explain {
         tell_refused(alloc, notes, checked, request.inputs.files.as_slice());
+        tell_summary(alloc, notes, checked);
         tell_untold(notes, checked, checked.namespace().methods(), request.kinds);
     }
 }

@@ -31,15 +31,18 @@ pub fn list_names<W: Write>(
     ensures { Lists result (W.contents out.old) (W.contents out.new)
         (names_text (shown namespace.now)) }
 {
+    let mut line = Vec::new(alloc);
     for number in 0..namespace.len() {
-        list_name(alloc, out, namespace, ObjectId(number))?;
+        list_name(alloc, &mut line, out, namespace, ObjectId(number))?;
     }
     Ok(())
 }
 
-// Prints the line of the path with this number.
+// Prints the line of the path with this number. It is made where the line before stood, whose room
+// serves again.
 fn list_name<W: Write>(
     alloc: Global,
+    line: &mut Vec<u8>,
     out: &mut W,
     namespace: &Namespace<'_>,
     id: ObjectId,
@@ -51,27 +54,28 @@ fn list_name<W: Write>(
         (entry_line (shown namespace.now) named) }
 {
     let entry = namespace.entry(id).unwrap();
-    let line = line_of(alloc, namespace, id, entry)?;
+    line.clear();
+    push_line(alloc, line, namespace, id, entry)?;
     put(out, line.as_slice())
 }
 
-// The line of the path with this number, under which an entry stands.
+// Adds the line of the path with this number, under which an entry stands.
 #[tactic(auto, unfolding(crate::specs::Names::entry_line))]
-fn line_of(
+fn push_line(
     alloc: Global,
+    line: &mut Vec<u8>,
     namespace: &Namespace<'_>,
     id: ObjectId,
     entry: Entry,
-) -> Result<Vec<u8>, RunFault>
-    ensures { IfOk result (λ line. let entries = (shown namespace.now).entries in
-        line.items ≡ entry_line (shown namespace.now) (path_of entries id.0, entry)) }
+) -> Result<(), RunFault>
+    ensures { let entries = (shown namespace.now).entries in OnOk result (line.new.items
+        ≡ line.old.items ++ entry_line (shown namespace.now) (path_of entries id.0, entry)) }
 {
-    let mut line = Vec::new(alloc);
-    push_path(alloc, &mut line, namespace, id)?;
+    push_path(alloc, line, namespace, id)?;
     line.extend_from_slice(b" ")?;
-    push_entry(alloc, &mut line, namespace, entry)?;
+    push_entry(alloc, line, namespace, entry)?;
     line.extend_from_slice(b"\n")?;
-    Ok(line)
+    Ok(())
 }
 
 // Adds what stands under a path.

@@ -4,3 +4,4 @@ pub mod Findings
 pub mod About
 pub mod Outside
 pub mod Explained
+pub mod Totals

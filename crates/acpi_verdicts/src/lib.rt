@@ -4,7 +4,8 @@
 //! Rooms: `listed` prints the verdicts and answers whether a method is refused, `words` has what
 //! causes mean, `findings` what was found there and what was wanted, `outside` what is wanted of
 //! what has no meaning, `about` the region or the method that a cause is about, `explained` what is
-//! told of a refused method and of those that it calls.
+//! told of a refused method and of those that it calls, `totals` how many methods are refused for
+//! which cause.
 #![tactic(auto)]
 
 mod about;
@@ -12,8 +13,10 @@ mod explained;
 mod findings;
 mod listed;
 mod outside;
+mod totals;
 mod words;
 
 pub use explained::explain;
 pub use listed::{any_refused, list_said, list_verdicts};
+pub use totals::summary;
 pub use words::cause_words;

@@ -58,6 +58,9 @@ pub fn arguments(
         kinds_of shapes args.items
         ≡ arguments_of (shown namespace.now) (kinds_told signatures.now) id.0 m) }
 {
+    if count == 0 {
+        return Ok(Vec::new(alloc));
+    }
     let mut path = Vec::new(alloc);
     push_path(alloc, &mut path, namespace, id)?;
     let width = namespace.width();

@@ -169,8 +169,8 @@ fn bytes_are_set(rt: HostRuntime) -> Result<(), Fail> {
 /// What the names hold where one is another, or missing.
 fn with_other(id: usize, sample: Option<Sample>) -> [Option<Sample>; 13] {
     let mut others = FIRST;
-    if id < others.len() {
-        others[id] = sample;
+    if let Some(other) = others.get_mut(id) {
+        *other = sample;
     }
     others
 }

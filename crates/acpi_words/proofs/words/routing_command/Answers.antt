@@ -1,4 +1,4 @@
-use Rattle.std.proofs.Common.{ap₂, ◌∙◌}
+use Rattle.std.proofs.Common.{◌||◌, ap₂, ◌∙◌}
 use Rattle.std.proofs.lemmas.Result.{IfOk-weaker}
 use Rattle.clap.specs.Words.{with_rule}
 use Rattle.acpi_words.proofs.words.routing_command.Goals as goal
@@ -8,3 +8,9 @@ returns-clause-app c =
     let first = c.in_ok-arg.ensures.shape c.option_arg.ensures.local ∙ ap₂ with_rule c.in_ok-object_command.ensures.app c.option_arg.ensures.rule in
     let second = c.in_ok-arg-2.ensures.shape c.flag_arg.ensures.local ∙ ap₂ with_rule first c.flag_arg.ensures.rule in
     IfOk-weaker c.arg-3.result _ _ (λ m added. added.shape c.files_arg.ensures.local ∙ ap₂ with_rule second c.files_arg.ensures.rule) c.arg-3.ensures
+
+pub returns-clause-local : goal.returns-clause-local
+returns-clause-local c =
+    let first = c.in_ok-arg.ensures.globals ∙ ap₂ (λ a b. a || b) c.in_ok-object_command.ensures.local c.option_arg.ensures.local in
+    let second = c.in_ok-arg-2.ensures.globals ∙ ap₂ (λ a b. a || b) first c.flag_arg.ensures.local in
+    IfOk-weaker c.arg-3.result _ _ (λ m added. added.globals ∙ ap₂ (λ a b. a || b) second c.files_arg.ensures.local) c.arg-3.ensures
