@@ -101,18 +101,20 @@ pub(crate) fn tell_signatures<N: Notes>(alloc: Global, notes: &N, name: &str, fa
     tell(notes, signatures_note(alloc, label, line));
 }
 
-/// Of each method that is refused why it is, with the files by their names.
+/// Of each method that is refused why it is, with the files by their names; whether there was memory
+/// for all.
 pub(crate) fn tell_refused<N: Notes>(
     alloc: Global,
     notes: &N,
     checked: &Checked<'_>,
     names: &[&str],
-) {
+) -> bool {
     for id in checked.namespace().methods() {
         if !tell_reason(alloc, notes, checked, names, *id) {
-            return;
+            return false;
         }
     }
+    true
 }
 
 /// How many methods are accepted, and how many are refused for which cause, where one is refused.

@@ -85,8 +85,9 @@ fn tell_reasons<N: Notes>(
     notes: &N,
 ) {
     if request.explain {
-        tell_refused(alloc, notes, checked, request.inputs.files.as_slice());
-        tell_summary(alloc, notes, checked);
+        if tell_refused(alloc, notes, checked, request.inputs.files.as_slice()) {
+            tell_summary(alloc, notes, checked);
+        }
         tell_untold(notes, checked, checked.namespace().methods(), request.kinds);
     }
 }

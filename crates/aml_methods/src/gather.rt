@@ -166,8 +166,10 @@ pub fn gathered(
     ensures trees { AreTrees (shown namespace.now) trees.old.bodies.items →
         AreTrees (shown namespace.now) trees.new.bodies.items }
 {
-    let mut pairs = Vec::new(alloc);
     let methods = namespace.methods();
+    let Ok(mut pairs) = Vec::with_capacity(alloc, methods.len()) else {
+        return Err(NoMemory);
+    };
     for id in methods {
         let callees = callees_of(alloc, namespace, *id, shapes, trees)?;
         keep(&mut pairs, *id, callees)?;

@@ -29,7 +29,9 @@ pub struct Trees {
 fn no_trees(alloc: Global, count: usize) -> Result<Vec<Option<Vec<Term>>>, NoMemory>
     ensures { IfOk result (λ trees. (k : ℕ) → tree_at trees.items k ≡ None) }
 {
-    let mut trees = Vec::new(alloc);
+    let Ok(mut trees) = Vec::with_capacity(alloc, count) else {
+        return Err(NoMemory);
+    };
     for _ in 0..count {
         match trees.push(None) {
             Ok(()) => {}

@@ -140,7 +140,7 @@ fn object_kinds(
     ensures known { IfOk result (λ ks. AreKnown (length table.new) ks.items) }
     ensures keeps { Keeps table.old table.new }
 {
-    let mut kinds = Vec::new(alloc);
+    let mut kinds = Vec::with_capacity(alloc, namespace.len())?;
     for i in 0..namespace.len() {
         let kind = object_kind(alloc, table, namespace, ObjectId(i))?;
         kinds.push(kind)?;

@@ -72,7 +72,9 @@ fn no_verdicts(alloc: Global, count: usize) -> Result<Vec<Option<Verdict>>, NoMe
     ensures count { IfOk result (λ verdicts. length verdicts.items ≡ count) }
     ensures none { IfOk result (λ verdicts. (k : ℕ) → verdict_at verdicts.items k ≡ None) }
 {
-    let mut verdicts = Vec::new(alloc);
+    let Ok(mut verdicts) = Vec::with_capacity(alloc, count) else {
+        return Err(NoMemory);
+    };
     for _ in 0..count {
         match verdicts.push(None) {
             Ok(()) => {}
@@ -87,7 +89,9 @@ fn none_kept(alloc: Global, count: usize) -> Result<Vec<Option<Kept>>, NoMemory>
     ensures count { IfOk result (λ kept. length kept.items ≡ count) }
     ensures none { IfOk result (λ kept. (k : ℕ) → kept_at kept.items k ≡ None) }
 {
-    let mut kept = Vec::new(alloc);
+    let Ok(mut kept) = Vec::with_capacity(alloc, count) else {
+        return Err(NoMemory);
+    };
     for _ in 0..count {
         match kept.push(None) {
             Ok(()) => {}
@@ -102,7 +106,9 @@ fn no_marks(alloc: Global, count: usize) -> Result<Vec<bool>, NoMemory>
     ensures count { IfOk result (λ marks. length marks.items ≡ count) }
     ensures none { IfOk result (λ marks. (k : ℕ) → marked marks.items k ≡ false) }
 {
-    let mut marks = Vec::new(alloc);
+    let Ok(mut marks) = Vec::with_capacity(alloc, count) else {
+        return Err(NoMemory);
+    };
     for _ in 0..count {
         match marks.push(false) {
             Ok(()) => {}
