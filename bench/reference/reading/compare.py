@@ -12,6 +12,7 @@
 | `places` | the same of every first byte in every kind of place, at several depths, and in modules |
 | `arity` | how many terms a name takes: methods, aliases, Externals, own names, in scopes of several tables |
 | `settled` | what regions, index, bank and buffer fields and package elements name once all tables are loaded |
+| `notes` | what people are told of definitions that are refused |
 | `texts` | `eval` with `--args`, `--regs`, `--kinds`, `--plain`, `--osi`, by files and by standard input |
 
 Each difference is told with its bytes and both outputs, made smaller where that is easy; behind M of them, 20 if it is
@@ -546,11 +547,12 @@ def given_words(words):
 
 
 def main():
-    # That file stands on this one, so it can't be read before this one was.
+    # The second stands on this file, so it can't be read before this one was.
+    import compare_notes
     import compare_texts
     compares = {"tables": compare_tables, "names": compare_names, "bodies": compare_bodies, "arity": compare_arity,
                 "short": compare_short, "places": compare_places, "texts": compare_texts.compare_texts,
-                "settled": compare_texts.compare_settled}
+                "notes": compare_notes.compare_notes, "settled": compare_texts.compare_settled}
     words = words_of(__doc__)
     words.add_argument("--what", default="names", choices=compares)
     words.add_argument("--cases", type=int, default=1000)

@@ -12,12 +12,13 @@ WORDS = {
 
 
 class Fault(Exception):
-    """A fault: its number, and the numbers that are printed behind its word (table, place, line)."""
+    """A fault: its number, the numbers that are printed behind its word (table, place, line), and what people are told."""
 
-    def __init__(self, number, *places):
+    def __init__(self, number, *places, note=""):
         super().__init__(number, *places)
         self.number = number
         self.places = places
+        self.note = note
 
     def line(self):
         """The line that the program ends with."""

@@ -48,6 +48,12 @@ def absolute(scope, name):
     return scope[:len(scope) - name.parents] + name.segments
 
 
+def wants(name, path):
+    """What is told of a name that wants a path which is not there, or that leads above the root."""
+    wanted = "a path above the root" if path is None else printed(path)
+    return f"the name at byte {name.at} wants {wanted}, which is not there or holds no names"
+
+
 def find(entries, scope, name):
     """What a name finds among entries by paths: a lone segment by upward search, any other at its one path."""
     if not grammar.is_lone(name):
@@ -66,6 +72,7 @@ class Namespace:
     def __init__(self, files, counts=None):
         self.files = files
         self.objects = {(name.encode(),): Object((name.encode(),), text) for name, text in PREDEFINED}
+        self.made = {}
         self.externals = {}
         self.methods = []
         self.width = 64
@@ -74,7 +81,7 @@ class Namespace:
             try:
                 self.load_table(number, data)
             except Fault as fault:
-                raise Fault(fault.number, number, *fault.places) from None
+                raise Fault(fault.number, number, *fault.places, note=fault.note) from None
 
     def load_table(self, number, data):
         """The header, then the whole module, then its definitions in order."""
@@ -97,7 +104,7 @@ class Namespace:
         elif code == 0x15:
             self.note_external(scope, parts)
         elif code == 0x06:
-            self.define_alias(scope, parts[0], parts[1])
+            self.define_alias(number, scope, parts[0], parts[1])
         elif code in FIELD_LISTS:
             self.define_fields(number, term, scope)
         elif code in OPENED:
@@ -139,12 +146,20 @@ class Namespace:
         """The path of a new definition, whose parent has to be a scope that is there already."""
         path = absolute(scope, name)
         if path is not None and path in self.objects:
-            raise Fault("E301", name.at)
+            raise Fault("E301", name.at, note=self.is_there(path, name))
         if not path or not self.is_scope(path[:-1]):
-            raise Fault("E302", name.at)
+            raise Fault("E302", name.at, note=wants(name, path and path[:-1]))
         if len(self.objects) >= GREATEST_PATHS:
             raise Fault("E303", name.at)
         return path
+
+    def is_there(self, path, name):
+        """What is told of a path that is defined twice."""
+        first = "there from the beginning"
+        if path in self.made:
+            number, at = self.made[path]
+            first = f"already defined at byte {at} of file{number}"
+        return f"{printed(path)}, defined at byte {name.at}, is {first}"
 
     def is_scope(self, path):
         """Whether definitions may stand below this path."""
@@ -153,15 +168,17 @@ class Namespace:
     def define(self, number, term, scope, name, text, item=None, access=None):
         """A new object with its first path."""
         path = self.check_place(scope, name)
+        self.made[path] = number, name.at
         self.objects[path] = Object(path, text, number, term, scope, item, access)
         return self.objects[path]
 
-    def define_alias(self, scope, source, name):
+    def define_alias(self, number, scope, source, name):
         """A second path of an object that is there already."""
         path = self.check_place(scope, name)
         found = find(self.objects, scope, source)
         if found is None:
-            raise Fault("E304", source.at)
+            raise Fault("E304", source.at, note=wants(source, absolute(scope, source)))
+        self.made[path] = number, name.at
         self.objects[path] = found
 
     def define_fields(self, number, term, scope):
@@ -182,7 +199,7 @@ class Namespace:
             return ()
         found = find(self.objects, scope, name)
         if found is None or found.text not in SCOPES:
-            raise Fault("E302", name.at)
+            raise Fault("E302", name.at, note=wants(name, absolute(scope, name)))
         return found.path
 
     def note_external(self, scope, parts):

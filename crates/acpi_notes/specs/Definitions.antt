@@ -35,13 +35,21 @@ abbrev pub EndsIn : Option (List ℕ) → List ℕ → Type 0
 EndsIn None path = Unit {0}
 EndsIn (Some segment) path = ends_with nat_eq path segment ≡ true
 
--- the name at a path's first place has that last segment; a path that has none is predefined
-abbrev pub IsFirst : List (List ℕ) → List ℕ → Option (List ℕ) → Option Place → Type 0
-IsFirst tables path segment (Some first) = last_segment tables first.table first.at ≡ segment
-IsFirst tables path segment None = is_predefined path ≡ true
+-- a name's last segment is that of the refused one, where that has one
+abbrev pub IsSameSegment : Option (List ℕ) → Option (List ℕ) → Type 0
+IsSameSegment None segment = Unit {0}
+IsSameSegment (Some refused) segment = segment ≡ Some refused
 
--- the path told ends in the last segment of the refused name, and so does the name that stands at
--- its first place
+-- a path ends in the last segment of the name at its first place, which is that of the refused
+-- name; a path that has none is predefined
+abbrev pub IsFirst : List (List ℕ) → List ℕ → Option (List ℕ) → Option Place → Type 0
+IsFirst tables path refused (Some first) =
+    let segment = last_segment tables first.table first.at in
+    IsSameSegment refused segment × EndsIn segment path
+IsFirst tables path refused None = is_predefined path ≡ true
+
+-- the path told ends in the last segment of the refused name, where that has one, and in that of
+-- the name that stands at its first place
 abbrev pub HaveOneSegment : List (List ℕ) → Place → Found → Type 0
 HaveOneSegment tables refused (Twice path first) =
     let segment = last_segment tables refused.table refused.at in

@@ -3,7 +3,7 @@
 
 ghost use Rattle.std.specs.Prelude.{◌≡◌, ◌∷◌, ◌++◌, [], IfOk, IfSome, OnOk, Some, map, true, vec_items, vec_len};
 ghost use Rattle.std.specs.Option.{option_map};
-ghost use Rattle.acpi_notes.specs.Definitions.{EndsIn, HaveOneSegment, IsEndAt, IsRepeat, is_predefined, last_segment, place_of};
+ghost use Rattle.acpi_notes.specs.Definitions.{EndsIn, HaveOneSegment, IsEndAt, IsFirst, IsRepeat, is_predefined, last_segment, place_of};
 
 use aml_lex::{NameRef, NameSeg, name_there};
 use aml_tree::{Op, Term, TreeFault, read_module};
@@ -319,18 +319,23 @@ impl Paths {
         }
     }
 
-    /// Makes another path of an object.
+    /// Makes another path of an object, which is missed only where the path may be made. The root is
+    /// no object.
     fn alias(&mut self, scope: usize, source: &Named<'_>, named: &Named<'_>) -> Result<(), End> {
-        let Some(path) = self.resolved(scope, &source.name) else {
-            return Err(self.miss(scope, source, source.name.segs()));
+        let found = match self.resolved(scope, &source.name) {
+            Some(path) if path > 0 => self.known.get(path).copied(),
+            _ => None,
         };
-        let (object, holds) = match self.known.get(path) {
-            Some(known) => (known.object, known.holds),
-            None => (path, false),
+        let holds = match found {
+            Some(known) => known.holds,
+            None => false,
         };
         let number = self.enter(scope, named, holds)?;
+        let Some(found) = found else {
+            return Err(self.miss(scope, source, source.name.segs()));
+        };
         if let Some(known) = self.known.get_mut(number) {
-            known.object = object;
+            known.object = found.object;
         }
         Ok(())
     }
@@ -501,8 +506,22 @@ fn ends_in(path: &[u8], segment: Option<NameSeg>) -> bool
     }
 }
 
-/// Whether the names of a path that is defined twice have one last segment, in which it ends; and
-/// whether one that no table defines is predefined.
+/// Whether a path ends in the last segment of the name that stands at its first place, which is that
+/// of the refused name where it has one.
+fn is_first(tables: &[Vec<u8>], path: &[u8], refused: Option<NameSeg>, first: Place) -> bool
+    ensures { result ≡ true → IsFirst (map vec_items tables.now) path.now
+        (option_map (λ segment. segment.bytes) refused) (Some first) }
+{
+    let segment = last_segment(tables, first);
+    let is_same = match refused {
+        Some(_) => segment == refused,
+        None => true,
+    };
+    is_same && ends_in(path, segment)
+}
+
+/// Whether a path that is defined twice ends in the last segments of both names; and whether one
+/// that no table defines is predefined.
 fn have_one_segment(tables: &[Vec<u8>], refused: Place, found: &Found) -> bool
     ensures { result ≡ true → HaveOneSegment (map vec_items tables.now) refused found.now }
 {
@@ -510,7 +529,7 @@ fn have_one_segment(tables: &[Vec<u8>], refused: Place, found: &Found) -> bool
         Found::Twice { path, first } => {
             let segment = last_segment(tables, refused);
             let known = match first {
-                Some(first) => last_segment(tables, *first) == segment,
+                Some(first) => is_first(tables, path.as_bytes(), segment, *first),
                 None => is_predefined(path.as_str()),
             };
             known && ends_in(path.as_bytes(), segment)

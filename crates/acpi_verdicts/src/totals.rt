@@ -119,7 +119,8 @@ fn count_of(checked: &Checked<'_>, why: &str) -> usize
     count
 }
 
-// Why the method with a number is refused, in a few words; nothing where it is accepted.
+// Why the method with a number is refused, in a few words; nothing where it is accepted, or where
+// nothing is said of it.
 fn why_text(checked: &Checked<'_>, id: ObjectId) -> &'static str
     ensures { result.now ≡ why_text (said_of checked.now id.0) }
 {
