@@ -5,12 +5,13 @@
     python3 bench/proof_times.py acpi_words words::command
 
 The crate is proved anew in a folder of its own, with its tests where that is asked for, over the libraries that
-`make test` or `rt check` left; with PATHS the functions alone that they name. Told are the seconds of those that took
-longest, by the wall's clock. The first has the start of the check with it, and a function of a cycle of calls the whole cycle.
+`make test` or `rt check` left; with PATHS the functions alone that they name, and those that they call. Told are the
+seconds of those that took longest, by the wall's clock. A function has with it what was read before it and by none
+before: the start of the check, specifications, lemmas and laws. So look at one that stands out alone, by its PATH, before
+its goals are blamed. A function of a cycle of calls has the whole cycle.
 
 A goal without an answer is tried by one tactic after another. One that only the last of them closes takes as long as all
-of them together, a minute at worst, where an answer that says what the goal follows from takes less than a second. So a
-function that stands out here wants its goals answered.
+of them together, a minute at worst, where an answer that says what the goal follows from takes less than a second.
 """
 import subprocess
 import sys
