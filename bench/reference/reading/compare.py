@@ -13,6 +13,7 @@
 | `arity` | how many terms a name takes: methods, aliases, Externals, own names, in scopes of several tables |
 | `settled` | what regions, index, bank and buffer fields and package elements name once all tables are loaded |
 | `notes` | what people are told of definitions that are refused |
+| `asked` | what people are told of paths that are no method's |
 | `texts` | `eval` with `--args`, `--regs`, `--kinds`, `--plain`, `--osi`, by files and by standard input |
 
 Each difference is told with its bytes and both outputs, made smaller where that is easy; behind M of them, 20 if it is
@@ -39,7 +40,7 @@ TOP = os.path.dirname(os.path.dirname(os.path.dirname(os.path.dirname(os.path.ab
 PROGRAM = f"{TOP}/crates/acpicheck/out/acpicheck"
 SECONDS = 30
 # Behind so many cases the time is looked at; a case of some is many bodies, and one of `short` has all short ones first.
-CASES_AT_ONCE = {"bodies": 450, "short": 450, "places": 20, "arity": 5, "settled": 20}
+CASES_AT_ONCE = {"bodies": 450, "short": 450, "places": 20, "arity": 5, "settled": 20, "asked": 5}
 FOREVER = 10**6
 BODIES_PER_TABLE = 150
 WORKERS = 4
@@ -552,7 +553,8 @@ def main():
     import compare_texts
     compares = {"tables": compare_tables, "names": compare_names, "bodies": compare_bodies, "arity": compare_arity,
                 "short": compare_short, "places": compare_places, "texts": compare_texts.compare_texts,
-                "notes": compare_notes.compare_notes, "settled": compare_texts.compare_settled}
+                "notes": compare_notes.compare_notes, "asked": compare_notes.compare_asked,
+                "settled": compare_texts.compare_settled}
     words = words_of(__doc__)
     words.add_argument("--what", default="names", choices=compares)
     words.add_argument("--cases", type=int, default=1000)
