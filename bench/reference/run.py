@@ -18,7 +18,7 @@ PROGRAM = f"{os.path.dirname(os.path.dirname(HERE))}/crates/acpicheck/out/acpich
 SEED = "1"
 MANY = "1000000"
 # All short bodies take minutes, so that `short` is left out.
-READING = ["tables", "names", "bodies", "places", "arity", "settled", "notes", "asked", "texts"]
+READING = ["tables", "names", "bodies", "places", "arity", "settled", "notes", "asked", "folders", "texts"]
 # Of each reading its comparisons: a script and its words.
 COMPARISONS = {
     "verdicts": [["compare.py", "--methods", "60", "--tables", MANY, "--seed", SEED], ["graph.py", "--seed", SEED]],

@@ -14,6 +14,7 @@
 | `settled` | what regions, index, bank and buffer fields and package elements name once all tables are loaded |
 | `notes` | what people are told of definitions that are refused |
 | `asked` | what people are told of paths that are no method's |
+| `folders` | which files of a folder are taken, in which order, and which are told as passed over |
 | `texts` | `eval` with `--args`, `--regs`, `--kinds`, `--plain`, `--osi`, by files and by standard input |
 
 Each difference is told with its bytes and both outputs, made smaller where that is easy; behind M of them, 20 if it is
@@ -548,13 +549,14 @@ def given_words(words):
 
 
 def main():
-    # The second stands on this file, so it can't be read before this one was.
+    # Two of these stand on this file, so they can't be read before this one was.
+    import compare_folders
     import compare_notes
     import compare_texts
     compares = {"tables": compare_tables, "names": compare_names, "bodies": compare_bodies, "arity": compare_arity,
                 "short": compare_short, "places": compare_places, "texts": compare_texts.compare_texts,
                 "notes": compare_notes.compare_notes, "asked": compare_notes.compare_asked,
-                "settled": compare_texts.compare_settled}
+                "folders": compare_folders.compare_folders, "settled": compare_texts.compare_settled}
     words = words_of(__doc__)
     words.add_argument("--what", default="names", choices=compares)
     words.add_argument("--cases", type=int, default=1000)
