@@ -4,7 +4,8 @@ ghost use Rattle.std.specs.Prelude.{◌≡◌, ◌≤◌, [], Ok, Some, IfOk, op
 ghost use Rattle.acpi_listing.specs.Commands.{ListsGiven, ListsItems, ListsLoaded, ListsResources, ListsTables, SpellsNoItems, octets_of};
 ghost use Rattle.acpi_sources.specs.Inputs.{tables_of};
 ghost use Rattle.acpi_listing.specs.Steps.{Tells, Writes};
-ghost use Rattle.acpi_sources.specs.Faults.{Tries};
+ghost use Rattle.acpi_sources.specs.Faults.{Tries, nowhere};
+ghost use Rattle.acpi_sources.specs.declared.fault.FaultCause.TheVariants as cause;
 ghost use Rattle.acpi_resource_text.specs.Lines.{items_text};
 ghost use Rattle.acpi_resources.specs.Items.{items_of};
 ghost use Rattle.aml_namespace.specs.Shows.{shown};
@@ -19,7 +20,7 @@ use crate::objects::{find_object, given_over};
 use crate::regs::read_registers;
 use crate::signed::read_signatures;
 use crate::stop::Stop;
-use crate::tell::tell_reason;
+use crate::tell::{tell_descriptors, tell_reason};
 use crate::verify::verdicts_on;
 use acpi_objects::Given;
 use acpi_resource_text::list_resources;
@@ -117,8 +118,8 @@ fn list_given<N: Notes, W: Write>(
         tt tt (W.contents out.old) (W.contents out.new) result }
 {
     match given {
-        Given::Value(value) => list_items(alloc, out, octets_of(value)),
-        Given::Nothing => list_items(alloc, out, None),
+        Given::Value(value) => list_items(alloc, request.object, octets_of(value), notes, out),
+        Given::Nothing => list_items(alloc, request.object, None, notes, out),
         Given::Refused => {
             let names = request.inputs.files.as_slice();
             tell_reason(alloc, notes, checked, names, id);
@@ -137,26 +138,65 @@ fn octets_of(value: &Value) -> Option<&[u8]>
     }
 }
 
-// Prints the items that bytes spell, where there are bytes.
-fn list_items<W: Write>(alloc: Global, out: &mut W, octets: Option<&[u8]>) -> Result<u8, Stop>
+// Prints the items that the bytes spell which an object gives, where it gives bytes.
+fn list_items<N: Notes, W: Write>(
+    alloc: Global,
+    object: &str,
+    octets: Option<&[u8]>,
+    notes: &N,
+    out: &mut W,
+) -> Result<u8, Stop>
     ensures status { IfOk result (λ status. status ≤ 3) }
     ensures printed { Writes (ListsItems (option_map (λ octets. octets.now) octets.entry))
         tt tt (W.contents out.old) (W.contents out.new) result }
 {
     match octets {
-        Some(octets) => list_spelled(alloc, out, octets),
-        None => Err(Stop::Fault(Fault::nowhere(FaultCause::NotBuffer))),
+        Some(octets) => list_spelled(alloc, object, octets, notes, out),
+        None => Err(Stop::Fault(no_buffer(notes))),
     }
 }
 
+// What the object gave is no buffer.
+fn no_buffer<N: Notes>(notes: &N) -> Fault
+    ensures { result ≡ nowhere cause.NotBuffer }
+{
+    notes.tell(
+        "the object gives no buffer: ask for a _CRS, a _PRS, or another object that gives resource descriptors",
+    );
+    Fault::nowhere(FaultCause::NotBuffer)
+}
+
 // Prints the items that bytes spell.
-fn list_spelled<W: Write>(alloc: Global, out: &mut W, octets: &[u8]) -> Result<u8, Stop>
+fn list_spelled<N: Notes, W: Write>(
+    alloc: Global,
+    object: &str,
+    octets: &[u8],
+    notes: &N,
+    out: &mut W,
+) -> Result<u8, Stop>
     ensures status { IfOk result (λ status. status ≤ 3) }
     ensures printed { Writes (ListsItems (Some octets.now))
         tt tt (W.contents out.old) (W.contents out.new) result }
 {
-    let items = items_in(alloc, octets)?;
+    let items = spelled_items(alloc, object, octets, notes)?;
     tell_items(alloc, out, items.as_slice())
+}
+
+// The items that bytes spell; people are told why there are none.
+fn spelled_items<N: Notes>(
+    alloc: Global,
+    object: &str,
+    octets: &[u8],
+    notes: &N,
+) -> Result<Vec<Item>, Fault>
+    ensures { Tries (λ items. items_of octets.now ≡ Ok (vec_items items)) (SpellsNoItems octets.now)
+        result }
+{
+    let found = items_in(alloc, octets);
+    if let Err(fault) = &found {
+        tell_descriptors(alloc, notes, object, octets, *fault);
+    }
+    found
 }
 
 // The items that bytes spell.

@@ -4,7 +4,8 @@ use acpi_notes::{
     Files, WantedTable, argument_note, count_note, file_label, greatest_note, help_of, load_note,
     object_note, registers_note, signatures_note, table_note,
 };
-use acpi_resources::{Item, RouteCause};
+use acpi_resource_text::refusal_note;
+use acpi_resources::{Item, ResourceRefusal, RouteCause};
 use acpi_routing::{LinkRefusal, entry_note, link_text, source_text};
 use acpi_sources::{Fault, FaultCause, Where};
 use acpi_tables::TableFault;
@@ -198,6 +199,20 @@ pub(crate) fn tell_madt<N: Notes>(
         notes,
         table_note(alloc, label, bytes, fault, WantedTable::Madt),
     );
+}
+
+/// Of bytes which an object gives and which are no list of resource descriptors.
+pub(crate) fn tell_descriptors<N: Notes>(
+    alloc: Global,
+    notes: &N,
+    object: &str,
+    octets: &[u8],
+    fault: Fault,
+) {
+    if let (FaultCause::Resources(cause), Where::Byte(at)) = (fault.cause, fault.at) {
+        let refusal = ResourceRefusal { cause, at };
+        tell(notes, refusal_note(alloc, object, octets.len(), refusal));
+    }
 }
 
 /// Of a link whose `_CRS` gives bytes that are no list of resource descriptors.

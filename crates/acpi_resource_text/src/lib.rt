@@ -2,10 +2,12 @@
 #![tactic(auto)]
 
 mod lines;
+mod notes;
 mod numbers;
 mod resources;
 mod route_lines;
 mod words;
 
+pub use notes::refusal_note;
 pub use resources::list_resources;
 pub use route_lines::list_routes;
