@@ -31,7 +31,9 @@ use crate::load::load_counted;
 use crate::regs::read_registers;
 use crate::signed::read_signatures;
 use crate::stop::Stop;
-use crate::tell::{tell_argument, tell_misfit, tell_object, tell_plain, tell_reason, tell_untold};
+use crate::tell::{
+    tell_argument, tell_error, tell_misfit, tell_object, tell_plain, tell_reason, tell_untold,
+};
 use crate::verify::verdicts_on;
 use acpi_sources::{Fault, FaultCause, Inputs, Source};
 use acpi_text::{RunFault, list_evaluation, list_events, list_refusal};
@@ -149,7 +151,7 @@ fn evaluate_inputs<N: Notes, W: Write>(
         Some(steps) => {
             evaluate_method(
                 alloc,
-                request.method,
+                request,
                 &namespace,
                 id,
                 method,
@@ -249,7 +251,7 @@ fn is_accepted(checked: &Checked<'_>, id: ObjectId) -> bool
 // Evaluates a method with so many steps.
 fn evaluate_method<N: Notes, W: Write>(
     alloc: Global,
-    word: &str,
+    request: &EvalRequest<'_>,
     namespace: &Namespace<'_>,
     id: ObjectId,
     method: Method,
@@ -274,7 +276,14 @@ fn evaluate_method<N: Notes, W: Write>(
         }
     };
     if !fits(namespace, method, &given.arguments) {
-        tell_misfit(alloc, notes, namespace, word, method, &given.arguments);
+        tell_misfit(
+            alloc,
+            notes,
+            namespace,
+            request.method,
+            method,
+            &given.arguments,
+        );
         return Err(Stop::Fault(Fault::nowhere(FaultCause::ArgsDontFit)));
     }
     let mut world = given.registers;
@@ -287,6 +296,8 @@ fn evaluate_method<N: Notes, W: Write>(
         &mut world,
         steps,
     )?;
+    let names = request.inputs.files.as_slice();
+    tell_error(alloc, notes, namespace, names, &outcome);
     tell_outcome(alloc, out, namespace, &outcome, world.events())
 }
 

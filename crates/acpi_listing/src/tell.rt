@@ -9,10 +9,11 @@ use acpi_resources::{Item, ResourceRefusal, RouteCause};
 use acpi_routing::{LinkRefusal, entry_note, link_text, source_text};
 use acpi_sources::{Fault, FaultCause, Where};
 use acpi_tables::TableFault;
-use acpi_verdicts::{any_refused, explain, summary};
+use acpi_verdicts::{any_refused, error_text, explain, summary};
 use acpi_words::{Notes, bad_argument, words_error};
 use aml_causes::Cause;
 use aml_externals::is_dead_if;
+use aml_meaning::Outcome;
 use aml_namespace::{LoadCause, LoadRefusal, Method, Namespace};
 use aml_paths::ObjectId;
 use aml_tree::TreeCause;
@@ -147,6 +148,21 @@ pub(crate) fn tell_reason<N: Notes>(
             notes.tell("out of memory");
             false
         }
+    }
+}
+
+/// Of an evaluation that an AML error ended what it met, with the files by their names.
+pub(crate) fn tell_error<N: Notes>(
+    alloc: Global,
+    notes: &N,
+    namespace: &Namespace<'_>,
+    names: &[&str],
+    outcome: &Outcome,
+) {
+    if let Outcome::AmlError(error) = outcome
+        && let Ok(text) = error_text(alloc, namespace, names, *error)
+    {
+        tell_lines(notes, &text);
     }
 }
 

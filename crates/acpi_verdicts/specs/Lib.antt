@@ -4,4 +4,5 @@ pub mod Findings
 pub mod About
 pub mod Outside
 pub mod Explained
+pub mod Errors
 pub mod Totals

@@ -136,8 +136,8 @@ fn push_reason(
     }
 }
 
-// How the file with a number is called.
-fn label_of(alloc: Global, names: &[&str], number: usize) -> Result<String, AllocError>
+/// How the file with a number is called.
+pub(crate) fn label_of(alloc: Global, names: &[&str], number: usize) -> Result<String, AllocError>
     ensures { IfOk result (λ label. string_bytes label
         ≡ label_of (map (λ name. name.now) names.now) number) }
 {

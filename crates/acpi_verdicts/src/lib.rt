@@ -5,10 +5,11 @@
 //! causes mean, `findings` what was found there and what was wanted, `outside` what is wanted of
 //! what has no meaning, `about` the region or the method that a cause is about, `explained` what is
 //! told of a refused method and of those that it calls, `totals` how many methods are refused for
-//! which cause.
+//! which cause, `errors` what is told of an AML error that ends an evaluation.
 #![tactic(auto)]
 
 mod about;
+mod errors;
 mod explained;
 mod findings;
 mod listed;
@@ -16,6 +17,7 @@ mod outside;
 mod totals;
 mod words;
 
+pub use errors::error_text;
 pub use explained::explain;
 pub use listed::{any_refused, list_said, list_verdicts};
 pub use totals::summary;
