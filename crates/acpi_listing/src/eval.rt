@@ -150,15 +150,7 @@ fn evaluate_inputs<N: Notes, W: Write>(
     match request.steps {
         Some(steps) => {
             evaluate_method(
-                alloc,
-                request,
-                &namespace,
-                id,
-                method,
-                given,
-                steps,
-                notes,
-                out,
+                alloc, request, &namespace, id, method, given, steps, notes, out,
             )
         }
         None => evaluate_judged(

@@ -63,7 +63,8 @@ fn error_words(cause: AmlCause) -> &'static str
         AmlCause::Region => {
             "a region, a field, an access or an address space that cannot be read and written here, or a unit outside its region"
         }
-        AmlCause::NoValue => "a value is wanted of a call, and the method that is called gives none",
+        AmlCause::NoValue =>
+            "a value is wanted of a call, and the method that is called gives none",
         AmlCause::Depth => "a 65th method within the others",
         AmlCause::Level => "a mutex is taken whose sync level is below that of one that is held",
         AmlCause::NotHeld => {
