@@ -159,10 +159,12 @@ pub(crate) fn tell_error<N: Notes>(
     names: &[&str],
     outcome: &Outcome,
 ) {
-    if let Outcome::AmlError(error) = outcome
-        && let Ok(text) = error_text(alloc, namespace, names, *error)
-    {
-        tell_lines(notes, &text);
+    let Outcome::AmlError(error) = outcome else {
+        return;
+    };
+    match error_text(alloc, namespace, names, *error) {
+        Ok(text) => tell_lines(notes, &text),
+        Err(_) => notes.tell("out of memory"),
     }
 }
 
