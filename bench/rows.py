@@ -52,7 +52,7 @@ OUTPUT is the lines of standard output with `; ` between each two; `+ ` at a lin
 ` *N` behind a line for N of it; `-` alone is no line. The status must be that of the last line: 2 of E520, 1 of
 another fault, 3 of an error and `out of steps`, else 0; but 3 where any line is that of a refused method and the last
 one is no fault. Standard error must be empty where the status is 0 or 3, but where a method that `eval`, `resources` or
-`routing` judged is refused: of that people must be told why.
+`routing` judged is refused, or an AML error ended the evaluation: of that people must be told why.
 
 The program is the one that `rt ci` leaves in crates/acpicheck/out, or the one at PATH. FILE is a path; without any, all
 files are taken.
