@@ -9,6 +9,7 @@ use acpi_resources::{Item, ResourceRefusal, RouteCause};
 use acpi_routing::{LinkRefusal, entry_note, link_text, source_text};
 use acpi_sources::{Fault, FaultCause, Where};
 use acpi_tables::TableFault;
+use acpi_text::RunFault;
 use acpi_verdicts::{any_refused, error_text, explain, summary};
 use acpi_words::{Notes, bad_argument, words_error};
 use aml_causes::Cause;
@@ -124,10 +125,7 @@ pub(crate) fn tell_summary<N: Notes>(alloc: Global, notes: &N, checked: &Checked
     if !any_refused(checked) {
         return;
     }
-    match summary(alloc, checked) {
-        Ok(text) => tell_lines(notes, &text),
-        Err(_) => notes.tell("out of memory"),
-    }
+    tell_made(notes, summary(alloc, checked));
 }
 
 /// Of a method that is refused why it is, with the files by their names; whether there was memory
@@ -139,16 +137,7 @@ pub(crate) fn tell_reason<N: Notes>(
     names: &[&str],
     id: ObjectId,
 ) -> bool {
-    match explain(alloc, checked, names, id) {
-        Ok(text) => {
-            tell_lines(notes, &text);
-            true
-        }
-        Err(_) => {
-            notes.tell("out of memory");
-            false
-        }
-    }
+    tell_made(notes, explain(alloc, checked, names, id))
 }
 
 /// Of an evaluation that an AML error ended what it met, with the files by their names.
@@ -162,10 +151,7 @@ pub(crate) fn tell_error<N: Notes>(
     let Outcome::AmlError(error) = outcome else {
         return;
     };
-    match error_text(alloc, namespace, names, *error) {
-        Ok(text) => tell_lines(notes, &text),
-        Err(_) => notes.tell("out of memory"),
-    }
+    tell_made(notes, error_text(alloc, namespace, names, *error));
 }
 
 /// Of a method that is refused, and so is not evaluated: how it is evaluated all the same.
@@ -262,6 +248,20 @@ pub(crate) fn tell_route<N: Notes>(
         tell(notes, entry_note(alloc, element));
     } else if let Ok(text) = source_text(alloc, checked, names, prt, links, element) {
         tell_lines(notes, &text);
+    }
+}
+
+// Tells lines that were made, or that memory was wanted for them; whether there was memory.
+fn tell_made<N: Notes>(notes: &N, made: Result<Vec<u8>, RunFault>) -> bool {
+    match made {
+        Ok(text) => {
+            tell_lines(notes, &text);
+            true
+        }
+        Err(_) => {
+            notes.tell("out of memory");
+            false
+        }
     }
 }
 

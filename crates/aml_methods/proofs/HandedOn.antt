@@ -1,15 +1,14 @@
 -- The statements of one body more are handed on.
-use Rattle.std.proofs.Common.{◌≡◌, ◌≢◌, ◌<◌, ◌≤◌, ℕ, List, length, map, set, get_or, Option, Some, None, ◌⊎◌, inl, inr, refl, sym, subst, ◌∙◌, arith}
-use Rattle.std.proofs.lemmas.Bool.{eqb-true}
+use Rattle.std.proofs.Common.{◌≡◌, ◌≢◌, ◌<◌, ◌≤◌, ℕ, List, length, map, set, get_or, Option, Some, None, ◌⊎◌, inl, inr, sym, subst, ◌∙◌, arith}
 use Rattle.std.proofs.lemmas.List.{get_or-set_other, get_or-set_same, get_or_past, length-set}
 use Rattle.std.proofs.lemmas.Option.{same_Some, unwrap_or-slice_get}
-use Rattle.std.specs.Prelude.{Bool, true, false, ◌==◌, Vec}
+use Rattle.std.specs.Prelude.{Vec}
 use Rattle.std.specs.declared.alloc.Global.{Global}
 use Rattle.aml_bodies.specs.Methods.{AreStatementsOf}
-use Rattle.aml_calls.proofs.Among.{same_number}
 use Rattle.aml_namespace.specs.Load.{Shown}
 use Rattle.aml_operators.specs.declared.term.Term.{Term}
 use Rattle.aml_operators.specs.Tree.{view}
+use Rattle.aml_methods.proofs.Places.{by_same}
 use Rattle.aml_methods.specs.HandedOn.{AreTrees, tree_at}
 
 tree_get : (ts : List (Option (Vec Term Global))) (k : ℕ) → tree_at ts k ≡ get_or ts k None
@@ -32,14 +31,6 @@ nothing (Some x) one e f = absurd cc
 -- where none is there, all are right
 pub no_trees : (ns : Shown) (ts : List (Option (Vec Term Global))) → ((k : ℕ) → tree_at ts k ≡ None) → AreTrees ns ts
 no_trees ns ts none = record { are = λ k body e. absurd (nothing (tree_at ts k) body e (none k)) }
-
--- by whether a number is another
-by_same : (P : Type 0) (i k : ℕ) → (i ≡ k → P) → (i ≢ k → P) → P
-by_same P i k same other = by (i == k) refl
-  where
-    by : (b : Bool) → (i == k) ≡ b → P
-    by true e = same (eqb-true i k e)
-    by false e = other (λ eq. let bad : true ≡ false = sym (subst (λ n. (n == k) ≡ true) (sym eq) (same_number k)) ∙ e in cc)
 
 module _ (ns : Shown) (ts : List (Option (Vec Term Global))) (k : ℕ) (body : Vec Term Global) (read : AreStatementsOf ns k (map view body.items)) where
   tree_here : (x : Vec Term Global) → tree_at (set ts k (Some body)) k ≡ Some x → AreStatementsOf ns k (map view x.items)

@@ -2,3 +2,5 @@ pub mod Judgings
 pub mod Calls
 pub mod JudgingsThere
 pub mod HandedOn
+pub mod Places
+pub mod Keeping

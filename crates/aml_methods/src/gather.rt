@@ -1,49 +1,38 @@
-// What bodies call, and the shapes of their literals.
+// What bodies call, the shapes of their literals, and what is kept of them.
 
 ghost use Rattle.std.specs.Prelude.{◌≡◌, ◌++◌, ◌∷◌, [], IfOk, OnOk, map};
+ghost use Rattle.aml_bodies.specs.Kept.{AreAllKept, AreKept};
 ghost use Rattle.aml_calls.specs.Calls.{called_by, calls_in_term, calls_of};
 ghost use Rattle.aml_calls.specs.Pairs.{numbers};
 ghost use Rattle.aml_namespace.specs.Shows.{shown};
 ghost use Rattle.aml_objects.specs.LookUp.{methods_in};
 ghost use Rattle.aml_operators.specs.Tree.{view, views};
 ghost use Rattle.aml_meaning.specs.Actions as actions;
-ghost use Rattle.aml_methods.specs.Gathered.{AreCalls, if_any, IsCalledFrom, links_of};
+ghost use Rattle.aml_methods.specs.Gathered.{AreCalls, if_any, IsCalledFrom, IsFoundOf, links_of};
 ghost use Rattle.aml_methods.specs.HandedOn.{AreTrees};
 
+use crate::kept::{keep_one, none_kept};
+use crate::named::Named;
 use crate::trees::Trees;
+use aml_bodies::{Kept, keep_body};
 use aml_meaning::{Action, action_of};
 use aml_namespace::{Link, Namespace};
 use aml_operators::Term;
-use aml_own_names::OwnNames;
 use aml_paths::{NoMemory, ObjectId};
 use aml_shapes::ShapeTable;
 use aml_tree::TreeFault;
 use std::alloc::Global;
 
-/// Where a body stands whose calls are gathered.
-#[derive(Clone, Copy)]
-struct Place<'a> {
-    namespace: &'a Namespace<'a>,
-    method: ObjectId,
-    bytes: &'a [u8],
-    owns: &'a OwnNames,
-}
-
-impl Place<'_> {
+impl Named<'_, '_> {
     /// The method that an operator calls, if it calls one.
     fn callee(&self, action: Action, parts: &[Term]) -> Option<ObjectId>
         ensures { if_any result ≡ called_by (links_of self.now) action (views parts.now) }
     {
         match (action, parts) {
-            (Action::Invoke, [name, ..]) => {
-                match self
-                    .namespace
-                    .link_with_owns(self.method, self.bytes, self.owns, name.at)
-                {
-                    Link::Method(id) => Some(id),
-                    _ => None,
-                }
-            }
+            (Action::Invoke, [name, ..]) => match self.link(name.at) {
+                Link::Method(id) => Some(id),
+                _ => None,
+            },
             _ => None,
         }
     }
@@ -54,17 +43,17 @@ impl Place<'_> {
 #[cycle(gather)]
 fn gather_all(
     alloc: Global,
-    place: Place<'_>,
+    names: Named<'_, '_>,
     inside: bool,
     terms: &[Term],
     shapes: &mut ShapeTable,
     callees: &mut Vec<ObjectId>,
 ) -> Result<(), NoMemory>
     ensures { OnOk result (numbers callees.new.items
-        ≡ numbers callees.old.items ++ calls_of (links_of place.entry) (views terms.now)) }
+        ≡ numbers callees.old.items ++ calls_of (links_of names.entry) (views terms.now)) }
 {
     for term in terms {
-        gather(alloc, place, inside, term, shapes, callees)?;
+        gather(alloc, names, inside, term, shapes, callees)?;
     }
     Ok(())
 }
@@ -73,14 +62,14 @@ fn gather_all(
 #[cycle(gather)]
 fn gather(
     alloc: Global,
-    place: Place<'_>,
+    names: Named<'_, '_>,
     inside: bool,
     term: &Term,
     shapes: &mut ShapeTable,
     callees: &mut Vec<ObjectId>,
 ) -> Result<(), NoMemory>
     ensures { OnOk result (numbers callees.new.items
-        ≡ numbers callees.old.items ++ calls_in_term (links_of place.entry) (view term.now)) }
+        ≡ numbers callees.old.items ++ calls_in_term (links_of names.entry) (view term.now)) }
 {
     let parts = term.parts.as_slice();
     // What has no parts calls nothing, and is no literal of data.
@@ -88,12 +77,12 @@ fn gather(
         return Ok(());
     }
     let action = action_of(term.op);
-    push(callees, place.callee(action, parts))?;
+    push(callees, names.callee(action, parts))?;
     let literal = matches!(action, Action::Data(_));
     if literal && !inside {
-        shapes.intern(alloc, place.namespace.width(), term.op, parts)?;
+        shapes.intern(alloc, names.namespace.width(), term.op, parts)?;
     }
-    gather_all(alloc, place, inside || literal, parts, shapes, callees)
+    gather_all(alloc, names, inside || literal, parts, shapes, callees)
 }
 
 /// Adds the method that is called behind some, if one is.
@@ -110,46 +99,58 @@ fn push(callees: &mut Vec<ObjectId>, callee: Option<ObjectId>) -> Result<(), NoM
     }
 }
 
-/// The methods that a method's body calls; none where it cannot be read. The shapes of its literals
-/// of data are added where the table does not have them, and its statements are handed on where
-/// there is room.
-fn callees_of(
+/// What is found of a method's body, which is read: the methods that it calls, and what is kept of
+/// it. It calls none, and nothing is kept, where it cannot be read. The shapes of its literals of
+/// data are added where the table does not have them, and its statements are handed on where there
+/// is room.
+fn read_once(
     alloc: Global,
     namespace: &Namespace<'_>,
     id: ObjectId,
     shapes: &mut ShapeTable,
     trees: &mut Trees,
-) -> Result<Vec<ObjectId>, NoMemory>
-    ensures called { IfOk result (λ callees.
-        IsCalledFrom (shown namespace.now) id.0 (numbers callees.items)) }
+) -> Result<(Vec<ObjectId>, Option<Kept>), NoMemory>
+    ensures called { IfOk result (λ f.
+        IsCalledFrom (shown namespace.now) id.0 (numbers f.0.items)) }
+    ensures kept { IfOk result (λ f. IsFoundOf (shown namespace.now) id.0 f.1) }
     ensures trees { AreTrees (shown namespace.now) trees.old.bodies.items →
         AreTrees (shown namespace.now) trees.new.bodies.items }
 {
     let mut callees = Vec::new(alloc);
     if namespace.method(id).is_none() {
-        return Ok(callees);
+        return Ok((callees, None));
     }
     let body = match namespace.tree(alloc, id) {
         Ok(body) => body,
-        Err(TreeFault::Refused(_)) => return Ok(callees),
+        Err(TreeFault::Refused(_)) => return Ok((callees, None)),
         Err(TreeFault::NoMemory) => return Err(NoMemory),
     };
-    let bytes = namespace.body_bytes(id);
-    let owns = OwnNames::of(alloc, bytes, &body)?;
-    let place = Place {
+    let kept = keep_body(alloc, namespace, id, &body)?;
+    let names = Named {
         namespace,
         method: id,
-        bytes,
-        owns: &owns,
+        bytes: namespace.body_bytes(id),
+        owns: &kept.owns,
+        links: &kept.links,
     };
-    gather_all(alloc, place, false, &body, shapes, &mut callees)?;
+    gather_all(alloc, names, false, &body, shapes, &mut callees)?;
     trees.keep(id, body);
-    Ok(callees)
+    Ok((callees, Some(kept)))
 }
 
-/// Each method with those that it calls, in order of definition; none where its body cannot be
-/// read. The shapes of their literals of data are added where the table does not have them. Each
-/// body is read, and its statements are handed on where there is room for them.
+/// What is gathered of the methods of a namespace.
+#[derive(Drop)]
+pub struct Gathering {
+    /// Each method with those that it calls, in order of definition.
+    pub calls: Vec<(ObjectId, Vec<ObjectId>)>,
+    /// What is kept of the methods' bodies, by the numbers of their objects.
+    pub kept: Vec<Option<Kept>>,
+}
+
+/// Each method with those that it calls, in order of definition, and what is kept of its body; it
+/// calls none, and nothing is kept, where its body cannot be read. The shapes of their literals of
+/// data are added where the table does not have them. Each body is read, its names are looked up,
+/// and its statements are handed on where there is room for them.
 ///
 /// # Errors
 ///
@@ -159,22 +160,26 @@ pub fn gathered(
     namespace: &Namespace<'_>,
     shapes: &mut ShapeTable,
     trees: &mut Trees,
-) -> Result<Vec<(ObjectId, Vec<ObjectId>)>, NoMemory>
-    ensures calls { IfOk result (λ pairs. AreCalls (shown namespace.now) pairs.items) }
-    ensures order { IfOk result (λ pairs.
-        map (λ p. p.0) pairs.items ≡ methods_in (shown namespace.now).entries) }
+) -> Result<Gathering, NoMemory>
+    ensures calls { IfOk result (λ g. AreCalls (shown namespace.now) g.calls.items) }
+    ensures order { IfOk result (λ g.
+        map (λ p. p.0) g.calls.items ≡ methods_in (shown namespace.now).entries) }
+    ensures kept { IfOk result (λ g. AreKept (shown namespace.now) g.kept.items) }
+    ensures all_kept { IfOk result (λ g. AreAllKept (shown namespace.now) g.kept.items) }
     ensures trees { AreTrees (shown namespace.now) trees.old.bodies.items →
         AreTrees (shown namespace.now) trees.new.bodies.items }
 {
     let methods = namespace.methods();
-    let Ok(mut pairs) = Vec::with_capacity(alloc, methods.len()) else {
+    let Ok(mut calls) = Vec::with_capacity(alloc, methods.len()) else {
         return Err(NoMemory);
     };
+    let mut kept = none_kept(alloc, namespace.len())?;
     for id in methods {
-        let callees = callees_of(alloc, namespace, *id, shapes, trees)?;
-        keep(&mut pairs, *id, callees)?;
+        let (callees, one) = read_once(alloc, namespace, *id, shapes, trees)?;
+        keep(&mut calls, *id, callees)?;
+        keep_one(&mut kept, *id, one);
     }
-    Ok(pairs)
+    Ok(Gathering { calls, kept })
 }
 
 /// Adds a method with those that it calls.

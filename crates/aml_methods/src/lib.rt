@@ -1,16 +1,20 @@
-//! The methods of a namespace before they are judged: what each calls, the shapes of its literals,
-//! and the kinds of its arguments.
+//! The methods of a namespace before they are judged: what each calls, what its names mean, the
+//! shapes of its literals, and the kinds of its arguments.
 //!
-//! Rooms: `gather` reads what bodies call, and hands on what was read (`trees`); `argument_kinds`
-//! has the kinds of a method's arguments; `law` that there is what methods are judged by.
+//! Rooms: `gather` reads each body once, and hands on what was read (`trees`); `named` has what
+//! names mean, and `kept` what is kept of bodies; `argument_kinds` has the kinds of a method's
+//! arguments; `law` that there is what methods are judged by.
 #![tactic(auto)]
 
 mod argument_kinds;
 mod gather;
+mod kept;
 mod law;
+mod named;
 mod trees;
 
 pub use argument_kinds::arguments;
-pub use gather::gathered;
+pub use gather::{Gathering, gathered};
 pub use law::judgings_are_there;
+pub use named::Named;
 pub use trees::Trees;

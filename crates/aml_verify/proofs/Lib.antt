@@ -4,7 +4,6 @@ pub mod Seeing
 pub mod Stepping
 pub mod Judged
 pub mod Beginning
-pub mod Keeping
 pub mod Linked
 pub mod Handed
 pub mod Marking

@@ -16,8 +16,7 @@ use Rattle.aml_methods.specs.Judgings.{IsJudging, IsReady, Told}
 use Rattle.aml_objects.specs.declared.object.Method.{Method}
 use Rattle.aml_namespace.specs.Load.{Shown}
 use Rattle.aml_namespace.specs.Names.{method_at}
-use Rattle.aml_verify.proofs.Keeping.{by_same}
-use Rattle.aml_verify.proofs.Places.{method_within, taken_or}
+use Rattle.aml_methods.proofs.Places.{by_same, method_within, taken_or}
 use Rattle.aml_verify.specs.Keeping.{AreMarked, MarksSoFar}
 
 mark_get : (ms : List Bool) (k : ℕ) → marked ms k ≡ get_or ms k false

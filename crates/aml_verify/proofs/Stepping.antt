@@ -1,13 +1,11 @@
 -- A method more is judged.
-use Rattle.std.proofs.Common.{◌≡◌, ◌≢◌, ◌<◌, ◌≤◌, ◌+◌, ℕ, zero, suc, List, [], ◌∷◌, length, take, set, slice_get, get_or, Option, Some, None, refl, sym, ap, subst, ◌∙◌, arith}
+use Rattle.std.proofs.Common.{◌≡◌, ◌<◌, ◌≤◌, ◌+◌, ℕ, List, length, take, set, slice_get, Option, Some, None, refl, sym, ap, subst, ◌∙◌, arith}
 use Rattle.std.proofs.lemmas.Bool.{or_parts, eqb-true}
 use Rattle.std.proofs.lemmas.List.{length-set, take_all}
 use Rattle.std.proofs.lemmas.Option.{same_Some}
 use Rattle.std.specs.Prelude.{Bool, true, false, not, IsSome, ◌==◌, ◌||◌, if◌then◌else◌}
 use Rattle.aml_calls.specs.Chains.{is_among}
-use Rattle.aml_calls.specs.Pairs.{numbers}
 use Rattle.aml_calls.proofs.Among.{same_number}
-use Rattle.aml_paths.specs.declared.scope.ObjectId.{ObjectId}
 use Rattle.aml_components.specs.Components.{are_together}
 use Rattle.aml_components.specs.declared.components.Components.{Components}
 use Rattle.aml_components.specs.declared.heights.Heights.{Heights}
@@ -22,7 +20,8 @@ use Rattle.aml_objects.specs.declared.object.Method.{Method}
 use Rattle.aml_namespace.specs.Load.{Shown}
 use Rattle.aml_namespace.specs.Names.{method_at}
 use Rattle.aml_shapes.specs.Numbers.{numbered}
-use Rattle.aml_verify.proofs.Places.{method_within, within, said_other, said_same, taken_or}
+use Rattle.aml_methods.proofs.Places.{before, by_same, method_within, taken_or, within}
+use Rattle.aml_verify.proofs.Places.{said_other, said_same}
 use Rattle.aml_verify.proofs.Seeing.{known_said, one_answer}
 use Rattle.aml_verify.specs.Bodies.{callee_by}
 use Rattle.aml_verify.specs.Said.{accepted_by, verdict_at}
@@ -83,28 +82,6 @@ module _ (ns : Shown) (told : Told) (shapes : List Shape) (shared : List (Option
     room : k < length verdicts
     room = let lt = method_within ns k m there in let r = is.room in omega (arith, lt, r)
 
-    by_number : (P : Type 0) (i : ℕ) → (i ≡ k → P) → (i ≢ k → P) → P
-    by_number P i same other = by (i == k) refl
-      where
-        by : (b : Bool) → (i == k) ≡ b → P
-        by true e = same (eqb-true i k e)
-        by false e = other (λ eq. let bad : true ≡ false = sym (subst (λ n. (n == k) ≡ true) (sym eq) (same_number k)) ∙ e in cc)
-
-    not_k : (i : ℕ) → i ≢ k → (i == k) ≡ false
-    not_k i other = by (i == k) refl
-      where
-        by : (b : Bool) → (i == k) ≡ b → b ≡ false
-        by true e = absurd (other (eqb-true i k e))
-        by false e = refl
-
-    either_way : (p q : Bool) → (p || (q || false)) ≡ true → q ≡ false → p ≡ true
-    either_way true q e f = refl
-    either_way false true e f = absurd cc
-    either_way false false e f = absurd cc
-
-    still : (i : ℕ) → is_among i (take (judged_so_far + 1) order) ≡ true → i ≢ k → is_among i (take judged_so_far order) ≡ true
-    still i among other = either_way (is_among i (take judged_so_far order)) (i == k) (sym (taken_or order judged_so_far k i at) ∙ among) (not_k i other)
-
     left : (i : ℕ) → is_among i (take (judged_so_far + 1) order) ≡ false → i ≡ k → ⊥
     left i away same =
         let parts = or_parts (is_among i (take judged_so_far order)) ((i == k) || false) (sym (taken_or order judged_so_far k i at) ∙ away) in
@@ -132,10 +109,10 @@ module _ (ns : Shown) (told : Told) (shapes : List Shape) (shared : List (Option
       ordered = is.ordered;
       room = length-set verdicts k (Some said) ∙ is.room;
       within = let lt = within order judged_so_far k at in omega (arith, lt);
-      right = λ all j known a i n here w e. by_number _ i (λ same. right_here says all j known a i n here w e same) (λ other. is.right all j known a i n here w (sym (said_other verdicts k i said other) ∙ e));
-      said = λ i n here among. by_number _ i (λ same. subst (λ x. IsSome (verdict_at (set verdicts k (Some said)) x)) (sym same) (is_there _ said (said_same verdicts k said room))) (λ other. subst IsSome (sym (said_other verdicts k i said other)) (is.said i n here (still i among other)));
-      unsaid = λ i away. by_number _ i (λ same. absurd (left i away same)) (λ other. said_other verdicts k i said other ∙ is.unsaid i (or_parts (is_among i (take judged_so_far order)) ((i == k) || false) (sym (taken_or order judged_so_far k i at) ∙ away)).0);
-      only = λ i none. by_number _ i (λ same. absurd (let bad : None ≡ Some m = sym none ∙ ap (method_at ns) same ∙ there in cc)) (λ other. said_other verdicts k i said other ∙ is.only i none);
+      right = λ all j known a i n here w e. by_same _ i k (λ same. right_here says all j known a i n here w e same) (λ other. is.right all j known a i n here w (sym (said_other verdicts k i said other) ∙ e));
+      said = λ i n here among. by_same _ i k (λ same. subst (λ x. IsSome (verdict_at (set verdicts k (Some said)) x)) (sym same) (is_there _ said (said_same verdicts k said room))) (λ other. subst IsSome (sym (said_other verdicts k i said other)) (is.said i n here (before order judged_so_far k i at among other)));
+      unsaid = λ i away. by_same _ i k (λ same. absurd (left i away same)) (λ other. said_other verdicts k i said other ∙ is.unsaid i (or_parts (is_among i (take judged_so_far order)) ((i == k) || false) (sym (taken_or order judged_so_far k i at) ∙ away)).0);
+      only = λ i none. by_same _ i k (λ same. absurd (let bad : None ≡ Some m = sym none ∙ ap (method_at ns) same ∙ there in cc)) (λ other. said_other verdicts k i said other ∙ is.only i none);
     }
 
   -- and past what is no method
@@ -168,11 +145,6 @@ module _ (ns : Shown) (told : Told) (shapes : List Shape) (shared : List (Option
   pub one_step : (k : ℕ) (said : Option Verdict) → slice_get order judged_so_far ≡ Some k → Said k said → IsAtWork ns told shapes shared heights components order (judged_so_far + 1) (said_more verdicts k said)
   one_step k (Some said) at h = one_more k h.0 at h.1 said h.2
   one_step k None at h = one_passed k at h
-
-pub number_there : (ids : List ObjectId) (i : ℕ) (id : ObjectId) → i < length ids → id ≡ get_or ids i id → slice_get (numbers ids) i ≡ Some id.0
-number_there [] i id lt e = absurd (omega (arith, lt))
-number_there (x ∷ ids) zero id lt e = ap (λ (o : ObjectId). Some o.0) (sym e)
-number_there (x ∷ ids) (suc i) id lt e = number_there ids i id (omega (arith, lt)) e
 
 -- all methods are judged
 pub all_judged : (ns : Shown) (told : Told) (shapes : List Shape) (shared : List (Option Known)) (heights : Heights) (components : Components) (order : List ℕ) (so_far : ℕ) (verdicts : List (Option Verdict)) → IsAtWork ns told shapes shared heights components order so_far verdicts → length order ≤ so_far → (k : ℕ) (m : Method) → method_at ns k ≡ Some m → IsSome (verdict_at verdicts k)

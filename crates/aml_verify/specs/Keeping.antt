@@ -1,9 +1,10 @@
--- What a verifier keeps of the bodies that it read, and which methods it marks as those that
+-- What is kept of the bodies that a verifier read, and which methods it marks as those that
 -- evaluate integers alone.
-use Rattle.std.specs.Prelude.{◌≡◌, ℕ, Bool, List, length, map, take, Option, Some, None, IsSome, true, Vec}
+use Rattle.std.specs.Prelude.{◌≡◌, ℕ, Bool, List, length, map, take, Option, Some, None, Vec}
 use Rattle.std.specs.Option.{option_map}
 use Rattle.std.specs.declared.alloc.Global.{Global}
-use Rattle.aml_bodies.specs.Kept.{AreKept, kept_at}
+use Rattle.aml_bodies.specs.Kept.{kept_at}
+use Rattle.aml_bodies.specs.Links.{AreLinks}
 use Rattle.aml_bodies.specs.declared.keeping.Kept.{Kept}
 use Rattle.aml_calls.specs.Chains.{is_among}
 use Rattle.aml_integers.specs.Known.{marked}
@@ -21,14 +22,13 @@ use Rattle.aml_namespace.specs.Names.{IsBodyOf, body_bytes, link_with_owns, meth
 use Rattle.aml_operators.specs.declared.term.Term.{Term}
 use Rattle.aml_operators.specs.Tree.{Tree, Trees, trees, view}
 use Rattle.aml_own_names.specs.OwnNames.{own_names}
+use Rattle.aml_own_names.specs.OwnNamesSeen.{owns_seen}
 
--- of the bodies of those methods that are judged each that has a tree is kept
-pub record KeepsSoFar (ns : Shown) (order : List ℕ) (judged : ℕ) (kept : List (Option Kept)) : Type
-    0 where
-  pub room : length kept ≡ length ns.entries
-  pub are : AreKept ns kept
-  pub all : (k : ℕ) (m : Method) → method_at ns k ≡ Some m → is_among k (take judged order) ≡ true →
-      (ts : List Tree) → IsBodyOf ns k m ts → IsSome (kept_at kept k)
+-- what the names of each body mean that is kept
+abbrev pub AreMeant : Shown → List (Option Kept) → Type 0
+AreMeant ns kept = (k : ℕ) (one : Kept) → kept_at kept k ≡ Some one → (m : Method) →
+    method_at ns k ≡ Some m →
+    AreLinks (link_with_owns ns.entries k (body_bytes ns m) (owns_seen one.owns)) one.links
 
 -- those methods that are judged are marked as is decided of them, others are not marked
 pub record MarksSoFar (ns : Shown) (told : Told) (order : List ℕ) (judged : ℕ)

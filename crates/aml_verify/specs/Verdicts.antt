@@ -1,7 +1,6 @@
 -- What is said of the methods of a namespace.
 use Rattle.std.specs.Prelude.{◌≡◌, ◌≤◌, ◌+◌, ◌-◌, ℕ, List, length, take, slice_get, slice_set, IsSome, Option, Some, None, Ok, Err, Bool, true, false}
-use Rattle.aml_bodies.specs.Kept.{AreAllKept, AreKept, IsKept}
-use Rattle.aml_bodies.specs.declared.keeping.Kept.{Kept}
+use Rattle.aml_bodies.specs.Kept.{AreAllKept, AreKept}
 use Rattle.aml_calls.specs.Chains.{is_among}
 use Rattle.aml_calls.specs.Pairs.{numbers}
 use Rattle.aml_components.specs.declared.components.Components.{Components}
@@ -26,7 +25,7 @@ use Rattle.aml_signatures.specs.Signed.{kinds_told}
 use Rattle.aml_tree.specs.declared.fault.TreeFault.TheVariants as unread
 use Rattle.aml_methods.specs.Judgings.{IsJudging, TellsCalls, Told}
 use Rattle.aml_verify.specs.Bodies.{kinds_by}
-use Rattle.aml_verify.specs.Keeping.{AreMarked, KeepsSoFar, MarksSoFar}
+use Rattle.aml_verify.specs.Keeping.{AreMarked, MarksSoFar}
 use Rattle.aml_verify.specs.Said.{verdict_at}
 use Rattle.aml_verify.specs.declared.checked.Checked.{Checked}
 use Rattle.aml_verify.specs.declared.verdict.Verdict.{Verdict}
@@ -85,7 +84,7 @@ pub record IsVerifier (v : Verifier) : Type 0 where
   pub at_work : IsAtWork (shown v.read.namespace.now) (kinds_told v.signatures.now) v.shapes
       v.shared.items
       v.heights v.components (order_of v) v.judged v.verdicts.items
-  pub keeps : KeepsSoFar (shown v.read.namespace.now) (order_of v) v.judged v.kept.items
+  pub keeps : AreKept (shown v.read.namespace.now) v.read.kept.items
   pub marks : MarksSoFar (shown v.read.namespace.now) (kinds_told v.signatures.now) (order_of v)
       v.judged v.integers.items
 
@@ -125,13 +124,9 @@ MarksNext v k mark =
     (known : ℕ → Option judged.Accepted) → AreAccepted all known →
     mark ≡ decided all known (marked v.integers.items) k
 
--- what is found of a number that is next: what is said of its method, what is kept of its body,
--- where that has a tree, and its mark
+-- what is found of a number that is next: what is said of its method, and its mark
 pub record FoundOf (v : Verifier) (k : ℕ) (f : Found) : Type 0 where
   pub said : SaidOf v k f.verdict
-  pub kept : (one : Kept) → f.kept ≡ Some one → IsKept (shown v.read.namespace.now) k one
-  pub read : (m : Method) → method_at (shown v.read.namespace.now) k ≡ Some m →
-      (ts : List Tree) → IsBodyOf (shown v.read.namespace.now) k m ts → IsSome f.kept
   pub marks : MarksNext v k f.integers
 
 -- with what is said of one more, where there is room for it

@@ -4,7 +4,6 @@ ghost use Rattle.std.specs.Prelude.{◌≡◌, None, OnOk, slice_get, unwrap_or}
 ghost use Rattle.aml_shapes.specs.Numbers.{numbered};
 ghost use Rattle.aml_verify.specs.Bodies.{around_body, IsGrown};
 
-use crate::named::Named;
 use crate::verdict::{Verdict, accepted_at};
 use aml_components::{Components, Heights};
 use aml_fields::{buffer_field_numbered, field_in, read_count, write_count};
@@ -12,6 +11,7 @@ use aml_findings::{Around, FieldCosts, Finding, Made, Seen};
 use aml_known::{ElementKnown, Known, ShapeNumber, Shapes};
 use aml_lex::name_there;
 use aml_meaning::BufferField;
+use aml_methods::Named;
 use aml_namespace::{Link, Object, Width};
 use aml_operators::{Op, Term};
 use aml_paths::{NoMemory, ObjectId};

@@ -1,7 +1,7 @@
 // Judging the methods of a namespace, one body at a time.
 
 ghost use Rattle.std.specs.Prelude.{◌≡◌, ◌++◌, ℕ, IfOk, OnErr, None, Some, false, length, map, slice_get, slice_set};
-ghost use Rattle.aml_bodies.specs.Kept.{IsKept, kept_at};
+ghost use Rattle.aml_bodies.specs.Kept.{kept_at};
 ghost use Rattle.aml_calls.specs.Pairs.{numbers};
 ghost use Rattle.aml_integers.specs.Known.{marked};
 ghost use Rattle.aml_namespace.specs.Names.{method_at};
@@ -13,20 +13,18 @@ ghost use Rattle.aml_verify.specs.Verdicts.{FoundOf, IsChecked, IsOfSame, IsRead
 
 use crate::body::Body;
 use crate::checked::Checked;
-use crate::named::Named;
 use crate::read::Read;
 use crate::verdict::Verdict;
-use aml_bodies::{Kept, keep_with};
+use aml_bodies::Kept;
 use aml_calls::call_order;
 use aml_components::{Components, Heights};
 use aml_findings::Finding;
 use aml_findings::finds::refused;
 use aml_integers::integers_alone;
 use aml_known::{Known, Stop};
-use aml_methods::{Trees, arguments, gathered};
+use aml_methods::{Named, Trees, arguments, gathered};
 use aml_namespace::{Method, Namespace};
 use aml_operators::Term;
-use aml_own_names::OwnNames;
 use aml_paths::{NoMemory, ObjectId};
 use aml_shapes::{ShapeTable, shared_kinds};
 use aml_signatures::Signatures;
@@ -51,8 +49,6 @@ pub struct Verifier<'a, 's> {
     judged: usize,
     /// By the numbers of the methods' objects.
     verdicts: Vec<Option<Verdict>>,
-    /// What is kept of the methods' bodies that were read, by the same numbers.
-    kept: Vec<Option<Kept>>,
     /// Which methods evaluate integers alone, by the same numbers.
     integers: Vec<bool>,
 }
@@ -61,8 +57,6 @@ pub struct Verifier<'a, 's> {
 #[derive(Drop)]
 struct Found {
     verdict: Option<Verdict>,
-    /// What is kept of its body, where it could be read.
-    kept: Option<Kept>,
     /// Whether it is accepted and evaluates integers alone.
     integers: bool,
 }
@@ -82,23 +76,6 @@ fn no_verdicts(alloc: Global, count: usize) -> Result<Vec<Option<Verdict>>, NoMe
         }
     }
     Ok(verdicts)
-}
-
-/// Nothing that is kept, for so many objects.
-fn none_kept(alloc: Global, count: usize) -> Result<Vec<Option<Kept>>, NoMemory>
-    ensures count { IfOk result (λ kept. length kept.items ≡ count) }
-    ensures none { IfOk result (λ kept. (k : ℕ) → kept_at kept.items k ≡ None) }
-{
-    let Ok(mut kept) = Vec::with_capacity(alloc, count) else {
-        return Err(NoMemory);
-    };
-    for _ in 0..count {
-        match kept.push(None) {
-            Ok(()) => {}
-            Err(_) => return Err(NoMemory),
-        }
-    }
-    Ok(kept)
 }
 
 /// No marks, for so many objects.
@@ -137,15 +114,6 @@ fn keep(verdicts: &mut Vec<Option<Verdict>>, id: ObjectId, said: Option<Verdict>
     }
 }
 
-/// Keeps what is found of a body, where there is room for it.
-fn keep_one(kept: &mut Vec<Option<Kept>>, id: ObjectId, one: Option<Kept>)
-    ensures { kept.new.items ≡ slice_set kept.old.items id.0 one }
-{
-    if id.0 < kept.len() {
-        kept[id.0] = one;
-    }
-}
-
 /// Marks a method, where there is room for it.
 fn mark(marks: &mut Vec<bool>, id: ObjectId, one: bool)
     ensures { marks.new.items ≡ slice_set marks.old.items id.0 one }
@@ -157,8 +125,8 @@ fn mark(marks: &mut Vec<bool>, id: ObjectId, one: bool)
 
 impl<'a, 's> Verifier<'a, 's> {
     /// A verifier of the methods of a namespace, whose arguments are of the kinds that signatures
-    /// tell. Each body is read once for what it calls, and the statements of the first are handed
-    /// on to `step`.
+    /// tell. Each body is read once for what it calls; what its names mean is kept, and the
+    /// statements of the first are handed on to `step`.
     ///
     /// # Errors
     ///
@@ -175,15 +143,19 @@ impl<'a, 's> Verifier<'a, 's> {
         let count = namespace.len();
         let mut shapes = ShapeTable::new(alloc);
         let mut trees = Trees::new(alloc, count)?;
-        let pairs = gathered(alloc, namespace, &mut shapes, &mut trees)?;
-        let read = Read { namespace, trees };
+        let gathering = gathered(alloc, namespace, &mut shapes, &mut trees)?;
+        let calls = gathering.calls;
+        let read = Read {
+            namespace,
+            kept: gathering.kept,
+            trees,
+        };
         let shared = shared_kinds(alloc, namespace, &mut shapes)?;
-        let (ordered, others) = call_order(alloc, &pairs)?;
-        let heights = Heights::of(alloc, &pairs, &ordered, &others)?;
-        let components = Components::of(alloc, &pairs)?;
+        let (ordered, others) = call_order(alloc, &calls)?;
+        let heights = Heights::of(alloc, &calls, &ordered, &others)?;
+        let components = Components::of(alloc, &calls)?;
         let order = behind(ordered, &others)?;
         let verdicts = no_verdicts(alloc, count)?;
-        let kept = none_kept(alloc, count)?;
         let integers = no_marks(alloc, count)?;
         Ok(Verifier {
             alloc,
@@ -196,7 +168,6 @@ impl<'a, 's> Verifier<'a, 's> {
             order,
             judged: 0,
             verdicts,
-            kept,
             integers,
         })
     }
@@ -209,8 +180,8 @@ impl<'a, 's> Verifier<'a, 's> {
         self.order.len().saturating_sub(self.judged)
     }
 
-    /// Judges the next method, and answers it; None where all are judged. Its body is read and
-    /// dropped, unless its statements are handed on; what its names mean is kept.
+    /// Judges the next method, and answers it; None where all are judged. Its body is read again
+    /// and dropped, unless its statements are handed on.
     ///
     /// # Errors
     ///
@@ -228,7 +199,6 @@ impl<'a, 's> Verifier<'a, 's> {
         let id = self.order[self.judged];
         let found = self.found(id)?;
         keep(&mut self.verdicts, id, found.verdict);
-        keep_one(&mut self.kept, id, found.kept);
         mark(&mut self.integers, id, found.integers);
         self.judged += 1;
         Ok(Some(id))
@@ -243,7 +213,6 @@ impl<'a, 's> Verifier<'a, 's> {
             Some(method) => self.judge(id, method),
             None => Ok(Found {
                 verdict: None,
-                kept: None,
                 integers: false,
             }),
         }
@@ -265,7 +234,6 @@ impl<'a, 's> Verifier<'a, 's> {
                     table: method.table,
                     refusal,
                 }),
-                kept: None,
                 integers: false,
             }),
             Err(TreeFault::NoMemory) => Err(NoMemory),
@@ -279,13 +247,10 @@ impl<'a, 's> Verifier<'a, 's> {
         requires read { IsRead (shown self.now.read.namespace.now) id.0 method (map view body.now) }
         ensures { IfOk result (λ f. IsVerifier self.now → FoundOf self.now id.0 f) }
     {
-        let bytes = self.read.namespace.body_bytes(id);
-        let owns = OwnNames::of(self.alloc, bytes, body)?;
-        let kept = keep_with(self.alloc, self.read.namespace, id, owns, body)?;
-        let (verdict, integers) = self.judge_with(id, method, &kept, body)?;
+        let kept = self.read.kept(id);
+        let (verdict, integers) = self.judge_with(id, method, kept, body)?;
         Ok(Found {
             verdict: Some(verdict),
-            kept: Some(kept),
             integers,
         })
     }
@@ -302,7 +267,7 @@ impl<'a, 's> Verifier<'a, 's> {
         requires next { slice_get (numbers self.now.order.items) self.now.judged ≡ Some id.0 }
         requires there { method_at (shown self.now.read.namespace.now) id.0 ≡ Some method }
         requires read { IsRead (shown self.now.read.namespace.now) id.0 method (map view body.now) }
-        requires kept { IsKept (shown self.now.read.namespace.now) id.0 kept.now }
+        requires kept { kept_at self.now.read.kept.items id.0 ≡ Some kept.now }
         ensures said { IfOk result (λ f. IsVerifier self.now → SaysNext self.now id.0 method f.0) }
         ensures marks { IfOk result (λ f. IsVerifier self.now → MarksNext self.now id.0 f.1) }
     {
@@ -352,11 +317,12 @@ impl<'a, 's> Verifier<'a, 's> {
             IsChecked (kinds_told v.signatures.now) result }
         ensures namespace { result.namespace.now ≡ self.entry.read.namespace.now }
     {
+        let read = self.read;
         Checked {
-            namespace: self.read.namespace,
+            namespace: read.namespace,
             shapes: self.shapes,
             verdicts: self.verdicts,
-            kept: self.kept,
+            kept: read.kept,
             integers: self.integers,
         }
     }

@@ -9,7 +9,7 @@ use Rattle.aml_methods.proofs.gather.+gather.Goals as goal
 pub gather-returns : goal.gather-returns
 gather-returns t c =
     on_ok_weaker c.gather_all.result
-    (term_gathered (links_of c.args.place) c.args.term.now c.action_of-action.result c.as_slice-parts.result.now c.as_slice-parts.result.now c.callee.result
+    (term_gathered (links_of c.args.names) c.args.term.now c.action_of-action.result c.as_slice-parts.result.now c.as_slice-parts.result.now c.callee.result
     (numbers c.args.callees.now.items) (numbers c.push.new.callees.items) (numbers c.gather_all.new.callees.items)
     c.action_of-action.ensures c.as_slice-parts.ensures.value c.as_slice-parts.ensures.value c.callee.ensures c.in_ok-push.ensures)
     c.gather_all.ensures
@@ -21,4 +21,4 @@ gather_all-gather-requires t c =
 
 pub gather-returns-then-is_empty : goal.gather-returns-then-is_empty
 gather-returns-then-is_empty t c =
-    bare_calls (links_of c.args.place) c.args.term.now c.as_slice-parts.result.now (numbers c.args.callees.now.items) c.as_slice-parts.ensures.value (sym c.is_empty.ensures ∙ c.if-is_empty.true)
+    bare_calls (links_of c.args.names) c.args.term.now c.as_slice-parts.result.now (numbers c.args.callees.now.items) c.as_slice-parts.ensures.value (sym c.is_empty.ensures ∙ c.if-is_empty.true)

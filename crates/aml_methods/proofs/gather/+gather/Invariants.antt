@@ -9,8 +9,8 @@ use Rattle.aml_methods.proofs.gather.+gather.Given as goal
 -- with what the terms that are left call, it is what all call
 abbrev pub invariant-gather_all-loop-term : goal.invariant-gather_all-loop-term
 invariant-gather_all-loop-term l =
-    numbers l.callees.items ++ calls_of (links_of l.place) (views (drop l.term-index l.terms))
-    ≡ numbers l.initial.callees.items ++ calls_of (links_of l.place) (views l.terms)
+    numbers l.callees.items ++ calls_of (links_of l.names) (views (drop l.term-index l.terms))
+    ≡ numbers l.initial.callees.items ++ calls_of (links_of l.names) (views l.terms)
 
 abbrev pub decreases-gather : goal.decreases-gather
 decreases-gather l = 2 * weight (view l.term.now)

@@ -2,7 +2,6 @@ use Rattle.aml_calls.specs.Pairs.{numbers}
 use Rattle.aml_namespace.specs.Shows.{shown}
 use Rattle.aml_signatures.specs.Signed.{kinds_told}
 use Rattle.aml_verify.proofs.Finding.{all_done}
-use Rattle.aml_verify.proofs.Keeping.{all_kept}
 use Rattle.aml_verify.proofs.Marking.{all_marked}
 use Rattle.aml_verify.proofs.Stepping.{all_judged}
 use Rattle.aml_verify.proofs.verifier.Verifier.finish.Goals as goal
@@ -14,7 +13,7 @@ returns-clause-checked c = λ is none. let v = c.args.self in
       right = is.at_work.right;
       all = all_judged (shown v.read.namespace.now) (kinds_told v.signatures.now) v.shapes v.shared.items v.heights v.components (numbers v.order.items) v.judged v.verdicts.items is.at_work done;
       only = is.at_work.only;
-      kept = is.keeps.are;
-      all_kept = all_kept (shown v.read.namespace.now) (numbers v.order.items) v.judged v.kept.items is.keeps done is.at_work.ordered;
+      kept = is.keeps;
+      all_kept = v.read.all;
       integers = all_marked (shown v.read.namespace.now) (kinds_told v.signatures.now) (numbers v.order.items) v.judged v.integers.items is.marks done is.at_work.ordered;
     }

@@ -17,7 +17,7 @@ returns-in-Ok-clause-said c = λ is. let v = c.args.self.now in
     accepted_said (shown v.read.namespace.now) (kinds_told v.signatures.now) v.shapes c.deref.result.now v.heights v.components (numbers v.order.items) v.judged c.deref-2.result.now
     (still_at_work (shown v.read.namespace.now) (kinds_told v.signatures.now) v.shapes v.shared.items c.deref.result.now v.heights v.components (numbers v.order.items) v.judged v.verdicts.items c.deref-2.result.now c.deref.ensures.value c.deref-2.ensures.value is.at_work)
     c.args.id.0 c.args.method c.requires.next c.requires.there c.args.body.now c.requires.read
-    c.body_bytes-bytes.result.now bytes_are (owns_seen c.args.kept.now.owns) (c.requires.kept.owns c.args.method c.requires.there (map view c.args.body.now) c.requires.read.is ∙ ap (λ (b : List ℕ). own_names b (map view c.args.body.now)) (sym bytes_are))
+    c.body_bytes-bytes.result.now bytes_are (owns_seen c.args.kept.now.owns) ((is.keeps c.args.id.0 c.args.kept.now c.requires.kept).owns c.args.method c.requires.there (map view c.args.body.now) c.requires.read.is ∙ ap (λ (b : List ℕ). own_names b (map view c.args.body.now)) (sym bytes_are))
     c.new.result.items c.new.ensures.items c.new-2.result.items c.new-2.ensures.items
     c.is_short-short.result _ c.in-Ok.accepted c.is_short-short.ensures (c.in_ok-args.ensures _ c.args.method refl) (c.in-Ok.ensures c.are_apart.ensures)
 
@@ -27,7 +27,7 @@ returns-in-Err-Refused-clause-said c = λ is. let v = c.args.self.now in
     refused_said (shown v.read.namespace.now) (kinds_told v.signatures.now) v.shapes c.deref.result.now v.heights v.components (numbers v.order.items) v.judged c.deref-2.result.now
     (still_at_work (shown v.read.namespace.now) (kinds_told v.signatures.now) v.shapes v.shared.items c.deref.result.now v.heights v.components (numbers v.order.items) v.judged v.verdicts.items c.deref-2.result.now c.deref.ensures.value c.deref-2.ensures.value is.at_work)
     c.args.id.0 c.args.method c.requires.next c.requires.there c.args.body.now c.requires.read
-    c.body_bytes-bytes.result.now bytes_are (owns_seen c.args.kept.now.owns) (c.requires.kept.owns c.args.method c.requires.there (map view c.args.body.now) c.requires.read.is ∙ ap (λ (b : List ℕ). own_names b (map view c.args.body.now)) (sym bytes_are))
+    c.body_bytes-bytes.result.now bytes_are (owns_seen c.args.kept.now.owns) ((is.keeps c.args.id.0 c.args.kept.now c.requires.kept).owns c.args.method c.requires.there (map view c.args.body.now) c.requires.read.is ∙ ap (λ (b : List ℕ). own_names b (map view c.args.body.now)) (sym bytes_are))
     c.new.result.items c.new.ensures.items c.new-2.result.items c.new-2.ensures.items
     c.is_short-short.result _ c.in-Err-Refused.refusal c.refused-finding.result c.is_short-short.ensures (c.in_ok-args.ensures _ c.args.method refl) (is_refused (numbered v.shapes) _ c.in-Err-Refused.field-0 c.in-Err-Refused.refusal c.in-Err-Refused.field-0-is (c.in-Err-Refused.ensures c.are_apart.ensures))
 
@@ -37,7 +37,7 @@ returns-in-Ok-clause-marks c = λ is. let v = c.args.self.now in
     let works = still_at_work (shown v.read.namespace.now) (kinds_told v.signatures.now) v.shapes v.shared.items c.deref.result.now v.heights v.components (numbers v.order.items) v.judged v.verdicts.items c.deref-2.result.now c.deref.ensures.value c.deref-2.ensures.value is.at_work in
     accepted_marked (shown v.read.namespace.now) (kinds_told v.signatures.now) v.shapes c.deref.result.now v.heights v.components (numbers v.order.items) v.judged c.deref-2.result.now works
     c.args.id.0 c.args.method c.requires.next c.requires.there c.args.body.now c.requires.read
-    c.body_bytes-bytes.result.now bytes_are (owns_seen c.args.kept.now.owns) (c.requires.kept.owns c.args.method c.requires.there (map view c.args.body.now) c.requires.read.is ∙ ap (λ (b : List ℕ). own_names b (map view c.args.body.now)) (sym bytes_are))
+    c.body_bytes-bytes.result.now bytes_are (owns_seen c.args.kept.now.owns) ((is.keeps c.args.id.0 c.args.kept.now c.requires.kept).owns c.args.method c.requires.there (map view c.args.body.now) c.requires.read.is ∙ ap (λ (b : List ℕ). own_names b (map view c.args.body.now)) (sym bytes_are))
     c.new.result.items c.new.ensures.items c.new-2.result.items c.new-2.ensures.items
     v.integers.items c.deref-3.result.now (kinds_of (numbered v.shapes) c.deref-4.result.now) c.in-Ok.accepted c.integers_alone-alone.result (returns-in-Ok-clause-said c is)
     (ap (kinds_of (numbered v.shapes)) c.deref-4.ensures.value ∙ c.in_ok-args.ensures (numbered v.shapes) c.args.method refl) c.deref-3.ensures.value c.integers_alone-alone.ensures
@@ -48,4 +48,4 @@ returns-in-Err-Refused-clause-marks c = λ is. let v = c.args.self.now in
 
 pub invariant_of-names : goal.invariant_of-names
 invariant_of-names c =
-    record { meant = rw (c.body_bytes-bytes.ensures c.args.method c.requires.there) (c.requires.kept.links c.args.method c.requires.there) }
+    record { meant = rw (c.body_bytes-bytes.ensures c.args.method c.requires.there) (c.args.self.now.read.meant c.args.id.0 c.args.kept.now c.requires.kept c.args.method c.requires.there) }

@@ -2,9 +2,9 @@ use Rattle.std.proofs.Common.{◌<◌, length, refl, arith}
 use Rattle.aml_calls.specs.Pairs.{numbers}
 use Rattle.aml_namespace.specs.Shows.{shown}
 use Rattle.aml_signatures.specs.Signed.{kinds_told}
-use Rattle.aml_verify.proofs.Keeping.{one_kept}
 use Rattle.aml_verify.proofs.Marking.{one_marked}
-use Rattle.aml_verify.proofs.Stepping.{number_there, one_step}
+use Rattle.aml_methods.proofs.Places.{number_there}
+use Rattle.aml_verify.proofs.Stepping.{one_step}
 use Rattle.aml_verify.proofs.verifier.Verifier.step.Goals as goal
 
 pub returns-clause-verifier : goal.returns-clause-verifier
@@ -14,7 +14,7 @@ returns-clause-verifier c = λ is. let v = c.args.self.now in
     let found = c.in_ok-found.ensures is in
     record {
       at_work = rw c.keep.ensures (one_step (shown v.read.namespace.now) (kinds_told v.signatures.now) v.shapes v.shared.items v.heights v.components (numbers v.order.items) v.judged v.verdicts.items is.at_work c.index-id.result.now.0 c.in_ok-found.found.verdict at found.said);
-      keeps = rw c.keep_one.ensures (one_kept (shown v.read.namespace.now) (numbers v.order.items) v.judged v.kept.items is.keeps c.index-id.result.now.0 at c.in_ok-found.found.kept found.kept found.read);
+      keeps = is.keeps;
       marks = rw c.mark.ensures (one_marked (shown v.read.namespace.now) (kinds_told v.signatures.now) (numbers v.order.items) v.judged v.integers.items is.marks (λ all j. (is.at_work.calls all j).ready) c.index-id.result.now.0 at c.in_ok-found.found.integers found.marks);
     }
 

@@ -13,7 +13,7 @@ use aml_paths::ObjectId;
 
 /// A body whose names were looked up, once each.
 #[derive(Clone, Copy)]
-pub(crate) struct Named<'n, 'b> {
+pub struct Named<'n, 'b> {
     pub namespace: &'n Namespace<'n>,
     pub method: ObjectId,
     /// The table's bytes up to the body's end.
