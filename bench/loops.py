@@ -1,5 +1,5 @@
 #!/usr/bin/env python3
-"""Times loops over single calls, two of them beside loops in C: loops.py [ACPI_LOOPS].
+"""Times loops over single calls, two of them beside loops in C: loops.py [ACPI_LOOPS [DSDT ..]].
 
 | loop | what a turn does |
 |---|---|
@@ -9,8 +9,10 @@
 | write | gives that field an integer, and preserves the unit's other bits |
 
 Each runs at two sizes, the second twice the first, the best of five processor times; a turn is the difference of both over that of
-the turns. The program is the one that `rt ci` leaves in crates/acpi_loops/out. The loops in C make the same masks over a unit that is
-read and written by functions that the compiler does not see (`cc -O2`).
+the turns. Behind them comes a table of the verdicts on all methods of a DSDT that is loaded once: of two with devices as
+`bench/verdicts.py` makes them, the second twice the first, and of those that are handed in. The program is the one that `rt ci`
+leaves in crates/acpi_loops/out. The loops in C make the same masks over a unit that is read and written by functions that the compiler
+does not see (`cc -O2`).
 """
 import os
 import resource
@@ -19,8 +21,13 @@ import sys
 import tempfile
 from pathlib import Path
 
+import tables
+import verdicts
+
 PROGRAM = Path(__file__).resolve().parent.parent / "crates/acpi_loops/out/acpi_loops"
 TURNS = 10_000_000
+JUDGED = 20
+DEVICES = (58, 116)
 RUNS = 5
 
 WORLD = """
@@ -49,12 +56,12 @@ int main(int count, char **words)
 """
 
 
-def time_of(program, loop, turns):
+def time_of(program, loop, turns, *more):
     """The best processor time, and what was printed."""
     least, said = None, ""
     for _ in range(RUNS):
         before = resource.getrusage(resource.RUSAGE_CHILDREN)
-        said = subprocess.run([program, loop, str(turns)], capture_output=True, text=True, check=True).stdout
+        said = subprocess.run([program, loop, str(turns), *more], capture_output=True, text=True, check=True).stdout
         after = resource.getrusage(resource.RUSAGE_CHILDREN)
         took = after.ru_utime + after.ru_stime - before.ru_utime - before.ru_stime
         least = took if least is None else min(least, took)
@@ -66,6 +73,27 @@ def turn_of(program, loop):
     first, _ = time_of(program, loop, TURNS)
     second, said = time_of(program, loop, 2 * TURNS)
     return first, second, (second - first) / TURNS * 1e9, said
+
+
+def judging(program, path):
+    """The milliseconds in which all methods of a table are judged, and how many are accepted."""
+    first, _ = time_of(program, "verify", JUDGED, path)
+    second, said = time_of(program, "verify", 2 * JUDGED, path)
+    return (second - first) / JUDGED * 1e3, int(said) // (2 * JUDGED) if said.strip().isdigit() else 0
+
+
+def tell_verdicts(program, folder, paths):
+    """Prints the table of verdicts."""
+    named = [(path, path) for path in paths]
+    for count in DEVICES:
+        path = f"{folder}/devices{count}"
+        Path(path).write_bytes(tables.dsdt(verdicts.devices(count)))
+        named.insert(len(named) - len(paths), (f"devices {count}", path))
+    print("verdicts                bytes accepted   a turn")
+    for name, path in named:
+        took, accepted = judging(program, path)
+        size = os.path.getsize(path)
+        print(f"{name:<22} {size:>6} {accepted:>8} {took:8.2f} ms {size / took / 1e3:6.1f} MB/s")
 
 
 def built(folder):
@@ -91,6 +119,7 @@ def main(words):
                 same = same and said == c_said
                 line += f" {c_turn:8.2f} ns {turn / c_turn:6.1f}"
             print(line)
+        tell_verdicts(program, folder, words[1:])
     if not same:
         print("the sums differ")
     return not same
