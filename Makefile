@@ -62,7 +62,7 @@ reference:
 bench:
 	@python3 bench/speed.py
 
-# Loops over single calls, beside loops in C, by the program that `make test` leaves.
+# Loops over single calls, two of them beside loops in C, and the verdicts on whole tables, by the program that `make test` leaves.
 loops:
 	@python3 bench/loops.py
 

@@ -9,8 +9,8 @@
 | write | gives that field an integer, and preserves the unit's other bits |
 
 Each runs at two sizes, the second twice the first, the best of five processor times; a turn is the difference of both over that of
-the turns. Behind them comes a table of the verdicts on all methods of a DSDT that is loaded once: of two with devices as
-`bench/verdicts.py` makes them, the second twice the first, and of those that are handed in. The program is the one that `rt ci`
+the turns. Behind them comes a table of the verdicts on all methods of a DSDT that is loaded once, the best of 25: of two with devices
+as `bench/verdicts.py` makes them, the second twice the first, and of those that are handed in. The program is the one that `rt ci`
 leaves in crates/acpi_loops/out. The loops in C make the same masks over a unit that is read and written by functions that the compiler
 does not see (`cc -O2`).
 """
@@ -26,9 +26,10 @@ import verdicts
 
 PROGRAM = Path(__file__).resolve().parent.parent / "crates/acpi_loops/out/acpi_loops"
 TURNS = 10_000_000
-JUDGED = 20
-DEVICES = (58, 116)
 RUNS = 5
+JUDGED = 10
+JUDGED_RUNS = 25
+DEVICES = (58, 116)
 
 WORLD = """
 #include <stdint.h>
@@ -56,10 +57,10 @@ int main(int count, char **words)
 """
 
 
-def time_of(program, loop, turns, *more):
+def time_of(program, loop, turns, more=(), runs=RUNS):
     """The best processor time, and what was printed."""
     least, said = None, ""
-    for _ in range(RUNS):
+    for _ in range(runs):
         before = resource.getrusage(resource.RUSAGE_CHILDREN)
         said = subprocess.run([program, loop, str(turns), *more], capture_output=True, text=True, check=True).stdout
         after = resource.getrusage(resource.RUSAGE_CHILDREN)
@@ -77,8 +78,8 @@ def turn_of(program, loop):
 
 def judging(program, path):
     """The milliseconds in which all methods of a table are judged, and how many are accepted."""
-    first, _ = time_of(program, "verify", JUDGED, path)
-    second, said = time_of(program, "verify", 2 * JUDGED, path)
+    first, _ = time_of(program, "verify", JUDGED, [path], JUDGED_RUNS)
+    second, said = time_of(program, "verify", 2 * JUDGED, [path], JUDGED_RUNS)
     return (second - first) / JUDGED * 1e3, int(said) // (2 * JUDGED) if said.strip().isdigit() else 0
 
 
