@@ -77,24 +77,35 @@ def turn_of(program, loop):
 
 
 def judging(program, path):
-    """The milliseconds in which all methods of a table are judged, and how many are accepted."""
+    """The milliseconds in which all methods of a table are judged, and how many are accepted; None where it does not load."""
     first, _ = time_of(program, "verify", JUDGED, [path], JUDGED_RUNS)
     second, said = time_of(program, "verify", 2 * JUDGED, [path], JUDGED_RUNS)
-    return (second - first) / JUDGED * 1e3, int(said) // (2 * JUDGED) if said.strip().isdigit() else 0
+    if said == "none\n":
+        return None
+    return (second - first) / JUDGED * 1e3, int(said) // (2 * JUDGED)
+
+
+def with_devices(folder, count):
+    """The file of a table with so many devices."""
+    path = f"{folder}/devices{count}"
+    Path(path).write_bytes(tables.dsdt(verdicts.devices(count)))
+    return path
 
 
 def tell_verdicts(program, folder, paths):
-    """Prints the table of verdicts."""
-    named = [(path, path) for path in paths]
-    for count in DEVICES:
-        path = f"{folder}/devices{count}"
-        Path(path).write_bytes(tables.dsdt(verdicts.devices(count)))
-        named.insert(len(named) - len(paths), (f"devices {count}", path))
+    """Prints the table of verdicts, and returns whether each table loads."""
     print("verdicts                bytes accepted   a turn")
-    for name, path in named:
-        took, accepted = judging(program, path)
+    all_load = True
+    for name, path in [*((f"devices {count}", with_devices(folder, count)) for count in DEVICES), *zip(paths, paths)]:
+        found = judging(program, path)
+        if found is None:
+            print(f"{name:<22} does not load")
+            all_load = False
+            continue
+        took, accepted = found
         size = os.path.getsize(path)
         print(f"{name:<22} {size:>6} {accepted:>8} {took:8.2f} ms {size / took / 1e3:6.1f} MB/s")
+    return all_load
 
 
 def built(folder):
@@ -120,10 +131,10 @@ def main(words):
                 same = same and said == c_said
                 line += f" {c_turn:8.2f} ns {turn / c_turn:6.1f}"
             print(line)
-        tell_verdicts(program, folder, words[1:])
+        all_load = tell_verdicts(program, folder, words[1:])
     if not same:
         print("the sums differ")
-    return not same
+    return not (same and all_load)
 
 
 if __name__ == "__main__":

@@ -1,7 +1,7 @@
 //! Loops over single calls of the libraries, which `bench/loops.py` times.
 //!
-//! The words are a loop's name, a number of turns and, of the loop over verdicts, the file of a DSDT;
-//! what is printed is a sum over what the calls gave.
+//! The words are a loop's name, a number of turns and, of the loop over verdicts, the file of a
+//! DSDT; what is printed is a sum over what the calls gave.
 #![tactic(auto)]
 
 mod contents;
@@ -36,12 +36,14 @@ fn main(rt: HostRuntime) -> io::Result<()> {
     let Ok(turns) = turns.as_str().parse::<u64>() else {
         return println!(rt; "{USAGE}");
     };
-    let sum = match words.next() {
-        Some(file) if name.as_str() == "verify" => {
-            let dsdt = fs::read(&rt, file.as_str())?;
-            verify_again(rt.alloc(), dsdt.as_slice(), turns)
-        }
-        _ => sum_of(rt.alloc(), name.as_str(), turns),
+    let sum = if name.as_str() == "verify" {
+        let Some(file) = words.next() else {
+            return println!(rt; "{USAGE}");
+        };
+        let dsdt = fs::read(&rt, file.as_str())?;
+        verify_again(rt.alloc(), dsdt.as_slice(), turns)
+    } else {
+        sum_of(rt.alloc(), name.as_str(), turns)
     };
     match sum {
         Some(sum) => println!(rt; "{sum}"),
