@@ -77,6 +77,10 @@ impl OwnNames {
     pub fn own_at(&self, bytes: &[u8], at: usize) -> Option<usize>
         ensures { result ≡ own_at bytes.now (owns_seen self.now) at }
     {
+        // Few bodies make names, and of the others no name need be read here.
+        if self.names.is_empty() {
+            return None;
+        }
         self.number(at, name_there(bytes, at)?.lone_segment()?)
     }
 }
