@@ -1,5 +1,10 @@
 //! What people are told of a fault beside its line: the file, what was wanted there and what was
 //! found.
+//!
+//! Rooms: `label` says how a file is called; `load` tells of tables that cannot be loaded,
+//! `definitions` of a definition that was refused, `tree` of AML that cannot be read, `table` of
+//! files that are no table; `command` tells of words, `near` of a path that is no method's; `help`
+//! has what each command and option is.
 #![tactic(auto)]
 
 mod command;

@@ -1,4 +1,10 @@
 //! Resource descriptors (ACPI 6.5, 6.4), and where devices' interrupts go (6.2.13).
+//!
+//! Rooms: `reader` reads lists of descriptors: `head` how one begins, `form` which one its tag
+//! names, `body` what it says; `item`, `signal` and `numbers` are what it says, `fault` why it
+//! cannot be read. `routing` follows a `_PRT`, of which `mapping` reads the elements and `link` and
+//! `links` the link devices; `route` and `isa_numbers` are where interrupts go, `route_fault` why
+//! there are no routes. `law` has the laws of lists of items.
 #![tactic(auto)]
 
 mod body;

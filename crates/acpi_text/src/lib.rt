@@ -1,4 +1,9 @@
 //! The texts of values, outcomes, causes of faults, tables and names, as they are printed.
+//!
+//! Rooms: `values`, `outcome`, `events` and `verdict` have what evaluations and verdicts say,
+//! `cause` the numbers and names of refusals; `tables`, `table`, `table_lines` and `structures`
+//! have what tables say; `names` and `path` the names of a namespace; `items` prints one text
+//! behind the other, `escaped` text between quotes, `writing` writes them out.
 #![tactic(auto)]
 
 mod cause;

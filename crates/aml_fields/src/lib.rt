@@ -1,4 +1,11 @@
 //! Reads and writes of fields, over any world (ACPI 6.5, 5.5.2.4 and 19.6).
+//!
+//! Rooms: `any` reads and writes fields, however their units are reached: `region` by single
+//! accesses, `index` and `bank` behind other fields. `read` gives integers, `wide` bytes, `value`
+//! either, `write` takes either; `units` are the units that a field touches, with `gather` and
+//! `source` for what is read of them and written to them; `bytes` and `kernel` have bits and masks.
+//! `buffer` has fields of buffers. `reach`, `buffer_field` and `soundness` say what the fields of a
+//! namespace are, `count` how many events they cost; `law` has the laws of events.
 #![tactic(auto)]
 
 mod any;

@@ -2,30 +2,13 @@
 use Rattle.std.specs.Prelude.{ℕ, Option}
 use Rattle.std.specs.Option.{option_map}
 use Rattle.aml_kinds.specs.Kinds.{Kind, Shape}
-use Rattle.aml_meaning.specs.Fields.{read_count, write_count}
-use Rattle.aml_regions.specs.Fields.{layout_of}
-use Rattle.aml_regions.specs.declared.field.AnyField.{AnyField}
 use Rattle.aml_known.specs.declared.known.Known.{Known}
 use Rattle.aml_known.specs.Views.{accepted_of, kind_of}
 use Rattle.aml_judged.specs.Judged as judged
 use Rattle.aml_judged.specs.Bodies as bodies
-use Rattle.aml_findings.specs.declared.around.FieldCosts.{FieldCosts}
 use Rattle.aml_findings.specs.declared.around.Seen.{Seen}
 use Rattle.aml_findings.specs.declared.around.Made.{Made}
 use Rattle.aml_findings.specs.declared.around.Made.TheVariants as made
-
--- of a field of a region, how many bits it has, and how many events one read and one write make
-pub record FieldSeen : Type 0 where
-  pub bits : ℕ
-  pub reads : ℕ
-  pub writes : ℕ
-
-abbrev pub field_seen : AnyField → FieldSeen
-field_seen f =
-    record { bits = (layout_of f).bits; reads = read_count f; writes = write_count f }
-
-abbrev pub costs_of : FieldCosts → FieldSeen
-costs_of f = record { bits = f.bits; reads = f.reads; writes = f.writes }
 
 module _ (shapes : ℕ → Shape) where
   abbrev pub content_of : Option Known → Option Kind

@@ -1,7 +1,6 @@
 // What is known around a body.
 
-ghost use Rattle.std.specs.Prelude.{◌≡◌, IfOk, OnOk};
-ghost use Rattle.std.specs.Option.{option_map};
+ghost use Rattle.std.specs.Prelude.{◌≡◌, IfOk, IfSome, OnOk};
 ghost use Rattle.aml_operators.specs.Tree.{views};
 ghost use Rattle.aml_objects.specs.Widths.{bits_of};
 ghost use Rattle.aml_contents.specs.Contents.{kind_at};
@@ -10,7 +9,8 @@ ghost use Rattle.aml_judged.specs.Bodies.{grown};
 ghost use Rattle.aml_judged.specs.Judged as judged;
 ghost use Rattle.aml_meaning.specs.Owns.{field_at};
 ghost use Rattle.aml_known.specs.Views.{kind_of};
-ghost use Rattle.aml_findings.specs.Views.{content_of, costs_of, field_seen, made_of, seen_of};
+ghost use Rattle.aml_regions.specs.Fields.{IsSoundField};
+ghost use Rattle.aml_findings.specs.Views.{content_of, made_of, seen_of};
 
 use crate::finding::Finding;
 use aml_known::{Accepted, Known, Shapes};
@@ -18,17 +18,7 @@ use aml_meaning::BufferField;
 use aml_namespace::{Link, Object, Width};
 use aml_operators::{Op, Term};
 use aml_paths::{NoMemory, ObjectId};
-
-/// What is asked of a field of a region that can be read and written.
-#[derive(Clone, Copy, Debug, PartialEq, Eq)]
-pub struct FieldCosts {
-    /// How many bits it has.
-    pub bits: u64,
-    /// How many events one read makes.
-    pub reads: u64,
-    /// How many events one write makes.
-    pub writes: u64,
-}
+use aml_regions::AnyField;
 
 /// What a method sees of one that it calls.
 #[derive(Clone, Copy, Debug)]
@@ -77,9 +67,9 @@ pub trait Around: Shapes {
         ensures { result ≡ (around self.now).object id.0 };
 
     /// The field of a region that the object with a number is, where it can be read and written.
-    fn field(&self, id: ObjectId) -> Option<FieldCosts>
-        ensures { option_map costs_of result ≡
-            option_map field_seen ((around self.now).field id.0) };
+    fn field(&self, id: ObjectId) -> Option<AnyField>
+        ensures is { result ≡ (around self.now).field id.0 }
+        ensures sound { IfSome result IsSoundField };
 
     /// The field of a buffer that the object with a number is, where it can be read and written.
     fn buffer_field(&self, id: ObjectId) -> Option<BufferField>

@@ -13,5 +13,5 @@ mod finding;
 pub mod finds;
 pub mod lacks;
 
-pub use around::{Around, FieldCosts, Made, Seen};
+pub use around::{Around, Made, Seen};
 pub use finding::{Change, FieldFault, Finding, Found, LoopLack, NumberedSlot, Sort, Wanted};

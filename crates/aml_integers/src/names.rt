@@ -1,19 +1,18 @@
 // Which kinds, fields and names have integers alone.
 
-ghost use Rattle.std.specs.Prelude.{◌≡◌, nat_le, Bool, ℕ, Option};
-ghost use Rattle.std.specs.Option.{option_map};
+ghost use Rattle.std.specs.Prelude.{◌≡◌, nat_le, Bool, ℕ};
 ghost use Rattle.aml_kinds.specs.Kinds.{Shape};
-ghost use Rattle.aml_regions.specs.declared.field.AnyField.{AnyField};
 ghost use Rattle.aml_known.specs.Views.{kinds_of};
 ghost use Rattle.aml_judged.specs.Integers as judged;
-ghost use Rattle.aml_findings.specs.Views.{content_of, costs_of, field_seen};
+ghost use Rattle.aml_findings.specs.Views.{content_of};
 ghost use Rattle.aml_integers.specs.Known.{body_in, marked, methods_in};
 
-use aml_findings::{Around, FieldCosts};
+use aml_findings::Around;
 use aml_known::Known;
 use aml_meaning::{BufferField, Definition};
 use aml_namespace::Link;
 use aml_paths::ObjectId;
+use aml_regions::AnyField;
 
 /// Whether there is a kind, and it is that of integers.
 fn is_integer(kind: Option<Known>) -> bool
@@ -45,12 +44,11 @@ fn fits_width<A: Around>(here: &A, bits: u64) -> bool
 }
 
 /// Whether there is a field of a region that can be read and written, and its value is an integer.
-fn is_narrow<A: Around>(here: &A, field: Option<FieldCosts>) -> bool
-    ensures { (f : Option AnyField) → option_map costs_of field ≡ option_map field_seen f →
-        result ≡ judged.is_narrow (A.around here.now).width f }
+fn is_narrow<A: Around>(here: &A, field: Option<AnyField>) -> bool
+    ensures { result ≡ judged.is_narrow (A.around here.now).width field }
 {
     match field {
-        Some(field) => fits_width(here, field.bits),
+        Some(field) => fits_width(here, field.layout().bits),
         None => false,
     }
 }

@@ -1,6 +1,5 @@
 -- What is stored into fields, and what is paid for.
 use Rattle.std.proofs.Common.{◌≡◌, ℕ, ◌+◌, List, Option, Some, None, Ok, Err, ◌∙◌, refl, sym, ap, subst, arith}
-use Rattle.std.specs.Option.{option_map}
 use Rattle.aml_causes.specs.declared.cause.Refusal.{Refusal}
 use Rattle.aml_kinds.specs.Kinds.{Kind, Shape}
 use Rattle.aml_regions.specs.Fields.{layout_of}
@@ -15,36 +14,17 @@ use Rattle.aml_judged.specs.Judge.{held_kind, judged_buffer_field_stored, judged
 use Rattle.aml_judged.specs.KindRules.{buffer_field_stored_kind, given_kind}
 use Rattle.aml_known.specs.Views.{CanBeRead, env_of, exits_of, Grown}
 use Rattle.aml_known.proofs.Takings.{same_grown}
-use Rattle.aml_findings.specs.declared.around.FieldCosts.{FieldCosts}
 use Rattle.aml_judging.specs.declared.progress.Progress.{Progress}
-use Rattle.aml_findings.specs.Views.{FieldSeen, costs_of, field_seen}
 use Rattle.aml_judging.specs.Views.{held_cost}
 use Rattle.aml_judging.specs.Follows.{Judges, Paid}
 use Rattle.aml_judging.proofs.Going.{exits_same, paid_judges}
 
-abbrev bits_in : Option FieldSeen → ℕ
-bits_in (Some f) = f.bits
-bits_in None = 0
-
-abbrev writes_in : Option FieldSeen → ℕ
-writes_in (Some f) = f.writes
-writes_in None = 0
-
 module _ (here : Around) (at : ℕ) (k : Kind) where
-  pub field_refused : (f : Option AnyField) (field : FieldCosts) (r : Refusal) → option_map costs_of (Some field) ≡ option_map field_seen f → given_kind here.width (place_at here at) field.bits k ≡ Err r → (env : Env) → judged_field_stored here f at k env ≡ Stops r
-  field_refused None field r e g env = absurd cc
-  field_refused (Some f) field r e g env =
-      let b : field.bits ≡ (layout_of f).bits = ap bits_in e in
-      let h : given_kind here.width (place_at here at) (layout_of f).bits k ≡ Err r = rw b at g in
-      rw h refl
+  pub field_refused : (f : AnyField) (r : Refusal) → given_kind here.width (place_at here at) (layout_of f).bits k ≡ Err r → (env : Env) → judged_field_stored here (Some f) at k env ≡ Stops r
+  field_refused f r h env = rw h refl
 
-  pub field_stored : (f : Option AnyField) (field : FieldCosts) → option_map costs_of (Some field) ≡ option_map field_seen f → given_kind here.width (place_at here at) field.bits k ≡ Ok tt → (env : Env) → judged_field_stored here f at k env ≡ judged.Goes tt env no_exits (1 + field.writes)
-  field_stored None field e g env = absurd cc
-  field_stored (Some f) field e g env =
-      let b : field.bits ≡ (layout_of f).bits = ap bits_in e in
-      let w : field.writes ≡ write_count f = ap writes_in e in
-      let h : given_kind here.width (place_at here at) (layout_of f).bits k ≡ Ok tt = rw b at g in
-      rw h (ap (judged.Goes tt env no_exits) (omega (arith, w)))
+  pub field_stored : (f : AnyField) → given_kind here.width (place_at here at) (layout_of f).bits k ≡ Ok tt → (env : Env) → judged_field_stored here (Some f) at k env ≡ judged.Goes tt env no_exits (1 + write_count f)
+  field_stored f h env = rw h (ap (judged.Goes tt env no_exits) (omega arith))
 
   pub buffer_field_refused : (f : BufferField) (r : Refusal) → buffer_field_stored_kind here.width (place_at here at) f (held_kind here f.source) k ≡ Err r → (env : Env) → judged_buffer_field_stored here (Some f) at k env ≡ Stops r
   buffer_field_refused f r h env = ap (λ x. then_judge (ruled x env) (λ u. pays 1 tt)) h

@@ -1,25 +1,25 @@
 // Names that are read.
 
-ghost use Rattle.std.specs.Prelude.{◌≡◌, Option};
-ghost use Rattle.std.specs.Option.{option_map};
+ghost use Rattle.std.specs.Prelude.{◌≡◌, IfSome};
 ghost use Rattle.aml_causes.specs.declared.cause.Refusal.{Refusal};
-ghost use Rattle.aml_regions.specs.declared.field.AnyField.{AnyField};
+ghost use Rattle.aml_regions.specs.Fields.{IsSoundField};
 ghost use Rattle.aml_meaning.specs.Owns.{field_at};
 ghost use Rattle.aml_meaning.specs.Rules.{Place};
 ghost use Rattle.aml_judged.specs.Judge.{held_kind, judged_buffer_field, judged_content, judged_field, judged_name, judged_own, place_at, refusal};
 ghost use Rattle.aml_rules.specs.Tells.{place_of};
 ghost use Rattle.aml_judging.specs.Follows.{Costs};
-ghost use Rattle.aml_findings.specs.Views.{content_of, costs_of, field_seen};
+ghost use Rattle.aml_findings.specs.Views.{content_of};
 ghost use Rattle.aml_judging.specs.Views.{read_of};
 
 use aml_causes::{Cause, Refusal};
-use aml_fields::usable_buffer_field;
+use aml_fields::{read_count, usable_buffer_field};
 use aml_findings::faults::unusable;
-use aml_findings::{Around, FieldCosts, Finding, Wanted, finds};
+use aml_findings::{Around, Finding, Wanted, finds};
 use aml_kind_rules::{field_kind, source_kind};
 use aml_known::Known;
 use aml_meaning::BufferField;
 use aml_namespace::Link;
+use aml_regions::AnyField;
 use aml_rules::Place;
 
 /// What is read of a name: a value of a kind, for some events.
@@ -76,17 +76,17 @@ fn content<A: Around>(here: &A, at: usize, kind: Option<Known>) -> Result<Read, 
 fn field<A: Around>(
     here: &A,
     link: Link,
-    field: Option<FieldCosts>,
+    field: Option<AnyField>,
     at: usize,
 ) -> Result<Read, Refusal>
-    ensures { (f : Option AnyField) → option_map costs_of field ≡ option_map field_seen f →
-        Costs (read_of (A.numbered here.now)) (λ r. r.events)
-        (judged_field (A.around here.now) f at) result }
+    requires sound { IfSome field IsSoundField }
+    ensures { Costs (read_of (A.numbered here.now)) (λ r. r.events)
+        (judged_field (A.around here.now) field at) result }
 {
     match field {
         Some(field) => Ok(Read {
-            kind: field_kind(here.width(), field.bits),
-            events: field.reads,
+            kind: field_kind(here.width(), field.layout().bits),
+            events: read_count(&field),
         }),
         None => Err(refusal_for(here, Cause::Region, at, unusable(here, link))),
     }

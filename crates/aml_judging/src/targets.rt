@@ -1,47 +1,48 @@
 // Names, locals and arguments that are stored into.
 
-ghost use Rattle.std.specs.Prelude.{◌≡◌, ◌+◌, Option};
-ghost use Rattle.std.specs.Option.{option_map};
+ghost use Rattle.std.specs.Prelude.{◌≡◌, ◌+◌, IfSome};
 ghost use Rattle.aml_operators.specs.Tree.{view, views};
-ghost use Rattle.aml_regions.specs.declared.field.AnyField.{AnyField};
+ghost use Rattle.aml_regions.specs.Fields.{IsSoundField};
 ghost use Rattle.aml_meaning.specs.Actions.{action};
 ghost use Rattle.aml_meaning.specs.Owns.{field_at};
 ghost use Rattle.aml_judged.specs.Judge.{judged_bound, judged_buffer_field_stored, judged_field_stored, judged_indexed, judged_into, judged_name_indexed, judged_own_stored, judged_placed, judged_put, judged_target};
 ghost use Rattle.aml_known.specs.Views.{kind_of};
 ghost use Rattle.aml_judging.specs.Follows.{Costs, Gives, Judges};
-ghost use Rattle.aml_findings.specs.Views.{content_of, costs_of, field_seen};
+ghost use Rattle.aml_findings.specs.Views.{content_of};
 
 use crate::names::{held_kind, place, refusal, refusal_for};
 use crate::progress::Progress;
 use aml_causes::{Cause, Refusal};
-use aml_fields::usable_buffer_field;
+use aml_fields::{usable_buffer_field, write_count};
 use aml_findings::faults::unusable;
-use aml_findings::{Around, FieldCosts, Wanted, finds};
+use aml_findings::{Around, Wanted, finds};
 use aml_kind_rules::{buffer_field_stored_kind, given_kind, may_replace};
 use aml_known::{Known, Stop, set_kind};
 use aml_meaning::{Action, BufferField, action_of};
 use aml_namespace::Link;
 use aml_operators::{Op, Term};
+use aml_regions::AnyField;
 
 /// What is of a kind is stored into a field of a region: so many events. V9 at the name of one that
 /// cannot be written, V3 where it does not take such a value.
 fn field<A: Around>(
     here: &A,
     link: Link,
-    field: Option<FieldCosts>,
+    field: Option<AnyField>,
     at: usize,
     kind: Known,
 ) -> Result<u64, Refusal>
-    ensures { (f : Option AnyField) → option_map costs_of field ≡ option_map field_seen f →
-        Costs (λ n. tt) (λ n. 1 + n) (judged_field_stored (A.around here.now) f at
+    requires sound { IfSome field IsSoundField }
+    ensures { Costs (λ n. tt) (λ n. 1 + n) (judged_field_stored (A.around here.now) field at
         (kind_of (A.numbered here.now) kind)) result }
 {
     let Some(field) = field else {
         return Err(refusal_for(here, Cause::Region, at, unusable(here, link)));
     };
-    here.finds(finds::given(here, field.bits, kind));
-    given_kind(here.width(), place(here, at), field.bits, kind)?;
-    Ok(field.writes)
+    let bits = field.layout().bits;
+    here.finds(finds::given(here, bits, kind));
+    given_kind(here.width(), place(here, at), bits, kind)?;
+    Ok(write_count(&field))
 }
 
 /// The same into a field of a buffer, without events. V9, V3 and V7 as where it is read, and V3

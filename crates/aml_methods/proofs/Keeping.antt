@@ -1,10 +1,9 @@
 -- What is kept of bodies, one by one.
-use Rattle.std.proofs.Common.{◌≡◌, ◌≢◌, ◌<◌, ◌≤◌, ◌+◌, ℕ, List, length, take, set, slice_get, get_or, Option, Some, None, Ok, Err, ◌⊎◌, inl, inr, refl, sym, ap, subst, ◌∙◌, arith}
-use Rattle.std.proofs.lemmas.List.{get_or-set_other, get_or-set_same, get_or_past, length-set, take_all}
-use Rattle.std.proofs.lemmas.Option.{same_Some, unwrap_or-slice_get}
+use Rattle.std.proofs.Common.{◌≡◌, ◌≤◌, ◌+◌, ℕ, List, length, take, set, slice_get, Option, Some, None, Err, refl, sym, ap, subst, ◌∙◌, arith}
+use Rattle.std.proofs.lemmas.List.{length-set, take_all}
+use Rattle.std.proofs.lemmas.Option.{same_Some}
 use Rattle.std.specs.Prelude.{true, IsSome}
 use Rattle.aml_bodies.specs.Kept.{AreKept, IsKept, kept_at}
-use Rattle.aml_bodies.specs.Methods.{AreStatementsOf}
 use Rattle.aml_bodies.specs.declared.keeping.Kept.{Kept}
 use Rattle.aml_calls.specs.Calls.{calls_of}
 use Rattle.aml_calls.specs.Chains.{is_among}
@@ -17,6 +16,7 @@ use Rattle.aml_own_names.specs.OwnNamesSeen.{owns_seen}
 use Rattle.aml_tree.specs.declared.fault.Refusal.{Refusal}
 use Rattle.aml_tree.specs.declared.fault.TreeFault.{TreeFault}
 use Rattle.aml_tree.specs.declared.fault.TreeFault.TheVariants.{Refused}
+use Rattle.aml_methods.proofs.ByNumber.{not_both, put_is, put_other, put_same}
 use Rattle.aml_methods.proofs.Calls.{read_calls}
 use Rattle.aml_methods.proofs.Places.{before, by_same, method_within}
 use Rattle.aml_methods.specs.Gathered.{IsCalledFrom, IsFoundOf}
@@ -28,54 +28,30 @@ pub record KeepsSoFar (ns : Shown) (order : List ℕ) (so_far : ℕ) (kept : Lis
   pub all : (k : ℕ) (m : Method) → method_at ns k ≡ Some m → is_among k (take so_far order) ≡ true →
       (ts : List Tree) → IsBodyOf ns k m ts → IsSome (kept_at kept k)
 
-kept_get : (ks : List (Option Kept)) (k : ℕ) → kept_at ks k ≡ get_or ks k None
-kept_get ks k = unwrap_or-slice_get ks k None
-
-kept_same : (ks : List (Option Kept)) (k : ℕ) (one : Option Kept) → k < length ks → kept_at (set ks k one) k ≡ one
-kept_same ks k one lt = kept_get (set ks k one) k ∙ get_or-set_same ks k one None lt
-
-kept_other : (ks : List (Option Kept)) (k i : ℕ) (one : Option Kept) → i ≢ k → kept_at (set ks k one) i ≡ kept_at ks i
-kept_other ks k i one other = kept_get (set ks k one) i ∙ get_or-set_other ks k i one None other ∙ sym (kept_get ks i)
-
--- nothing stands past the end
-kept_past : (ks : List (Option Kept)) (k : ℕ) → length ks ≤ k → kept_at ks k ≡ None
-kept_past ks k le = kept_get ks k ∙ get_or_past ks k None le
-
-no_kept : (o : Option Kept) (one : Kept) → o ≡ Some one → o ≡ None → ⊥
-no_kept None one e f = absurd cc
-no_kept (Some x) one e f = absurd cc
-
 module _ (ns : Shown) (order : List ℕ) (so_far : ℕ) (kept : List (Option Kept)) (is : KeepsSoFar ns order so_far kept) (k : ℕ) (at : slice_get order so_far ≡ Some k) (one : Option Kept) (found : IsFoundOf ns k one) where
   kept_here : (x : Kept) → kept_at (set kept k one) k ≡ Some x → IsKept ns k x
-  kept_here x e = by (within k (length kept))
-    where
-      within : (a b : ℕ) → (a < b) ⊎ (b ≤ a)
-      within a b = grind arith
-
-      by : (k < length kept) ⊎ (length kept ≤ k) → IsKept ns k x
-      by (inl lt) = found.is x (sym (kept_same kept k one lt) ∙ e)
-      by (inr le) = absurd (no_kept (kept_at (set kept k one) k) x e (kept_past (set kept k one) k (let l = length-set kept k one in omega (arith, l, le))))
+  kept_here x e = found.is x (put_is kept k one x e)
 
   read_here : (m : Method) → method_at ns k ≡ Some m → (ts : List Tree) → IsBodyOf ns k m ts → IsSome (kept_at (set kept k one) k)
   read_here m there ts body =
       let lt = method_within ns k m there in
       let room = is.room in
-      subst IsSome (sym (kept_same kept k one (omega (arith, lt, room)))) (found.all m there ts body)
+      subst IsSome (sym (put_same None kept k one (omega (arith, lt, room)))) (found.all m there ts body)
 
   pub one_kept : KeepsSoFar ns order (so_far + 1) (set kept k one)
   one_kept = record {
     room = length-set kept k one ∙ is.room;
-    are = λ i x e. by_same _ i k (λ same. subst (λ n. kept_at (set kept k one) n ≡ Some x → IsKept ns n x) (sym same) (kept_here x) e) (λ other. is.are i x (sym (kept_other kept k i one other) ∙ e));
+    are = λ i x e. by_same _ i k (λ same. subst (λ n. kept_at (set kept k one) n ≡ Some x → IsKept ns n x) (sym same) (kept_here x) e) (λ other. is.are i x (sym (put_other None kept k one i other) ∙ e));
     all = λ i m there among ts body. by_same _ i k
         (λ same. subst (λ n. method_at ns n ≡ Some m → IsBodyOf ns n m ts → IsSome (kept_at (set kept k one) n)) (sym same) (λ here this. read_here m here ts this) there body)
-        (λ other. subst IsSome (sym (kept_other kept k i one other)) (is.all i m there (before order so_far k i at among other) ts body));
+        (λ other. subst IsSome (sym (put_other None kept k one i other)) (is.all i m there (before order so_far k i at among other) ts body));
   }
 
 -- at first nothing is kept
 pub none_kept : (ns : Shown) (order : List ℕ) (kept : List (Option Kept)) → length kept ≡ length ns.entries → ((k : ℕ) → kept_at kept k ≡ None) → KeepsSoFar ns order 0 kept
 none_kept ns order kept room none = record {
   room = room;
-  are = λ k x e. absurd (no_kept (kept_at kept k) x e (none k));
+  are = λ k x e. absurd (not_both (kept_at kept k) x e (none k));
   all = λ k m there e. absurd cc;
 }
 
@@ -114,7 +90,3 @@ pub kept_calls : (ns : Shown) (k : ℕ) (m : Method) (ts : List Tree) (bytes : L
 kept_calls ns k m ts bytes one callees is body stand kept gathered =
     read_calls ns k m ts bytes (owns_seen one.owns) callees is body stand
     (kept.owns m is ts body ∙ ap (λ (b : List ℕ). own_names b ts) (sym stand)) gathered
-
--- what was read of a method's body are its statements
-pub statements_read : (ns : Shown) (k : ℕ) (ts : List Tree) → ((m : Method) → method_at ns k ≡ Some m → ReadsBodyOf ns k m (Ok ts)) → AreStatementsOf ns k ts
-statements_read ns k ts read = record { are = read }

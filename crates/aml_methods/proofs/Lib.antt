@@ -1,4 +1,5 @@
 pub mod Judgings
+pub mod ByNumber
 pub mod Calls
 pub mod JudgingsThere
 pub mod HandedOn

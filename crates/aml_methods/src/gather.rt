@@ -11,7 +11,7 @@ ghost use Rattle.aml_meaning.specs.Actions as actions;
 ghost use Rattle.aml_methods.specs.Gathered.{AreCalls, if_any, IsCalledFrom, IsFoundOf, links_of};
 ghost use Rattle.aml_methods.specs.HandedOn.{AreTrees};
 
-use crate::kept::{keep_one, none_kept};
+use crate::by_number::{nothing_yet, put};
 use crate::named::Named;
 use crate::trees::Trees;
 use aml_bodies::{Kept, keep_body};
@@ -173,11 +173,11 @@ pub fn gathered(
     let Ok(mut calls) = Vec::with_capacity(alloc, methods.len()) else {
         return Err(NoMemory);
     };
-    let mut kept = none_kept(alloc, namespace.len())?;
+    let mut kept = nothing_yet(alloc, namespace.len())?;
     for id in methods {
         let (callees, one) = read_once(alloc, namespace, *id, shapes, trees)?;
         keep(&mut calls, *id, callees)?;
-        keep_one(&mut kept, *id, one);
+        put(&mut kept, *id, one);
     }
     Ok(Gathering { calls, kept })
 }

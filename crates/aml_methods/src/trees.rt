@@ -1,12 +1,13 @@
 // Statements of bodies that were read once, and are handed on.
 
-ghost use Rattle.std.specs.Prelude.{◌≡◌, ℕ, IfOk, None, Some, length, map, slice_set};
+ghost use Rattle.std.specs.Prelude.{◌≡◌, IfOk, map};
 ghost use Rattle.std.specs.Option.{option_map};
 ghost use Rattle.aml_bodies.specs.Methods.{AreStatementsOf};
 ghost use Rattle.aml_namespace.specs.Load.{Shown};
 ghost use Rattle.aml_operators.specs.Tree.{view};
 ghost use Rattle.aml_methods.specs.HandedOn.{AreTrees, tree_at};
 
+use crate::by_number::{nothing_yet, put};
 use aml_operators::Term;
 use aml_paths::{NoMemory, ObjectId};
 use std::alloc::Global;
@@ -23,31 +24,6 @@ pub struct Trees {
     pub bodies: Vec<Option<Vec<Term>>>,
     /// How many bytes further bodies may have.
     room: usize,
-}
-
-/// No statements, for so many objects.
-fn no_trees(alloc: Global, count: usize) -> Result<Vec<Option<Vec<Term>>>, NoMemory>
-    ensures { IfOk result (λ trees. (k : ℕ) → tree_at trees.items k ≡ None) }
-{
-    let Ok(mut trees) = Vec::with_capacity(alloc, count) else {
-        return Err(NoMemory);
-    };
-    for _ in 0..count {
-        match trees.push(None) {
-            Ok(()) => {}
-            Err(_) => return Err(NoMemory),
-        }
-    }
-    Ok(trees)
-}
-
-/// Puts a body's statements under its method's number, where there is a place for them.
-fn put(trees: &mut Vec<Option<Vec<Term>>>, id: ObjectId, body: Vec<Term>)
-    ensures { trees.new.items ≡ slice_set trees.old.items id.0 (Some body) }
-{
-    if id.0 < trees.len() {
-        trees[id.0] = Some(body);
-    }
 }
 
 /// How many bytes statements have.
@@ -68,7 +44,7 @@ impl Trees {
     pub fn new(alloc: Global, count: usize) -> Result<Trees, NoMemory>
         ensures { IfOk result (λ trees. (ns : Shown) → AreTrees ns trees.bodies.items) }
     {
-        let bodies = no_trees(alloc, count)?;
+        let bodies = nothing_yet(alloc, count)?;
         Ok(Trees {
             bodies,
             room: HANDED_ON,
@@ -94,7 +70,7 @@ impl Trees {
         let size = size_of(&body);
         if size <= self.room {
             self.room -= size;
-            put(&mut self.bodies, id, body);
+            put(&mut self.bodies, id, Some(body));
         }
     }
 }

@@ -1,4 +1,3 @@
-pub mod Places
 pub mod Orders
 pub mod Seeing
 pub mod Stepping

@@ -1,9 +1,8 @@
 -- One method more is marked.
-use Rattle.std.proofs.Common.{◌≡◌, ◌≢◌, ◌<◌, ◌≤◌, ◌+◌, ℕ, List, length, take, set, slice_get, get_or, Option, Some, None, ◌⊎◌, inl, inr, refl, sym, ap, subst, ◌∙◌, arith}
+use Rattle.std.proofs.Common.{◌≡◌, ◌≢◌, ◌<◌, ◌≤◌, ◌+◌, ℕ, zero, suc, List, length, take, set, slice_get, Option, Some, None, ◌⊎◌, inl, inr, refl, sym, ap, subst, ◌∙◌, arith}
 use Rattle.std.proofs.lemmas.Bool.{eqb-true, or_parts}
-use Rattle.std.proofs.lemmas.List.{get_or-set_other, get_or-set_same, get_or_past, length-set, take_all}
-use Rattle.std.proofs.lemmas.Option.{unwrap_or-slice_get}
-use Rattle.std.specs.Prelude.{Bool, true, false, ◌==◌, ◌||◌}
+use Rattle.std.proofs.lemmas.List.{length-set, take_all}
+use Rattle.std.specs.Prelude.{Bool, true, false, replicate, ◌==◌, ◌||◌}
 use Rattle.aml_calls.specs.Chains.{is_among}
 use Rattle.aml_integers.proofs.Order.{done_decides, marks_decide, refused_is_not}
 use Rattle.aml_integers.specs.Known.{marked}
@@ -11,6 +10,7 @@ use Rattle.aml_integers.specs.Laws.{AreDecided, CallsDone, decided}
 use Rattle.aml_judged.proofs.Order.{long_refused}
 use Rattle.aml_judged.specs.Judged.{Accepted}
 use Rattle.aml_judged.specs.Verdicts.{accepted_of, AreAccepted, called_from, calls_by, Judging, verdict_by}
+use Rattle.aml_methods.proofs.ByNumber.{below_or_past, past, put_other, put_past, put_same}
 use Rattle.aml_methods.proofs.Judgings.{no_callee}
 use Rattle.aml_methods.specs.Judgings.{IsJudging, IsReady, Told}
 use Rattle.aml_objects.specs.declared.object.Method.{Method}
@@ -19,31 +19,22 @@ use Rattle.aml_namespace.specs.Names.{method_at}
 use Rattle.aml_methods.proofs.Places.{by_same, method_within, taken_or}
 use Rattle.aml_verify.specs.Keeping.{AreMarked, MarksSoFar}
 
-mark_get : (ms : List Bool) (k : ℕ) → marked ms k ≡ get_or ms k false
-mark_get ms k = unwrap_or-slice_get ms k false
-
-mark_same : (ms : List Bool) (k : ℕ) (one : Bool) → k < length ms → marked (set ms k one) k ≡ one
-mark_same ms k one lt = mark_get (set ms k one) k ∙ get_or-set_same ms k one false lt
-
-mark_other : (ms : List Bool) (k i : ℕ) (one : Bool) → i ≢ k → marked (set ms k one) i ≡ marked ms i
-mark_other ms k i one other = mark_get (set ms k one) i ∙ get_or-set_other ms k i one false other ∙ sym (mark_get ms i)
-
-mark_past : (ms : List Bool) (k : ℕ) → length ms ≤ k → marked ms k ≡ false
-mark_past ms k le = mark_get ms k ∙ get_or_past ms k false le
+-- where all marks are alike, none is set
+pub none_is_marked : (n k : ℕ) → marked (replicate n false) k ≡ false
+none_is_marked zero k = refl
+none_is_marked (suc n) zero = refl
+none_is_marked (suc n) (suc k) = none_is_marked n k
 
 -- a mark that is laid where it is changes none
 same_marks : (ms : List Bool) (k : ℕ) (one : Bool) → one ≡ marked ms k → marked (set ms k one) ≡ marked ms
 same_marks ms k one is = λ x i. each i x
   where
     here : (k < length ms) ⊎ (length ms ≤ k) → marked (set ms k one) k ≡ marked ms k
-    here (inl lt) = mark_same ms k one lt ∙ is
-    here (inr le) = mark_past (set ms k one) k (let l = length-set ms k one in omega (arith, l, le)) ∙ sym (mark_past ms k le)
-
-    within : (a b : ℕ) → (a < b) ⊎ (b ≤ a)
-    within a b = grind arith
+    here (inl lt) = put_same false ms k one lt ∙ is
+    here (inr le) = put_past false ms k one le ∙ sym (past false ms k le)
 
     each : (i : ℕ) → marked (set ms k one) i ≡ marked ms i
-    each i = by_same _ i k (λ same. subst (λ n. marked (set ms k one) n ≡ marked ms n) (sym same) (here (within k (length ms)))) (λ other. mark_other ms k i one other)
+    each i = by_same _ i k (λ same. subst (λ n. marked (set ms k one) n ≡ marked ms n) (sym same) (here (below_or_past k (length ms)))) (λ other. put_other false ms k one i other)
 
 or_swap : (p q : Bool) → (q || p) ≡ (p || (q || false))
 or_swap true true = refl

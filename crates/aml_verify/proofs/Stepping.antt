@@ -20,8 +20,8 @@ use Rattle.aml_objects.specs.declared.object.Method.{Method}
 use Rattle.aml_namespace.specs.Load.{Shown}
 use Rattle.aml_namespace.specs.Names.{method_at}
 use Rattle.aml_shapes.specs.Numbers.{numbered}
+use Rattle.aml_methods.proofs.ByNumber.{put_other, put_same}
 use Rattle.aml_methods.proofs.Places.{before, by_same, method_within, taken_or, within}
-use Rattle.aml_verify.proofs.Places.{said_other, said_same}
 use Rattle.aml_verify.proofs.Seeing.{known_said, one_answer}
 use Rattle.aml_verify.specs.Bodies.{callee_by}
 use Rattle.aml_verify.specs.Said.{accepted_by, verdict_at}
@@ -92,7 +92,7 @@ module _ (ns : Shown) (told : Told) (shapes : List Shape) (shared : List (Option
     right_at : SaysRight → (all : Judging) (j : IsJudging ns told all) (known : ℕ → Option judged.Accepted) (a : AreAccepted all known) (n : Method) → method_at ns k ≡ Some n → (w : Verdict) → verdict_at (set verdicts k (Some said)) k ≡ Some w → Says ns (numbered shapes) k n w (verdict_by all known k (all.methods.callee k))
     right_at says all j known a n here w e =
         let method : m ≡ n = same_Some m n (sym there ∙ here) in
-        let verdict : said ≡ w = same_Some said w (sym (said_same verdicts k said room) ∙ e) in
+        let verdict : said ≡ w = same_Some said w (sym (put_same None verdicts k (Some said) room) ∙ e) in
         subst (λ x. Says ns (numbered shapes) k x w (verdict_by all known k (all.methods.callee k))) method
         (subst (λ x. Says ns (numbered shapes) k m x (verdict_by all known k (all.methods.callee k))) verdict (says all j known a))
 
@@ -109,10 +109,10 @@ module _ (ns : Shown) (told : Told) (shapes : List Shape) (shared : List (Option
       ordered = is.ordered;
       room = length-set verdicts k (Some said) ∙ is.room;
       within = let lt = within order judged_so_far k at in omega (arith, lt);
-      right = λ all j known a i n here w e. by_same _ i k (λ same. right_here says all j known a i n here w e same) (λ other. is.right all j known a i n here w (sym (said_other verdicts k i said other) ∙ e));
-      said = λ i n here among. by_same _ i k (λ same. subst (λ x. IsSome (verdict_at (set verdicts k (Some said)) x)) (sym same) (is_there _ said (said_same verdicts k said room))) (λ other. subst IsSome (sym (said_other verdicts k i said other)) (is.said i n here (before order judged_so_far k i at among other)));
-      unsaid = λ i away. by_same _ i k (λ same. absurd (left i away same)) (λ other. said_other verdicts k i said other ∙ is.unsaid i (or_parts (is_among i (take judged_so_far order)) ((i == k) || false) (sym (taken_or order judged_so_far k i at) ∙ away)).0);
-      only = λ i none. by_same _ i k (λ same. absurd (let bad : None ≡ Some m = sym none ∙ ap (method_at ns) same ∙ there in cc)) (λ other. said_other verdicts k i said other ∙ is.only i none);
+      right = λ all j known a i n here w e. by_same _ i k (λ same. right_here says all j known a i n here w e same) (λ other. is.right all j known a i n here w (sym (put_other None verdicts k (Some said) i other) ∙ e));
+      said = λ i n here among. by_same _ i k (λ same. subst (λ x. IsSome (verdict_at (set verdicts k (Some said)) x)) (sym same) (is_there _ said (put_same None verdicts k (Some said) room))) (λ other. subst IsSome (sym (put_other None verdicts k (Some said) i other)) (is.said i n here (before order judged_so_far k i at among other)));
+      unsaid = λ i away. by_same _ i k (λ same. absurd (left i away same)) (λ other. put_other None verdicts k (Some said) i other ∙ is.unsaid i (or_parts (is_among i (take judged_so_far order)) ((i == k) || false) (sym (taken_or order judged_so_far k i at) ∙ away)).0);
+      only = λ i none. by_same _ i k (λ same. absurd (let bad : None ≡ Some m = sym none ∙ ap (method_at ns) same ∙ there in cc)) (λ other. put_other None verdicts k (Some said) i other ∙ is.only i none);
     }
 
   -- and past what is no method

@@ -6,8 +6,8 @@ ghost use Rattle.aml_verify.specs.Bodies.{around_body, IsGrown};
 
 use crate::verdict::{Verdict, accepted_at};
 use aml_components::{Components, Heights};
-use aml_fields::{buffer_field_numbered, field_in, read_count, write_count};
-use aml_findings::{Around, FieldCosts, Finding, Made, Seen};
+use aml_fields::{buffer_field_numbered, field_in};
+use aml_findings::{Around, Finding, Made, Seen};
 use aml_known::{ElementKnown, Known, ShapeNumber, Shapes};
 use aml_lex::name_there;
 use aml_meaning::BufferField;
@@ -15,6 +15,7 @@ use aml_methods::Named;
 use aml_namespace::{Link, Object, Width};
 use aml_operators::{Op, Term};
 use aml_paths::{NoMemory, ObjectId};
+use aml_regions::AnyField;
 use aml_shapes::ShapeTable;
 use std::alloc::{AllocError, Global};
 use std::cell::Cell;
@@ -118,16 +119,11 @@ impl Around for Body<'_, '_, '_> {
         self.names.namespace.object(id)
     }
 
-    fn field(&self, id: ObjectId) -> Option<FieldCosts> {
+    fn field(&self, id: ObjectId) -> Option<AnyField> {
         let Some(Object::Field(field)) = self.names.namespace.object(id) else {
             return None;
         };
-        let any = field_in(self.names.namespace, &field)?;
-        Some(FieldCosts {
-            bits: any.layout().bits,
-            reads: read_count(&any),
-            writes: write_count(&any),
-        })
+        field_in(self.names.namespace, &field)
     }
 
     fn buffer_field(&self, id: ObjectId) -> Option<BufferField> {

@@ -22,7 +22,7 @@ use aml_findings::Finding;
 use aml_findings::finds::refused;
 use aml_integers::integers_alone;
 use aml_known::{Known, Stop};
-use aml_methods::{Named, Trees, arguments, gathered};
+use aml_methods::{Named, Trees, arguments, gathered, nothing_yet, put};
 use aml_namespace::{Method, Namespace};
 use aml_operators::Term;
 use aml_paths::{NoMemory, ObjectId};
@@ -61,38 +61,15 @@ struct Found {
     integers: bool,
 }
 
-/// No verdicts, for so many objects.
-fn no_verdicts(alloc: Global, count: usize) -> Result<Vec<Option<Verdict>>, NoMemory>
-    ensures count { IfOk result (λ verdicts. length verdicts.items ≡ count) }
-    ensures none { IfOk result (λ verdicts. (k : ℕ) → verdict_at verdicts.items k ≡ None) }
-{
-    let Ok(mut verdicts) = Vec::with_capacity(alloc, count) else {
-        return Err(NoMemory);
-    };
-    for _ in 0..count {
-        match verdicts.push(None) {
-            Ok(()) => {}
-            Err(_) => return Err(NoMemory),
-        }
-    }
-    Ok(verdicts)
-}
-
 /// No marks, for so many objects.
 fn no_marks(alloc: Global, count: usize) -> Result<Vec<bool>, NoMemory>
     ensures count { IfOk result (λ marks. length marks.items ≡ count) }
     ensures none { IfOk result (λ marks. (k : ℕ) → marked marks.items k ≡ false) }
 {
-    let Ok(mut marks) = Vec::with_capacity(alloc, count) else {
-        return Err(NoMemory);
-    };
-    for _ in 0..count {
-        match marks.push(false) {
-            Ok(()) => {}
-            Err(_) => return Err(NoMemory),
-        }
+    match vec![in alloc; false; count] {
+        Ok(marks) => Ok(marks),
+        Err(_) => Err(NoMemory),
     }
-    Ok(marks)
 }
 
 /// Methods, and others behind them.
@@ -111,15 +88,6 @@ fn keep(verdicts: &mut Vec<Option<Verdict>>, id: ObjectId, said: Option<Verdict>
 {
     if said.is_some() && id.0 < verdicts.len() {
         verdicts[id.0] = said;
-    }
-}
-
-/// Marks a method, where there is room for it.
-fn mark(marks: &mut Vec<bool>, id: ObjectId, one: bool)
-    ensures { marks.new.items ≡ slice_set marks.old.items id.0 one }
-{
-    if id.0 < marks.len() {
-        marks[id.0] = one;
     }
 }
 
@@ -155,7 +123,7 @@ impl<'a, 's> Verifier<'a, 's> {
         let heights = Heights::of(alloc, &calls, &ordered, &others)?;
         let components = Components::of(alloc, &calls)?;
         let order = behind(ordered, &others)?;
-        let verdicts = no_verdicts(alloc, count)?;
+        let verdicts = nothing_yet(alloc, count)?;
         let integers = no_marks(alloc, count)?;
         Ok(Verifier {
             alloc,
@@ -199,7 +167,7 @@ impl<'a, 's> Verifier<'a, 's> {
         let id = self.order[self.judged];
         let found = self.found(id)?;
         keep(&mut self.verdicts, id, found.verdict);
-        mark(&mut self.integers, id, found.integers);
+        put(&mut self.integers, id, found.integers);
         self.judged += 1;
         Ok(Some(id))
     }

@@ -1,4 +1,4 @@
 use Rattle.aml_judging.proofs.targets.name.Goals as goal
 
 pub returns-in-Field : goal.returns-in-Field
-returns-in-Field g c = λ env. rw c.in-Field.is (c.field-in-Field.ensures _ c.field.ensures env)
+returns-in-Field g c = λ env. rw (c.in-Field.is, ← c.field.ensures.is) (c.field-in-Field.ensures env)

@@ -19,7 +19,7 @@ loop-id-preserved c =
     let ids = c.methods-methods.result.now in
     let i = c.loop-id.id-index in (
       pair_more (shown c.args.namespace.now) ids i _ c.loop-id.calls.items c.keep.new.pairs.items c.in_ok-callees.callees c.loop-id-test.true c.in_ok-keep.ensures c.loop-id.invariant.0 c.in_ok-callees.ensures.called,
-      rw c.keep_one.ensures (one_kept (shown c.args.namespace.now) (numbers ids) i c.loop-id.kept.items c.loop-id.invariant.1 _ (number_at ids i _ c.loop-id-test.true) c.in_ok-callees.one c.in_ok-callees.ensures.kept),
+      rw c.put.ensures (one_kept (shown c.args.namespace.now) (numbers ids) i c.loop-id.kept.items c.loop-id.invariant.1 _ (number_at ids i _ c.loop-id-test.true) c.in_ok-callees.one c.in_ok-callees.ensures.kept),
       λ are. c.in_ok-callees.ensures.trees (c.loop-id.invariant.2 are),
     )
 

@@ -1,5 +1,6 @@
 use Rattle.std.proofs.Common.{◌++◌, List, map, ap, ◌∙◌, rules}
 use Rattle.std.specs.Prelude.{IsSome}
+use Rattle.aml_bodies.proofs.Methods.{are_statements}
 use Rattle.aml_calls.specs.Calls.{calls_of}
 use Rattle.aml_calls.specs.Pairs.{numbers}
 use Rattle.aml_namespace.specs.Names.{link_with_owns, method_at}
@@ -9,7 +10,7 @@ use Rattle.aml_operators.specs.Tree.{view, views}
 use Rattle.aml_own_names.specs.OwnNamesSeen.{owns_seen}
 use Rattle.aml_paths.specs.declared.scope.ObjectId.{ObjectId}
 use Rattle.aml_methods.proofs.Calls.{refused_calls, there}
-use Rattle.aml_methods.proofs.Keeping.{kept_calls, none_found, read_found, refused_found, statements_read}
+use Rattle.aml_methods.proofs.Keeping.{kept_calls, none_found, read_found, refused_found}
 use Rattle.aml_methods.proofs.gather.read_once.Goals as goal
 
 pub returns-in-Err-Refused-clause-called : goal.returns-in-Err-Refused-clause-called
@@ -25,7 +26,7 @@ pub returns-then-is_none-clause-kept : goal.returns-then-is_none-clause-kept
 returns-then-is_none-clause-kept c = none_found (shown c.args.namespace.now) c.args.id.0 (search rules)
 
 pub keep_body-requires-clause-read : goal.keep_body-requires-clause-read
-keep_body-requires-clause-read c = rw c.deref.ensures.value (statements_read (shown c.args.namespace.now) c.args.id.0 (map view c.in-Ok.body.items) c.in-Ok.ensures)
+keep_body-requires-clause-read c = rw c.deref.ensures.value (are_statements (shown c.args.namespace.now) c.args.id.0 (map view c.in-Ok.body.items) c.in-Ok.ensures)
 
 pub returns-clause-called : goal.returns-clause-called
 returns-clause-called c =
@@ -44,4 +45,4 @@ pub returns-clause-kept : goal.returns-clause-kept
 returns-clause-kept c = read_found (shown c.args.namespace.now) c.args.id.0 c.in_ok-kept.kept c.in_ok-kept.ensures
 
 pub returns-clause-trees : goal.returns-clause-trees
-returns-clause-trees c = λ are. c.keep.ensures (shown c.args.namespace.now) are (record { are = λ m is. c.in-Ok.ensures m is })
+returns-clause-trees c = λ are. c.keep.ensures (shown c.args.namespace.now) are (are_statements (shown c.args.namespace.now) c.args.id.0 _ c.in-Ok.ensures)

@@ -15,7 +15,7 @@ returns-clause-verifier c = λ is. let v = c.args.self.now in
     record {
       at_work = rw c.keep.ensures (one_step (shown v.read.namespace.now) (kinds_told v.signatures.now) v.shapes v.shared.items v.heights v.components (numbers v.order.items) v.judged v.verdicts.items is.at_work c.index-id.result.now.0 c.in_ok-found.found.verdict at found.said);
       keeps = is.keeps;
-      marks = rw c.mark.ensures (one_marked (shown v.read.namespace.now) (kinds_told v.signatures.now) (numbers v.order.items) v.judged v.integers.items is.marks (λ all j. (is.at_work.calls all j).ready) c.index-id.result.now.0 at c.in_ok-found.found.integers found.marks);
+      marks = rw c.put.ensures (one_marked (shown v.read.namespace.now) (kinds_told v.signatures.now) (numbers v.order.items) v.judged v.integers.items is.marks (λ all j. (is.at_work.calls all j).ready) c.index-id.result.now.0 at c.in_ok-found.found.integers found.marks);
     }
 
 pub returns-clause-next : goal.returns-clause-next
