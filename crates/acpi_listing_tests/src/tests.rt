@@ -112,45 +112,56 @@ fn is_answered(alloc: Global, row: Row<'_>) -> Result<bool, Fail> {
     Ok(is_written(alloc, input.as_str(), status)?)
 }
 
+const LINK_OBJECT: &str = "resources --object \\_SB_.LNKA._CRS @";
+
+const ROUTING: &str = "routing --object \\_SB_.PCI0._PRT --madt @ @";
+
+const ROUTING_ALONE: &str = "routing --object \\_SB_.PCI0._PRT @";
+
+const ROWS: &[Row<'static>] = &[
+    ("verify @", TABLE_1, "", 0),
+    ("tables @ @", TABLE_1, TABLE_1, 0),
+    ("eval --plain 9 --method \\M000 --args 41 @", TABLE_1, "", 0),
+    ("eval --plain 9 --method \\M001 @", TABLE_1, "", 1),
+    ("names @", TABLE_1, "", 0),
+    ("tables @ @", FIELD, CYCLE, 0),
+    ("names @", FIELD, "", 0),
+    ("verify @", FIELD, "", 0),
+    ("eval --method \\M001 --regs @ @", REGISTERS, FIELD, 0),
+    ("names @", CYCLE, "", 0),
+    ("verify @", CYCLE, "", 3),
+    ("eval --plain 128 --method \\AAAA @", CYCLE, "", 3),
+    ("tables @ @", MADT, LINK, 0),
+    ("names @", LINK, "", 0),
+    ("verify @", LINK, "", 0),
+    (LINK_OBJECT, LINK, "", 0),
+    (ROUTING, MADT, LINK, 0),
+    (ROUTING_ALONE, LINK, "", 0),
+    ("routing --object \\AAAA @", CYCLE, "", 3),
+    ("resources --object \\AAAA @", CYCLE, "", 3),
+    ("resources --object \\_SB_.PCI0._PRT @", LINK, "", 1),
+    ("routing --object \\_SB_.LNKA._CRS @", LINK, "", 1),
+];
+
 // What a command prints, into a writer that takes a byte at a time, and into one that fails at each
-// byte: each listing, a verdict, an outcome, a fault's line and the line of a body that cannot be
-// read.
+// byte: each listing, a verdict, an outcome and a fault's line.
 #[test]
 fn writers(rt: HostRuntime) -> Result<(), Fail> {
     let alloc = rt.alloc();
+    for row in ROWS {
+        assert!(rt; is_answered(alloc, *row)?, "at {}", row.0);
+    }
+    Ok(())
+}
+
+// The same of the lines of a body that cannot be read.
+#[test]
+fn writers_of_a_torn_body(rt: HostRuntime) -> Result<(), Fail> {
+    let alloc = rt.alloc();
     let torn = dsdt(alloc, 2, "14084d30303000a45c").ok_or("a table")?;
-    let torn = torn.as_str();
-    let link = "resources --object \\_SB_.LNKA._CRS @";
-    let prt = "routing --object \\_SB_.PCI0._PRT --madt @ @";
-    let own = "routing --object \\_SB_.PCI0._PRT @";
-    let rows: [Row<'_>; 24] = [
-        ("verify @", TABLE_1, "", 0),
-        ("verify @", torn, "", 3),
-        ("tables @ @", TABLE_1, TABLE_1, 0),
-        ("eval --plain 9 --method \\M000 --args 41 @", TABLE_1, "", 0),
-        ("eval --plain 9 --method \\M001 @", TABLE_1, "", 1),
-        ("eval --plain 9 --method \\M000 @", torn, "", 3),
-        ("names @", TABLE_1, "", 0),
-        ("tables @ @", FIELD, CYCLE, 0),
-        ("names @", FIELD, "", 0),
-        ("verify @", FIELD, "", 0),
-        ("eval --method \\M001 --regs @ @", REGISTERS, FIELD, 0),
-        ("names @", CYCLE, "", 0),
-        ("verify @", CYCLE, "", 3),
-        ("eval --plain 128 --method \\AAAA @", CYCLE, "", 3),
-        ("tables @ @", MADT, LINK, 0),
-        ("names @", LINK, "", 0),
-        ("verify @", LINK, "", 0),
-        (link, LINK, "", 0),
-        (prt, MADT, LINK, 0),
-        (own, LINK, "", 0),
-        ("routing --object \\AAAA @", CYCLE, "", 3),
-        ("resources --object \\AAAA @", CYCLE, "", 3),
-        ("resources --object \\_SB_.PCI0._PRT @", LINK, "", 1),
-        ("routing --object \\_SB_.LNKA._CRS @", LINK, "", 1),
-    ];
-    for row in rows {
-        assert!(rt; is_answered(alloc, row)?, "at {}", row.0);
+    for words in ["verify @", "eval --plain 9 --method \\M000 @"] {
+        let row = (words, torn.as_str(), "", 3);
+        assert!(rt; is_answered(alloc, row)?, "at {words}");
     }
     Ok(())
 }

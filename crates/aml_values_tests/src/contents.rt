@@ -21,7 +21,7 @@ const MODULE: [u8; 40] = [
 ];
 
 /// What its names hold first: `_REV`, `_OS_` and those four.
-const FIRST: [Option<Sample>; 13] = [
+const FIRST: &[Option<Sample>] = &[
     None,
     None,
     None,
@@ -78,12 +78,12 @@ fn hold_all(alloc: Global, names: &Names, first: &[Option<Sample>]) -> Result<bo
 /// What a set answers: whether it was done; and whether the name then holds the new value, or else
 /// the refused one came back and the name holds what it held.
 fn is_set(alloc: Global, id: usize, sample: Sample) -> Result<(bool, bool), Fail> {
-    let mut names = names_of(alloc, Width::Bits64, &FIRST)?;
+    let mut names = names_of(alloc, Width::Bits64, FIRST)?;
     match names.set(ObjectId(id), value_of(alloc, sample)?) {
         Ok(()) => Ok((true, holds(alloc, &names, id, Some(sample))?)),
         Err(back) => {
             let is_same = is_same_value(&back, &value_of(alloc, sample)?);
-            Ok((false, is_same && hold_all(alloc, &names, &FIRST)?))
+            Ok((false, is_same && hold_all(alloc, &names, FIRST)?))
         }
     }
 }
@@ -136,7 +136,7 @@ fn narrow_integers(rt: HostRuntime) -> Result<(), Fail> {
 
 /// Whether a byte was set, and the bytes of BUF0 behind it.
 fn bytes_behind(alloc: Global, id: usize, at: usize) -> Result<(bool, [u8; 3]), Fail> {
-    let mut names = names_of(alloc, Width::Bits64, &FIRST)?;
+    let mut names = names_of(alloc, Width::Bits64, FIRST)?;
     let is_done = names.set_byte(ObjectId(id), at, 1);
     match names.get(ObjectId(10)) {
         Some(Value::Buf(bytes)) => match bytes.as_slice() {
@@ -167,12 +167,16 @@ fn bytes_are_set(rt: HostRuntime) -> Result<(), Fail> {
 }
 
 /// What the names hold where one is another, or missing.
-fn with_other(id: usize, sample: Option<Sample>) -> [Option<Sample>; 13] {
-    let mut others = FIRST;
+fn with_other(
+    alloc: Global,
+    id: usize,
+    sample: Option<Sample>,
+) -> Result<Vec<Option<Sample>>, AllocError> {
+    let mut others = Vec::from_slice(alloc, FIRST)?;
     if let Some(other) = others.get_mut(id) {
         *other = sample;
     }
-    others
+    Ok(others)
 }
 
 #[test]
@@ -197,12 +201,12 @@ fn names_belong(rt: HostRuntime) -> Result<(), Fail> {
         (6, Some(Sample::Int(0)), false),
     ];
     for (i, (id, sample, is_theirs)) in rows.iter().enumerate() {
-        let names = names_of(alloc, Width::Bits64, &with_other(*id, *sample))?;
+        let names = names_of(alloc, Width::Bits64, &with_other(alloc, *id, *sample)?)?;
         assert!(rt; names.belong(&ns) == *is_theirs, "row {i}");
     }
-    assert!(rt; !names_of(alloc, Width::Bits32, &FIRST)?.belong(&ns));
+    assert!(rt; !names_of(alloc, Width::Bits32, FIRST)?.belong(&ns));
     assert!(rt; !names_of(alloc, Width::Bits64, &FIRST[..12])?.belong(&ns));
-    let mut names = names_of(alloc, Width::Bits64, &FIRST)?;
+    let mut names = names_of(alloc, Width::Bits64, FIRST)?;
     names.push(alloc, Width::Bits64, None)?;
     assert!(rt; !names.belong(&ns));
     Ok(())
@@ -226,7 +230,7 @@ fn push_again(alloc: Global, names: &mut Names, sample: Option<Sample>) -> Resul
 fn want_of_memory_in_names(rt: HostRuntime) -> Result<(), Fail> {
     let alloc = rt.alloc();
     let mut names = Names::new(alloc);
-    for sample in &FIRST {
+    for sample in FIRST {
         push_again(alloc, &mut names, *sample)?;
     }
     let copy = match names.copy(alloc) {

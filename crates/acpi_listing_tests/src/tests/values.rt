@@ -54,10 +54,14 @@ fn nested(alloc: Global, value: Value, depth: usize) -> Option<Value> {
     Some(inner)
 }
 
-// What is printed of the elements in so many packages in one another.
+// The elements in so many packages in one another.
+fn elements_in(alloc: Global, depth: usize) -> Option<Value> {
+    nested(alloc, package(elements(alloc).ok()?)?, depth)
+}
+
+// What is printed of them.
 fn printed(alloc: Global, namespace: &Namespace<'_>, depth: usize) -> Result<Vec<u8>, Fail> {
-    let value = package(elements(alloc)?).ok_or("a package")?;
-    let value = nested(alloc, value, depth).ok_or("packages in one another")?;
+    let value = elements_in(alloc, depth).ok_or("packages in one another")?;
     let mut out = Vec::new(alloc);
     list_value(alloc, &mut out, namespace, &value)?;
     Ok(out)
