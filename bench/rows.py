@@ -415,9 +415,9 @@ def run(program, row, room, words=None, env=None):
 
 
 def is_told_why(row, lines):
-    """Whether people are told why: of a method that was asked for and judged, and is refused; of an AML error."""
+    """Whether people are told why: of a method that was asked for and is refused; of an AML error."""
     words = row.words or row.input.partition(b"\n")[0].decode(errors="replace").split()
-    asked, last = words[:1] in (["eval"], ["resources"], ["routing"]) and "--plain" not in words, (lines or [""])[-1]
+    asked, last = words[:1] in (["eval"], ["resources"], ["routing"]), (lines or [""])[-1]
     return last.startswith("error ") or asked and bool(re.match(r"\\\S* refused ", last))
 
 

@@ -9,11 +9,11 @@ import compare
 import generate
 
 SECONDS = 30
-# A table's file: its signature, then digits, an ending, or both.
-TABLE_FILE = re.compile(r"([A-Za-z0-9_!]{4})([0-9]*)(\..*)?", re.DOTALL)
+# A table's file: its signature, then digits, an ending that such files have, or both.
+TABLE_FILE = re.compile(r"([A-Za-z0-9_!]{4})([0-9]*)(\.(?i:dat|aml|bin))?", re.DOTALL)
 RANKS = {"dsdt": 0, "ssdt": 1}
 FRONTS = ("dsdt", "DSDT", "ssdt", "SSDT", "Ssdt", "apic", "FACP", "xsdt", "_SB_", "ABC", "data!", "ss dt", "SSDTx", "ssdt-")
-ENDS = ("", "", ".dat", ".aml", ".dat.old", ".", ".bin")
+ENDS = ("", "", ".dat", ".aml", ".dat.old", ".", ".BIN", ".dsl", ".c")
 
 
 def rank_of(name):

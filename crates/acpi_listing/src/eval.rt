@@ -32,7 +32,8 @@ use crate::regs::read_registers;
 use crate::signed::read_signatures;
 use crate::stop::Stop;
 use crate::tell::{
-    tell_argument, tell_error, tell_misfit, tell_object, tell_plain, tell_reason, tell_untold,
+    tell_argument, tell_error, tell_misfit, tell_object, tell_paths, tell_plain, tell_reason,
+    tell_unread, tell_untold,
 };
 use crate::verify::verdicts_on;
 use acpi_sources::{Fault, FaultCause, Inputs, Source};
@@ -184,6 +185,7 @@ fn evaluate_judged<N: Notes, W: Write>(
     if !is_accepted(&checked, id) {
         let names = request.inputs.files.as_slice();
         tell_reason(alloc, notes, &checked, names, id);
+        tell_paths(alloc, notes, namespace, signatures);
         tell_untold(notes, &checked, &[id], request.kinds);
         tell_plain(notes, &checked, id);
         return tell_said(alloc, out, &checked, id);
@@ -196,6 +198,7 @@ fn evaluate_judged<N: Notes, W: Write>(
             request.method,
             method,
             &given.arguments,
+            checked.misfit(id, &given.arguments),
         );
         return Err(Stop::Fault(Fault::nowhere(FaultCause::ArgsDontFit)));
     }
@@ -264,6 +267,8 @@ fn evaluate_method<N: Notes, W: Write>(
         Ok(body) => body,
         Err(TreeFault::NoMemory) => return Err(Stop::Fault(Fault::nowhere(FaultCause::NoMemory))),
         Err(TreeFault::Refused(refusal)) => {
+            let names = request.inputs.files.as_slice();
+            tell_unread(alloc, notes, namespace, names, id, method.table, refusal);
             return tell_refusal(alloc, out, namespace, id, method.table, refusal);
         }
     };
@@ -275,6 +280,7 @@ fn evaluate_method<N: Notes, W: Write>(
             request.method,
             method,
             &given.arguments,
+            None,
         );
         return Err(Stop::Fault(Fault::nowhere(FaultCause::ArgsDontFit)));
     }

@@ -16,7 +16,7 @@ ghost use Rattle.aml_namespace.specs.Shows.{shown};
 ghost use Rattle.aml_regions.specs.Registers.{contents};
 ghost use Rattle.aml_regions.specs.Text.{TextSets};
 
-use crate::tell::{tell_link, tell_object};
+use crate::tell::{tell_link, tell_object, tell_valueless};
 use acpi_objects::{Given, gives_value, value_of};
 use acpi_routing::{LinkFault, Prt, prt_of};
 use acpi_sources::{Fault, FaultCause, Where};
@@ -45,7 +45,7 @@ pub fn find_object<N: Notes>(
         return Err(Fault::nowhere(FaultCause::NoSuchObject));
     };
     if !gives_value(namespace.object(id)) {
-        notes.tell("that path has no data name, and no method without arguments");
+        tell_valueless(alloc, notes, word);
         return Err(Fault::nowhere(FaultCause::NoSuchObject));
     }
     Ok(id)

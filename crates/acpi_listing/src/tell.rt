@@ -10,14 +10,17 @@ use acpi_routing::{LinkRefusal, entry_note, link_text, source_text};
 use acpi_sources::{Fault, FaultCause, Where};
 use acpi_tables::TableFault;
 use acpi_text::RunFault;
-use acpi_verdicts::{any_refused, error_text, explain, summary};
+use acpi_verdicts::{any_refused, error_text, explain, misfit_note, summary, unread_text};
 use acpi_words::{Notes, bad_argument, words_error};
 use aml_causes::Cause;
 use aml_externals::is_dead_if;
+use aml_known::Known;
 use aml_meaning::Outcome;
 use aml_namespace::{LoadCause, LoadRefusal, Method, Namespace};
+use aml_path_text::push_path;
 use aml_paths::ObjectId;
-use aml_tree::TreeCause;
+use aml_signatures::Signatures;
+use aml_tree::{Refusal, TreeCause};
 use aml_values::Value;
 use aml_verify::{Checked, Verdict};
 use std::alloc::{AllocError, Global};
@@ -154,11 +157,77 @@ pub(crate) fn tell_error<N: Notes>(
     tell_made(notes, error_text(alloc, namespace, names, *error));
 }
 
-/// Of a method that is refused, and so is not evaluated: how it is evaluated all the same.
+/// Of a method that is refused, and so is not evaluated: how it is evaluated all the same. What has
+/// no meaning at the place that is told has none then, either.
 pub(crate) fn tell_plain<N: Notes>(notes: &N, checked: &Checked<'_>, id: ObjectId) {
-    if let Some(Verdict::Refused(..)) = checked.verdict(id) {
-        notes.tell("eval --plain N evaluates it without a verdict, in at most N steps");
+    let Some(Verdict::Refused(refusal, _)) = checked.verdict(id) else {
+        return;
+    };
+    notes.tell(match refusal.why {
+        Cause::Unresolved | Cause::OutsideProfile | Cause::Region => {
+            "eval --plain N evaluates it without a verdict, in at most N steps, up to that place if it comes there"
+        }
+        _ => "eval --plain N evaluates it without a verdict, in at most N steps",
+    });
+}
+
+/// Of a method whose body cannot be read, and so is not evaluated, why that is.
+pub(crate) fn tell_unread<N: Notes>(
+    alloc: Global,
+    notes: &N,
+    namespace: &Namespace<'_>,
+    names: &[&str],
+    id: ObjectId,
+    table: usize,
+    refusal: Refusal,
+) {
+    tell_made(
+        notes,
+        unread_text(alloc, namespace, names, id, table, refusal),
+    );
+}
+
+/// Of each path of `--kinds` that is not that of a method, whose line has no effect.
+pub(crate) fn tell_paths<N: Notes>(
+    alloc: Global,
+    notes: &N,
+    namespace: &Namespace<'_>,
+    signatures: &Signatures,
+) {
+    for path in signatures.paths() {
+        if let Ok(word) = str::from_utf8(path)
+            && let Ok(Some(note)) = path_note(alloc, namespace, word)
+        {
+            let note = note.as_str();
+            tell(
+                notes,
+                format!(in alloc; "a line of --kinds has no effect: {note}"),
+            );
+        }
     }
+}
+
+// Why the line of a path in `--kinds` has no effect, if it has none.
+fn path_note(
+    alloc: Global,
+    namespace: &Namespace<'_>,
+    word: &str,
+) -> Result<Option<String>, RunFault> {
+    let Some(id) = namespace.find(word.as_bytes()) else {
+        return Ok(Some(object_note(alloc, namespace, word)?));
+    };
+    if namespace.method(id).is_none() {
+        return Ok(Some(object_note(alloc, namespace, word)?));
+    }
+    let mut path = Vec::new(alloc);
+    push_path(alloc, &mut path, namespace, id)?;
+    if path.as_slice() == word.as_bytes() {
+        return Ok(None);
+    }
+    let Ok(path) = str::from_utf8(&path) else {
+        return Ok(None);
+    };
+    Ok(Some(format!(in alloc; "{word} is an alias, and the method's own path is {path}")?))
 }
 
 /// Of methods of which one is refused for what an argument of it holds, as far as that can be seen,
@@ -286,8 +355,16 @@ pub(crate) fn tell_object<N: Notes>(
     tell(notes, object_note(alloc, namespace, word));
 }
 
+/// Of an object that gives no value.
+pub(crate) fn tell_valueless<N: Notes>(alloc: Global, notes: &N, word: &str) {
+    tell(
+        notes,
+        format!(in alloc; "{word} is neither a data name nor a method without arguments"),
+    );
+}
+
 /// Of arguments that do not fit a method: their number, the first integer that is too great, or
-/// that one is of another kind.
+/// the first that is not of the kind at its place.
 pub(crate) fn tell_misfit<N: Notes>(
     alloc: Global,
     notes: &N,
@@ -295,6 +372,7 @@ pub(crate) fn tell_misfit<N: Notes>(
     word: &str,
     method: Method,
     arguments: &[Value],
+    misfit: Option<(usize, Known)>,
 ) {
     if arguments.len() != usize::from(method.args) {
         tell(notes, count_note(alloc, word, method.args, arguments.len()));
@@ -309,7 +387,9 @@ pub(crate) fn tell_misfit<N: Notes>(
             return;
         }
     }
-    notes.tell("an argument is not of the kind that the method takes: see --kinds");
+    if let Some((number, kind)) = misfit {
+        tell(notes, misfit_note(alloc, namespace.width(), number, kind));
+    }
 }
 
 // Of words that are no command line: the help that they ask for, or what is wrong with them.

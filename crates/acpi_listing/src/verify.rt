@@ -13,7 +13,7 @@ ghost use Rattle.aml_signatures.specs.Signed.{kinds_told};
 use crate::load::load_counted;
 use crate::signed::read_signatures;
 use crate::stop::Stop;
-use crate::tell::{tell_refused, tell_summary, tell_untold};
+use crate::tell::{tell_paths, tell_refused, tell_summary, tell_untold};
 use acpi_sources::{Fault, Inputs, Source};
 use acpi_verdicts::{any_refused, list_verdicts};
 use acpi_words::{Notes, VerifyRequest};
@@ -73,18 +73,21 @@ fn verify_loaded<N: Notes, W: Write>(
         tt tt (W.contents out.old) (W.contents out.new) result }
 {
     let checked = verdicts_on(alloc, namespace, signatures)?;
-    tell_reasons(alloc, request, &checked, notes);
+    tell_reasons(alloc, request, signatures, &checked, notes);
     tell_verdicts(alloc, out, &checked)
 }
 
-// Tells people why methods are refused, and how many for which cause, where that is asked for.
+// Tells people why methods are refused, and how many for which cause, and which lines of `--kinds`
+// have no effect, where that is asked for.
 fn tell_reasons<N: Notes>(
     alloc: Global,
     request: &VerifyRequest<'_>,
+    signatures: &Signatures,
     checked: &Checked<'_>,
     notes: &N,
 ) {
     if request.explain {
+        tell_paths(alloc, notes, checked.namespace(), signatures);
         if tell_refused(alloc, notes, checked, request.inputs.files.as_slice()) {
             tell_summary(alloc, notes, checked);
         }

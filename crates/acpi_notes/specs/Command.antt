@@ -23,7 +23,7 @@ greatest_note number given greatest =
 unfoldable pub registers_note : List ℕ → ℕ → List ℕ
 registers_note label line =
     joined (label ∷ codes ": line " ∷ decimal line ∷ codes
-    " is not SPACE ADDRESS BYTES, as io 60 1527: mem, io, pci, ec or cmos, hex without prefix" ∷ [])
+    " is not SPACE ADDRESS BYTES, as io 60 1527: mem, io, pci, ec or cmos, hex without prefix, one space between and nothing behind, no CR either, and no byte past 2^64 - 1" ∷ [])
 
 -- a line that is no signature, or has the path of a line before it
 unfoldable pub signatures_note : List ℕ → ℕ → List ℕ
@@ -34,5 +34,5 @@ signatures_note label line =
 
 -- a line of standard input that is no file
 unfoldable pub line_note : ℕ → List ℕ
-line_note number = joined (codes "line " ∷ decimal number
-    ∷ codes " behind the words on standard input: hex text is wanted, two digits a byte" ∷ [])
+line_note number = joined (codes "file " ∷ decimal number
+    ∷ codes " of standard input: a line of hex text is wanted there, two digits a byte" ∷ [])

@@ -1,5 +1,6 @@
 -- Which help the words of a command line ask for.
 use Rattle.std.specs.Prelude.{ℕ, ◌-◌, ◌||◌, length, List, Bool, true, Option, Some, None, codes, not, option_and_then, slice_get, if◌then◌else◌}
+use Rattle.std.specs.List.{list_any}
 use Rattle.std.specs.Str.{bytes_eq}
 use Rattle.acpi_notes.specs.declared.help.TheConstants.{COMMANDS, EVAL, NAMES, RESOURCES, ROUTING, TABLES, VERIFY, VERSION}
 use Rattle.acpi_notes.specs.declared.help.Help.{Help}
@@ -21,16 +22,20 @@ help_for first asks =
     else if bytes_eq first (codes "routing") then Some Routing
     else Some Commands
 
--- by the first word and the last one, which is the command where the first is `help`
-abbrev pub help_by : List ℕ → List ℕ → Option Help
-help_by first last =
+-- whether one of the words asks for help
+abbrev pub ask_for_help : List (List ℕ) → Bool
+ask_for_help words = list_any asks_for_help words
+
+-- by the first word, and whether one asks for it; by the last where the first is `help`
+abbrev pub help_by : List (List ℕ) → List ℕ → List ℕ → Option Help
+help_by words first last =
     if bytes_eq first (codes "help") then help_for last true
-    else help_for first (asks_for_help first || asks_for_help last)
+    else help_for first (ask_for_help words)
 
 abbrev pub help_of : List (List ℕ) → Option Help
 help_of words =
-    option_and_then (λ first. option_and_then (help_by first) (slice_get words (length words - 1)))
-    (slice_get words 0)
+    option_and_then (λ first. option_and_then (help_by words first)
+    (slice_get words (length words - 1))) (slice_get words 0)
 
 -- the help of each, as the program has it
 abbrev pub help_text : Help → List ℕ

@@ -44,7 +44,7 @@ pub fn registers_note(alloc: Global, label: &str, line: usize) -> Result<String,
     ensures { IfOk result (λ note. string_bytes note ≡ registers_note label.now line) }
 {
     format!(in alloc;
-        "{label}: line {line} is not SPACE ADDRESS BYTES, as io 60 1527: mem, io, pci, ec or cmos, hex without prefix"
+        "{label}: line {line} is not SPACE ADDRESS BYTES, as io 60 1527: mem, io, pci, ec or cmos, hex without prefix, one space between and nothing behind, no CR either, and no byte past 2^64 - 1"
     )
 }
 
@@ -65,6 +65,6 @@ pub fn line_note(alloc: Global, number: usize) -> Result<String, AllocError>
     ensures { IfOk result (λ note. string_bytes note ≡ line_note number) }
 {
     format!(in alloc;
-        "line {number} behind the words on standard input: hex text is wanted, two digits a byte"
+        "file {number} of standard input: a line of hex text is wanted there, two digits a byte"
     )
 }

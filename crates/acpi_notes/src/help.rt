@@ -1,7 +1,7 @@
 // What each command and option is, with an example each.
 
 ghost use Rattle.std.specs.Prelude.{◌≡◌, map};
-ghost use Rattle.acpi_notes.specs.Help.{asks_for_help, help_by, help_for, help_of, help_text};
+ghost use Rattle.acpi_notes.specs.Help.{ask_for_help, asks_for_help, help_for, help_of, help_text};
 
 use std::convert::AsStr;
 
@@ -39,6 +39,7 @@ Usage: acpicheck COMMAND [OPTIONS] FILES
   routing FILES   where the interrupts go that a _PRT lists
                     acpicheck routing --object '\\_SB_.PCI0._PRT' --madt apic.dat dsdt.dat
 
+A folder among FILES stands for the tables in it: all for tables, the DSDT and SSDTs for the others.
 acpicheck COMMAND --help tells the options of a command. Without words the program takes them
 from the first line of standard input; there a file is @, the hex text of the next line.
 Status 0: done; 1: a fault; 2: the words; 3: a method is refused, or AML stopped.
@@ -148,25 +149,30 @@ impl Help {
     }
 }
 
-/// Which help the words ask for: `--version` or `-V` in front; or `--help` or `-h` first or last, of
-/// the command that is the first word; or `help` in front, of the command that is the last.
+/// Which help the words ask for: `--version` or `-V` in front; or `--help` or `-h` anywhere, of the
+/// command that is the first word; or `help` in front, of the command that is the last.
 pub fn help_of<S: AsStr>(words: &[S]) -> Option<Help>
     ensures { result ≡ help_of (map S.text words.now) }
 {
     let (Some(first), Some(last)) = (words.first(), words.last()) else {
         return None;
     };
-    help_by(first.as_str(), last.as_str())
+    if first.as_str() == "help" {
+        return help_for(last.as_str(), true);
+    }
+    help_for(first.as_str(), ask_for_help(words))
 }
 
-fn help_by(first: &str, last: &str) -> Option<Help>
-    ensures { result ≡ help_by first.now last.now }
+// Whether one of the words asks for help.
+fn ask_for_help<S: AsStr>(words: &[S]) -> bool
+    ensures { result ≡ ask_for_help (map S.text words.now) }
 {
-    if first == "help" {
-        return help_for(last, true);
+    for word in words {
+        if asks_for_help(word.as_str()) {
+            return true;
+        }
     }
-    let asks = asks_for_help(first) || asks_for_help(last);
-    help_for(first, asks)
+    false
 }
 
 fn help_for(first: &str, asks: bool) -> Option<Help>

@@ -1,7 +1,7 @@
 // How a file is called.
 
-ghost use Rattle.std.specs.Prelude.{◌≡◌, IfOk, codes, string_bytes};
-ghost use Rattle.acpi_notes.specs.Label.{line_label};
+ghost use Rattle.std.specs.Prelude.{◌≡◌, IfOk, codes, map, string_bytes};
+ghost use Rattle.acpi_notes.specs.Label.{label_of, line_label};
 
 use std::alloc::{AllocError, Global};
 
@@ -18,4 +18,16 @@ pub fn file_label(alloc: Global, name: &str, number: usize) -> Result<String, Al
         return format!(in alloc; "file {number} of standard input");
     }
     String::from_str(alloc, name)
+}
+
+/// How the file with a number is called, of files by their names: by its own; or by its number where
+/// that is `@`, or none has the number.
+pub fn label_of(alloc: Global, names: &[&str], number: usize) -> Result<String, AllocError>
+    ensures { IfOk result (λ label. string_bytes label
+        ≡ label_of (map (λ name. name.now) names.now) number) }
+{
+    match names.get(number) {
+        Some(name) => file_label(alloc, name, number),
+        None => format!(in alloc; "file {number}"),
+    }
 }

@@ -21,7 +21,7 @@ pub use command::{
 };
 pub use definitions::{Found, Place, find_again};
 pub use help::{Help, help_of};
-pub use label::file_label;
+pub use label::{file_label, label_of};
 pub use load::{Files, load_note};
 pub use near::{near_path, object_note};
 pub use table::{WantedTable, table_note};

@@ -1,11 +1,11 @@
 // Tables that cannot be loaded.
 
-ghost use Rattle.std.specs.Prelude.{◌≡◌, ◌++◌, ℕ, List, IfOk, None, Some, codes, decimal, map, slice_get, string_bytes, unwrap_or, vec_items, []};
-ghost use Rattle.acpi_notes.specs.Label.{line_label};
+ghost use Rattle.std.specs.Prelude.{◌≡◌, IfOk, map, string_bytes, vec_items};
+ghost use Rattle.acpi_notes.specs.Label.{label_of};
 ghost use Rattle.acpi_notes.specs.Load.{BeginsWith, IsLoadNote, bytes_numbered, found_note, too_many_note};
 
 use crate::definitions::{Found, Place, find_again};
-use crate::label::file_label;
+use crate::label::label_of;
 use crate::table::{WantedTable, table_note};
 use crate::tree::{TreePlace, tree_note};
 use acpi_tables::TableFault;
@@ -22,18 +22,10 @@ pub struct Files<'a> {
 impl Files<'_> {
     /// How the file with a number is called.
     pub fn label(&self, alloc: Global, number: usize) -> Result<String, AllocError>
-        ensures named { (name : List ℕ) →
-            slice_get (map (λ n. n.now) self.now.names.now) number ≡ Some name
-            → (name ≡ codes "@" → ⊥) → IfOk result (λ label. string_bytes label ≡ name) }
-        ensures line { slice_get (map (λ n. n.now) self.now.names.now) number ≡ Some (codes "@")
-            → IfOk result (λ label. string_bytes label ≡ line_label number) }
-        ensures past { slice_get (map (λ n. n.now) self.now.names.now) number ≡ None
-            → IfOk result (λ label. string_bytes label ≡ codes "file " ++ decimal number) }
+        ensures { IfOk result (λ label. string_bytes label
+            ≡ label_of (map (λ name. name.now) self.now.names.now) number) }
     {
-        match self.names.get(number) {
-            Some(name) => file_label(alloc, name, number),
-            None => format!(in alloc; "file {number}"),
-        }
+        label_of(alloc, self.names, number)
     }
 
     fn bytes(&self, number: usize) -> &[u8]

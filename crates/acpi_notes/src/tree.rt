@@ -2,10 +2,10 @@
 
 ghost use Rattle.std.specs.Prelude.{◌≡◌, IfOk, string_bytes};
 ghost use Rattle.acpi_notes.specs.Table.{byte_at};
-ghost use Rattle.acpi_notes.specs.Tree.{lexical_note, module_note, opcode_note, tree_note, word_at};
+ghost use Rattle.acpi_notes.specs.Tree.{is_known, known_note, lexical_note, module_note, opcode_note, pair_note, second_byte, tree_note, unknown_note, word_at};
 
 use crate::table::byte_at;
-use aml_lex::LexCause;
+use aml_lex::{LexCause, name_there};
 use aml_place_text::operator_name;
 use aml_tree::{TreeCause, op_at};
 use std::alloc::{AllocError, Global};
@@ -33,7 +33,7 @@ pub fn tree_note(
     let byte = byte_at(place.bytes, at);
     match cause {
         TreeCause::Lexical(part) => lexical_note(alloc, place, part),
-        TreeCause::UnknownOpcode => { opcode_note(alloc, label, at, byte) }
+        TreeCause::UnknownOpcode => unknown_note(alloc, place),
         TreeCause::TooDeep => {
             format!(in alloc; "{label}: the term at byte {at} is at depth 65, and 64 is the limit")
         }
@@ -49,13 +49,68 @@ pub fn tree_note(
     }
 }
 
+/// Of what may not stand at a place: what stands there, or the opcode that no operator has.
+fn unknown_note(alloc: Global, place: TreePlace<'_>) -> Result<String, AllocError>
+    ensures { IfOk result (λ note. string_bytes note
+        ≡ unknown_note place.entry.label.now place.entry.bytes.now place.entry.at) }
+{
+    let label = place.label;
+    let at = place.at;
+    let byte = byte_at(place.bytes, at);
+    if is_known(place.bytes, at) {
+        return known_note(alloc, label, at, byte, word_at(place.bytes, at));
+    }
+    match second_byte(place.bytes, at) {
+        Some(second) => pair_note(alloc, label, at, second),
+        None => opcode_note(alloc, label, at, byte),
+    }
+}
+
+// Whether an operator or a name stands at a place.
+fn is_known(bytes: &[u8], at: usize) -> bool
+    ensures { result ≡ is_known bytes.now at }
+{
+    op_at(bytes, at).is_some() || name_there(bytes, at).is_some()
+}
+
+// The second byte of an opcode of two bytes.
+fn second_byte(bytes: &[u8], at: usize) -> Option<u8>
+    ensures { result ≡ second_byte bytes.now at }
+{
+    if at > bytes.len() {
+        return None;
+    }
+    match &bytes[at..] {
+        [0x5B, second, ..] => Some(*second),
+        _ => None,
+    }
+}
+
+#[tactic(auto, unfolding(crate::specs::Tree::known_note))]
+fn known_note(
+    alloc: Global,
+    label: &str,
+    at: usize,
+    byte: u8,
+    word: &str,
+) -> Result<String, AllocError>
+    ensures { IfOk result (λ note. string_bytes note ≡ known_note label.now at byte word.now) }
+{
+    format!(in alloc; "{label}: at byte {at} stands 0x{byte:x} ({word}), which may not stand there")
+}
+
+#[tactic(auto, unfolding(crate::specs::Tree::pair_note))]
+fn pair_note(alloc: Global, label: &str, at: usize, second: u8) -> Result<String, AllocError>
+    ensures { IfOk result (λ note. string_bytes note ≡ pair_note label.now at second) }
+{
+    format!(in alloc; "{label}: the opcode at byte {at}, 0x5b 0x{second:x}, is unknown")
+}
+
 #[tactic(auto, unfolding(crate::specs::Tree::opcode_note))]
 fn opcode_note(alloc: Global, label: &str, at: usize, byte: u8) -> Result<String, AllocError>
     ensures { IfOk result (λ note. string_bytes note ≡ opcode_note label.now at byte) }
 {
-    format!(in alloc;
-        "{label}: the opcode at byte {at}, 0x{byte:x}, is unknown or may not stand there"
-    )
+    format!(in alloc; "{label}: the opcode at byte {at}, 0x{byte:x}, is unknown")
 }
 
 #[tactic(auto, unfolding(crate::specs::Tree::module_note))]

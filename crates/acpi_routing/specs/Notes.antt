@@ -25,7 +25,7 @@ use Rattle.aml_verify.specs.declared.checked.Checked.{Checked}
 unfoldable pub entry_note : ℕ → List ℕ
 entry_note number =
     joined (codes "element " ∷ decimal number
-    ∷ codes " of the _PRT is no package of an address, a pin from 0 to 3, a source (a name, or 0) and an index"
+    ∷ codes " of the _PRT is no package of an address, a pin from 0 to 3, a source (a name, or 0) and an index below 2^32"
     ∷ [])
 
 -- what stands behind the path of a link whose bytes are no list

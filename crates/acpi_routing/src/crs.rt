@@ -40,10 +40,8 @@ pub fn crs_of(
 {
     let mut path = Vec::new(alloc);
     push_path(alloc, &mut path, namespace, device)?;
-    match path.extend_from_slice(b"._CRS") {
-        Ok(()) => Ok(value_under(namespace, &path)),
-        Err(_) => Err(NoMemory),
-    }
+    path.extend_from_slice(b"._CRS")?;
+    Ok(value_under(namespace, &path))
 }
 
 // The object of a path, where it gives a value.

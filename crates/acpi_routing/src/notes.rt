@@ -40,7 +40,7 @@ pub fn entry_note(alloc: Global, number: usize) -> Result<String, AllocError>
     ensures { IfOk result (λ note. string_bytes note ≡ entry_note number) }
 {
     format!(in alloc;
-        "element {number} of the _PRT is no package of an address, a pin from 0 to 3, a source (a name, or 0) and an index"
+        "element {number} of the _PRT is no package of an address, a pin from 0 to 3, a source (a name, or 0) and an index below 2^32"
     )
 }
 

@@ -1,7 +1,7 @@
 -- What people are told of an AML error that ends an evaluation.
 use Rattle.std.specs.Prelude.{ℕ, List, [], ◌∷◌, ◌++◌, codes, decimal}
 use Rattle.acpi_text.specs.Text.{joined}
-use Rattle.acpi_verdicts.specs.Explained.{label_of}
+use Rattle.acpi_notes.specs.Label.{label_of}
 use Rattle.aml_meaning.specs.Causes.{aml_cause_text}
 use Rattle.aml_meaning.specs.declared.error.AmlCause.{AmlCause}
 use Rattle.aml_meaning.specs.declared.error.AmlCause.TheVariants as cause

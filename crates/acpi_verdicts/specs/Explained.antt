@@ -1,8 +1,7 @@
 -- What people are told of why a method is refused.
-use Rattle.std.specs.Prelude.{ℕ, zero, suc, List, [], ◌∷◌, ◌++◌, Bool, true, false, Option, Some, None, codes, decimal, slice_get, if◌then◌else◌}
+use Rattle.std.specs.Prelude.{ℕ, zero, suc, List, [], ◌∷◌, ◌++◌, Bool, true, false, Option, Some, None, codes, decimal, if◌then◌else◌}
 use Rattle.std.specs.Option.{option_map_or}
-use Rattle.std.specs.Str.{bytes_eq}
-use Rattle.acpi_notes.specs.Label.{line_label}
+use Rattle.acpi_notes.specs.Label.{label_of}
 use Rattle.acpi_notes.specs.Tree.{tree_note}
 use Rattle.acpi_text.specs.Text.{joined}
 use Rattle.acpi_text.specs.Verdicts.{cause_text}
@@ -28,13 +27,6 @@ use Rattle.aml_tree.specs.declared.fault.Refusal.{Refusal as Unread}
 use Rattle.aml_verify.specs.declared.checked.Checked.{Checked}
 use Rattle.aml_verify.specs.declared.verdict.Verdict.{Verdict}
 use Rattle.aml_verify.specs.declared.verdict.Verdict.TheVariants as verdict
-
--- how the file with a number is called: by its name, or by its number where the name is `@`, or
--- there is none
-unfoldable pub label_of : List (List ℕ) → ℕ → List ℕ
-label_of names number =
-    option_map_or (λ name. if bytes_eq name (codes "@") then line_label number else name)
-    (slice_get names number) (codes "file " ++ decimal number)
 
 -- a cause and its place
 unfoldable pub refused_place : List ℕ → Refusal → List ℕ
@@ -78,6 +70,12 @@ unreadable_text ns label bytes id refusal =
     path_text (path_of ns.entries id.0) ++ tree_note label bytes refusal.at refusal.cause ++
     codes "\n"
 
+-- the same by the number of the table, with files by their names
+abbrev pub unread_text : List (List ℕ) → Shown → ObjectId → ℕ → Unread → List ℕ
+unread_text names ns id table refusal =
+    unreadable_text ns (unreadable_label (label_of names table) refusal) (bytes_of ns.tables table)
+    id refusal
+
 -- the line of what is said of a method, if it is refused
 abbrev pub said_reason : List (List ℕ) → Shown → ObjectId → Option Verdict → List ℕ
 said_reason names ns id None = []
@@ -85,8 +83,7 @@ said_reason names ns id (Some (verdict.Accepted accepted)) = []
 said_reason names ns id (Some (verdict.Refused refusal finding)) =
     refused_text ns (label_of names refusal.table) id refusal finding
 said_reason names ns id (Some (verdict.Unreadable table refusal)) =
-    unreadable_text ns (unreadable_label (label_of names table) refusal) (bytes_of ns.tables table)
-    id refusal
+    unread_text names ns id table refusal
 
 -- the line of a method
 abbrev pub reason_text : List (List ℕ) → Checked → ObjectId → List ℕ

@@ -143,7 +143,7 @@ unfoldable pub fault_text : FieldFault → List ℕ
 fault_text (fault.Bits bits) =
     joined (codes ": found " ∷ decimal bits ∷ codes " bits, wanted 1 to 2048" ∷ [])
 fault_text (fault.Space space) =
-    joined (codes ": found a region of space " ∷ decimal space ∷ codes ", wanted 0, 1, 2, 3 or 5"
+    joined (codes ": found a region of space " ∷ decimal space ∷ codes ", wanted 0 (mem), 1 (io), 2 (pci), 3 (ec) or 5 (cmos)"
     ∷ [])
 fault_text other = fault_words other
 
@@ -224,7 +224,7 @@ released_text ns mutex last =
 -- the mutex that was taken last of those that are still held
 abbrev pub still_held_text : Shown → ObjectId → List ℕ
 still_held_text ns last =
-    codes ": found " ++ object_path ns last ++ codes " still held, wanted no mutex held"
+    codes ": found " ++ object_path ns last ++ codes " still held (each Acquire takes its mutex here, whatever its timeout), wanted no mutex held"
 
 -- the statement with which the steps of its block reach 2^63, by its place
 unfoldable pub reached_place : ℕ → List ℕ

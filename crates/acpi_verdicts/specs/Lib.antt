@@ -2,6 +2,7 @@ pub mod Verdicts
 pub mod Words
 pub mod Findings
 pub mod About
+pub mod Arguments
 pub mod Outside
 pub mod Explained
 pub mod Errors

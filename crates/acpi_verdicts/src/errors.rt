@@ -5,7 +5,7 @@ ghost use Rattle.acpi_verdicts.specs.Errors.{error_place, error_text, error_word
 ghost use Rattle.acpi_text.specs.declared.writing.RunFault.TheVariants as told;
 ghost use Rattle.aml_namespace.specs.Shows.{shown};
 
-use crate::explained::label_of;
+use acpi_notes::label_of;
 use acpi_text::RunFault;
 use aml_meaning::{AmlCause, AmlError};
 use aml_namespace::Namespace;

@@ -1,7 +1,7 @@
 // What people are told of why a method is refused.
 
 ghost use Rattle.std.specs.Prelude.{◌≡◌, ◌++◌, IfErr, IfOk, OnOk, map, string_bytes};
-ghost use Rattle.acpi_verdicts.specs.Explained.{chain_text, found_part, is_form, label_of, next_of, reason_text, refused_part, refused_place, refused_text, rest_text, unreadable_label, unreadable_text};
+ghost use Rattle.acpi_verdicts.specs.Explained.{chain_text, found_part, is_form, next_of, reason_text, refused_part, refused_place, refused_text, rest_text, unread_text, unreadable_label, unreadable_text};
 ghost use Rattle.acpi_text.specs.declared.writing.RunFault.TheVariants as told;
 ghost use Rattle.aml_namespace.specs.Shows.{shown};
 
@@ -9,7 +9,7 @@ use crate::about::{called_at, push_about};
 use crate::findings::push_finding;
 use crate::outside::push_outside;
 use crate::words::cause_words;
-use acpi_notes::{TreePlace, file_label, tree_note};
+use acpi_notes::{TreePlace, label_of, tree_note};
 use acpi_text::{RunFault, cause_text};
 use aml_causes::{Cause, Refusal};
 use aml_findings::Finding;
@@ -119,31 +119,17 @@ fn push_reason(
             )
         }
         Some(Verdict::Unreadable { table, refusal }) => {
-            let label = label_of(alloc, names, *table)?;
-            let label = unreadable_label(alloc, label.as_str(), *refusal)?;
-            let bytes = checked.namespace().table_bytes(*table);
-            push_unreadable(
+            push_unread(
                 alloc,
                 text,
                 checked.namespace(),
+                names,
                 id,
-                label.as_str(),
-                bytes,
+                *table,
                 *refusal,
             )
         }
         Some(Verdict::Accepted(_)) | None => Ok(()),
-    }
-}
-
-/// How the file with a number is called.
-pub(crate) fn label_of(alloc: Global, names: &[&str], number: usize) -> Result<String, AllocError>
-    ensures { IfOk result (λ label. string_bytes label
-        ≡ label_of (map (λ name. name.now) names.now) number) }
-{
-    match names.get(number) {
-        Some(name) => file_label(alloc, name, number),
-        None => format!(in alloc; "file {number}"),
     }
 }
 
@@ -235,7 +221,51 @@ fn unreadable_label(alloc: Global, label: &str, refusal: Unread) -> Result<Strin
     format!(in alloc; ": {cause}: {label}")
 }
 
-// Adds the line of a method whose body cannot be read.
+/// Why the body of the method with a number cannot be read, in a line that ends in a line feed: its
+/// path, the fault, the file, the byte, and what is wrong there. The files are called by the names
+/// that are handed in, in the order of the tables.
+///
+/// # Errors
+///
+/// `NoMemory`, where memory is wanted.
+pub fn unread_text(
+    alloc: Global,
+    namespace: &Namespace<'_>,
+    names: &[&str],
+    id: ObjectId,
+    table: usize,
+    refusal: Unread,
+) -> Result<Vec<u8>, RunFault>
+    ensures text { IfOk result (λ text. text.items
+        ≡ unread_text (map (λ name. name.now) names.now) (shown namespace.now) id table refusal) }
+    ensures fault { IfErr result (λ fault. fault ≡ told.NoMemory) }
+{
+    let mut text = Vec::new(alloc);
+    push_unread(alloc, &mut text, namespace, names, id, table, refusal)?;
+    Ok(text)
+}
+
+// Adds that line.
+fn push_unread(
+    alloc: Global,
+    text: &mut Vec<u8>,
+    namespace: &Namespace<'_>,
+    names: &[&str],
+    id: ObjectId,
+    table: usize,
+    refusal: Unread,
+) -> Result<(), RunFault>
+    ensures text { OnOk result (text.new.items ≡ text.old.items ++ unread_text
+        (map (λ name. name.now) names.now) (shown namespace.now) id table refusal) }
+    ensures fault { IfErr result (λ fault. fault ≡ told.NoMemory) }
+{
+    let label = label_of(alloc, names, table)?;
+    let label = unreadable_label(alloc, label.as_str(), refusal)?;
+    let bytes = namespace.table_bytes(table);
+    push_unreadable(alloc, text, namespace, id, label.as_str(), bytes, refusal)
+}
+
+// Adds the line of a method whose body cannot be read, by how its file is called.
 fn push_unreadable(
     alloc: Global,
     text: &mut Vec<u8>,

@@ -89,7 +89,9 @@ fn push_still_held(
 {
     text.extend_from_slice(b": found ")?;
     push_path(alloc, text, namespace, last)?;
-    text.extend_from_slice(b" still held, wanted no mutex held")?;
+    text.extend_from_slice(
+        b" still held (each Acquire takes its mutex here, whatever its timeout), wanted no mutex held",
+    )?;
     Ok(())
 }
 
@@ -183,7 +185,9 @@ fn fault_text(alloc: Global, fault: FieldFault) -> Result<String, AllocError>
     match fault {
         FieldFault::Bits(bits) => format!(in alloc; ": found {bits} bits, wanted 1 to 2048"),
         FieldFault::Space(space) => {
-            format!(in alloc; ": found a region of space {space}, wanted 0, 1, 2, 3 or 5")
+            format!(in alloc;
+                ": found a region of space {space}, wanted 0 (mem), 1 (io), 2 (pci), 3 (ec) or 5 (cmos)"
+            )
         }
         _ => {
             let words = fault_words(fault);
@@ -423,7 +427,7 @@ fn wanted_words(wanted: Wanted) -> &'static str
 
 // A kind.
 #[tactic(auto, unfolding(crate::specs::Findings::kind_text))]
-fn kind_text(alloc: Global, width: Width, kind: Known) -> Result<String, AllocError>
+pub(crate) fn kind_text(alloc: Global, width: Width, kind: Known) -> Result<String, AllocError>
     ensures { IfOk result (λ text. string_bytes text ≡ spec.kind_text (bits_of width) kind) }
 {
     match kind {

@@ -17,11 +17,18 @@ enum Wanted {
     Definitions,
 }
 
+/// Which table a file is said to have by its name, in the order in which files are taken.
+#[derive(Clone, Copy, Debug, PartialEq, Eq, PartialOrd, Ord)]
+enum Said {
+    Dsdt,
+    Ssdt,
+    Other,
+}
+
 /// A file of a folder, in the order in which it is taken.
 #[derive(Debug, Drop, PartialEq, Eq, PartialOrd, Ord)]
 struct Taken {
-    /// 0 of the DSDT, 1 of an SSDT, 2 of any other table.
-    rank: u8,
+    said: Said,
     /// Of SSDT10 it is 10; 0 where there is none.
     number: u64,
     path: String,
@@ -156,10 +163,10 @@ fn files_in<R: Files + Eprint + AllocGlobal + Clone + Drop>(
             break;
         };
         let path = String::from_str(rt.alloc(), entry.path().as_str())?;
-        match rank_of(entry.file_name()) {
-            Some((rank, number)) if is_file(rt, path.as_str()) => {
-                if rank < 2 || wanted == Wanted::Tables {
-                    taken.push(Taken { rank, number, path })?;
+        match said_by(entry.file_name()) {
+            Some((said, number)) if is_file(rt, path.as_str()) => {
+                if said != Said::Other || wanted == Wanted::Tables {
+                    taken.push(Taken { said, number, path })?;
                 }
             }
             _ => tell(rt, path.as_str(), ": no table's file, passed over"),
@@ -168,15 +175,13 @@ fn files_in<R: Files + Eprint + AllocGlobal + Clone + Drop>(
     Ok(taken)
 }
 
-/// How a file of that name is ranked, with its number: a table's signature, and behind it digits,
-/// an ending such as `.dat`, or both, in either case. None where it is no name of a table's file.
-fn rank_of(name: &str) -> Option<(u8, u64)> {
-    let (stem, _) = name.split_once('.').unwrap_or((name, ""));
+/// Which table a file of that name is said to have, with its number: the name is a table's
+/// signature, and behind it digits, an ending of a table's file, or both, in either case. None where
+/// it is no name of a table's file.
+fn said_by(name: &str) -> Option<(Said, u64)> {
+    let (stem, ending) = name.split_once('.').unwrap_or((name, "dat"));
     let (signature, digits) = stem.split_at_checked(4)?;
-    if !signature
-        .bytes()
-        .all(|b| b.is_ascii_alphanumeric() || b == b'_' || b == b'!')
-    {
+    if !is_tables(ending) || !signature.bytes().all(is_of_signature) {
         return None;
     }
     let number = match digits {
@@ -184,10 +189,22 @@ fn rank_of(name: &str) -> Option<(u8, u64)> {
         _ => read_digits(digits, 10)?,
     };
     if signature.eq_ignore_ascii_case("dsdt") {
-        return Some((0, number));
+        return Some((Said::Dsdt, number));
     }
     if signature.eq_ignore_ascii_case("ssdt") {
-        return Some((1, number));
+        return Some((Said::Ssdt, number));
     }
-    Some((2, number))
+    Some((Said::Other, number))
+}
+
+/// Whether files of tables have such an ending: as `acpidump -b` writes them, or `iasl`.
+fn is_tables(ending: &str) -> bool {
+    ending.eq_ignore_ascii_case("dat")
+        || ending.eq_ignore_ascii_case("aml")
+        || ending.eq_ignore_ascii_case("bin")
+}
+
+/// Whether such a byte stands in signatures.
+fn is_of_signature(byte: u8) -> bool {
+    byte.is_ascii_alphanumeric() || byte == b'_' || byte == b'!'
 }

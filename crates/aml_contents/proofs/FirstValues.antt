@@ -4,10 +4,8 @@ use Rattle.std.specs.Prelude.{replicate}
 use Rattle.std.proofs.lemmas.List.{length-map, replicate_more, take-map}
 use Rattle.aml_operators.specs.declared.term.Term.{Term}
 use Rattle.aml_operators.specs.Tree.{view, views}
-use Rattle.aml_objects.specs.declared.object.Content.TheVariants as content
 use Rattle.aml_paths.specs.declared.scope.Scope.{Scope}
 use Rattle.aml_namespace.specs.Load.{Shown}
-use Rattle.aml_namespace.specs.Made.{buffer_content}
 use Rattle.aml_namespace.proofs.Weights.{weights}
 use Rattle.aml_values.specs.declared.value.Element as program
 use Rattle.aml_values.specs.Values.{Element, Unset, listed, more, none}
@@ -78,10 +76,3 @@ lighter_kept n parts kept is =
 -- one more unset element behind some
 pub unset_more : (n k : ℕ) → k ≤ n → replicate (n - k) Unset ++ Unset ∷ [] ≡ replicate (n + 1 - k) Unset
 unset_more n k le = let one : n - k + 1 ≡ n + 1 - k = omega arith in replicate_more (n - k) Unset ∙ ap (λ (m : ℕ). replicate m Unset) one
-
--- a buffer has two parts
-pub no_buffer : (parts : List Term) → (length parts ≡ 2 → ⊥) → content.Buffer 0 ≡ buffer_content (views parts)
-no_buffer [] never = refl
-no_buffer (a ∷ []) never = refl
-no_buffer (a ∷ b ∷ []) never = absurd (never refl)
-no_buffer (a ∷ b ∷ d ∷ parts) never = refl

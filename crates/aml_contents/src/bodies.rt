@@ -7,8 +7,7 @@ ghost use Rattle.aml_values.specs.Views.{view};
 ghost use Rattle.aml_contents.specs.BodyData.{begins_computed, body_data, computed_size, first_computed, is_computed};
 
 use crate::first_data::{Site, value_of};
-use crate::told::content_in;
-use aml_namespace::Namespace;
+use aml_namespace::{Namespace, content_in};
 use aml_operators::{Op, Term, literal_of};
 use aml_paths::{NoMemory, ObjectId, Scope};
 use aml_values::Value;
@@ -31,10 +30,7 @@ pub fn body_data(
 {
     let scope = Scope::At(method);
     let told = content_in(op, parts);
-    match value_of(alloc, namespace, Site { table, scope }, told, op, parts) {
-        Ok(value) => Ok(value),
-        Err(_) => Err(NoMemory),
-    }
+    value_of(alloc, namespace, Site { table, scope }, told, op, parts)
 }
 
 /// Whether the first of some parts is no integer literal.

@@ -15,7 +15,6 @@ ghost use Rattle.aml_kinds.specs.SameKinds.{same_element_kind, same_shape};
 ghost use Rattle.aml_contents.specs.DataKinds.{counted_places, data_shape, element_compared, elements_compared, leaf_place, place_at, seen, source_shape, unset_from, wanted_shape, wants_package};
 ghost use Rattle.aml_contents.specs.FirstContents.{data_in, term_or_zero};
 
-use crate::first_kinds::modulo;
 use aml_kinds::{ElementKind, Kind, element_kinds_match};
 use aml_namespace::{Namespace, Source, Width};
 use aml_tree::{Head, Span, data_head, element_head};
@@ -27,7 +26,7 @@ fn leaf_place(width: Width, head: Head) -> ElementKind
 {
     match head {
         Head::Name => ElementKind::Name,
-        Head::Integer(number) => ElementKind::Value(Kind::Int(modulo(width, number))),
+        Head::Integer(number) => ElementKind::Value(Kind::Int(width.wrapped(number))),
         Head::Buffer(size) => ElementKind::Value(Kind::Buf(size)),
         Head::String(size) => ElementKind::Value(Kind::Str(size)),
         Head::Package { .. } => ElementKind::Unset,

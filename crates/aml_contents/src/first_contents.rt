@@ -12,10 +12,10 @@ ghost use Rattle.aml_contents.specs.FirstContents.{data_in, first_content, value
 use crate::first_data::{Site, plain_value, value_in};
 use aml_namespace::{Content, Namespace, Object, Source};
 use aml_operators::{Op, Term};
-use aml_paths::ObjectId;
+use aml_paths::{NoMemory, ObjectId};
 use aml_tree::{Span, TreeFault, read_data};
 use aml_values::Value;
-use std::alloc::{AllocError, Global};
+use std::alloc::Global;
 
 /// The term Zero, which stands where no data can be read.
 fn zero(alloc: Global) -> Term
@@ -29,9 +29,9 @@ fn zero(alloc: Global) -> Term
     }
 }
 
-/// The data that stands in a part of some bytes, else Zero.
+/// The data that stands in a part of some bytes; the term Zero where none can be read there.
 #[tactic(auto, using(crate::proofs::FirstData::data_there, crate::proofs::FirstData::no_data))]
-fn data_in(alloc: Global, bytes: &[u8], span: Span) -> Result<Term, AllocError>
+pub fn data_in(alloc: Global, bytes: &[u8], span: Span) -> Result<Term, NoMemory>
     ensures { IfOk result (λ t. view t ≡ data_in bytes.now span) }
 {
     if !span.is_within(bytes) {
@@ -39,7 +39,7 @@ fn data_in(alloc: Global, bytes: &[u8], span: Span) -> Result<Term, AllocError>
     }
     match read_data(alloc, bytes, span) {
         Ok(term) => Ok(term),
-        Err(TreeFault::NoMemory) => Err(AllocError),
+        Err(TreeFault::NoMemory) => Err(NoMemory),
         Err(TreeFault::Refused(_)) => Ok(zero(alloc)),
     }
 }
@@ -50,7 +50,7 @@ fn value_from(
     namespace: &Namespace<'_>,
     told: Content,
     source: Source,
-) -> Result<Value, AllocError>
+) -> Result<Value, NoMemory>
     ensures { IfOk result (λ v. seen.view v ≡ value_from (shown namespace.now) told source) }
 {
     match source {
@@ -68,7 +68,7 @@ pub(crate) fn first_content(
     alloc: Global,
     namespace: &Namespace<'_>,
     id: ObjectId,
-) -> Result<Option<Value>, AllocError>
+) -> Result<Option<Value>, NoMemory>
     ensures { let ns = shown namespace.now in
         IfOk result (λ held. content held ≡ first_content ns (object_at ns.entries id.0)) }
 {

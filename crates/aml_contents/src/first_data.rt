@@ -1,20 +1,18 @@
 // What data holds, by its term (ACPI 6.5, 19.6, Name, Buffer and Package).
 
 ghost use Rattle.std.specs.Prelude.{◌≡◌, ◌-◌, ◌++◌, IfOk, length, map, replicate, take};
-ghost use Rattle.aml_lex.specs.Standing.{bytes_between};
 ghost use Rattle.aml_operators.specs.Tree.{view, views};
 ghost use Rattle.aml_namespace.specs.Shows.{shown};
 ghost use Rattle.aml_values.specs.Values.{Pkg, Unset, none};
 ghost use Rattle.aml_values.specs.Views as seen;
 ghost use Rattle.aml_contents.specs.FirstContents.{bytes_in, counted, elements_behind, elements_in, element_in, filled, first_bytes, initialiser_in, named, number_of, text_in, value_in, value_of, value_told};
 
-use crate::first_kinds::modulo;
-use crate::told::content_in;
-use aml_namespace::{Content, Namespace, Width};
+use aml_lex::bytes_between;
+use aml_namespace::{Content, Namespace, Width, content_in};
 use aml_operators::{Op, Term, behind_first, literal_in};
-use aml_paths::{NamePlace, ObjectId, Scope};
+use aml_paths::{NamePlace, NoMemory, ObjectId, Scope};
 use aml_values::{Bytes, Element, Package, Value};
-use std::alloc::{AllocError, Global};
+use std::alloc::Global;
 
 /// Where data stands.
 #[derive(Clone, Copy)]
@@ -25,20 +23,12 @@ pub(crate) struct Site {
     pub scope: Scope,
 }
 
-/// The bytes between two places; none where they are not in order.
-fn between(bytes: &[u8], at: usize, end: usize) -> &[u8]
-    ensures { result.now ≡ bytes_between bytes.now at end }
-{
-    let front = &bytes[..end.min(bytes.len())];
-    if at < front.len() { &front[at..] } else { &[] }
-}
-
 /// The bytes of the first of some parts.
 fn first_bytes<'a>(bytes: &'a [u8], parts: &[Term]) -> &'a [u8]
     ensures { result.now ≡ first_bytes bytes.now (views parts.now) }
 {
     match parts {
-        [part, ..] => between(bytes, part.at, part.end),
+        [part, ..] => bytes_between(bytes, part.at, part.end),
         [] => &[],
     }
 }
@@ -58,7 +48,7 @@ fn text_in<'a>(bytes: &'a [u8], parts: &[Term]) -> &'a [u8]
     ensures { result.now ≡ text_in bytes.now (views parts.now) }
 {
     match parts {
-        [text, ..] => between(bytes, text.at, text.end.saturating_sub(1)),
+        [text, ..] => bytes_between(bytes, text.at, text.end.saturating_sub(1)),
         [] => &[],
     }
 }
@@ -82,7 +72,7 @@ fn number_of(op: Op, parts: &[Term]) -> u64
 }
 
 /// So many bytes: the first of these, and zeros behind them.
-fn filled(alloc: Global, size: u64, bytes: &[u8]) -> Result<Bytes, AllocError>
+pub fn filled(alloc: Global, size: u64, bytes: &[u8]) -> Result<Bytes, NoMemory>
     ensures { IfOk result (λ made. made ≡ filled size bytes.now) }
 {
     let mut items = Vec::from_slice(alloc, bytes)?;
@@ -92,7 +82,7 @@ fn filled(alloc: Global, size: u64, bytes: &[u8]) -> Result<Bytes, AllocError>
 
 /// Unset elements behind some, so that there are so many.
 #[tactic(auto, using(crate::proofs::FirstValues::unset_more))]
-fn with_unset(elements: Vec<Element>, size: u64) -> Result<Vec<Element>, AllocError>
+fn with_unset(elements: Vec<Element>, size: u64) -> Result<Vec<Element>, NoMemory>
     ensures { IfOk result (λ es. map seen.element es.items ≡
         map seen.element elements.items ++ replicate (size - length elements.items) Unset) }
 {
@@ -104,12 +94,12 @@ fn with_unset(elements: Vec<Element>, size: u64) -> Result<Vec<Element>, AllocEr
 }
 
 /// A package of these elements. No more of them stand in one another than a term has levels.
-fn package_of(elements: Vec<Element>) -> Result<Value, AllocError>
+pub fn package_of(elements: Vec<Element>) -> Result<Value, NoMemory>
     ensures { IfOk result (λ v. seen.view v ≡ Pkg (seen.elements_of elements.items)) }
 {
     match Package::new(elements) {
         Ok(package) => Ok(Value::Pkg(package)),
-        Err(_) => Err(AllocError),
+        Err(_) => Err(NoMemory),
     }
 }
 
@@ -122,11 +112,11 @@ pub(crate) fn plain_value(
     told: Content,
     number: u64,
     bytes: &[u8],
-) -> Result<Value, AllocError>
+) -> Result<Value, NoMemory>
     ensures { IfOk result (λ v. seen.view v ≡ value_told width told number bytes.now none) }
 {
     match told {
-        Content::Integer => Ok(Value::Int(modulo(width, number))),
+        Content::Integer => Ok(Value::Int(width.wrapped(number))),
         Content::Buffer(size) => Ok(Value::Buf(filled(alloc, size, bytes)?)),
         Content::String(size) => Ok(Value::Str(filled(alloc, size, bytes)?)),
         Content::Package(size) => package_of(with_unset(Vec::new(alloc), size)?),
@@ -141,7 +131,7 @@ pub(crate) fn value_in(
     site: Site,
     told: Content,
     term: &Term,
-) -> Result<Value, AllocError>
+) -> Result<Value, NoMemory>
     ensures { IfOk result (λ v. seen.view v ≡
         value_in (shown namespace.now) site.table site.scope told (view term.now)) }
 {
@@ -166,17 +156,17 @@ pub(crate) fn value_of(
     told: Content,
     op: Op,
     parts: &[Term],
-) -> Result<Value, AllocError>
+) -> Result<Value, NoMemory>
     ensures { IfOk result (λ v. seen.view v ≡
         value_of (shown namespace.now) site.table site.scope told op (views parts.now)) }
 {
-    let bytes = bytes_in(namespace.table_bytes(site.table), op, parts);
     match told {
-        Content::Integer => Ok(Value::Int(modulo(namespace.width(), number_of(op, parts)))),
-        Content::Buffer(size) => Ok(Value::Buf(filled(alloc, size, bytes)?)),
-        Content::String(size) => Ok(Value::Str(filled(alloc, size, bytes)?)),
         Content::Package(size) => {
             package_of(elements_behind(alloc, namespace, site, size, parts)?)
+        }
+        _ => {
+            let bytes = bytes_in(namespace.table_bytes(site.table), op, parts);
+            plain_value(alloc, namespace.width(), told, number_of(op, parts), bytes)
         }
     }
 }
@@ -190,7 +180,7 @@ fn elements_behind(
     site: Site,
     size: u64,
     parts: &[Term],
-) -> Result<Vec<Element>, AllocError>
+) -> Result<Vec<Element>, NoMemory>
     ensures { IfOk result (λ es. seen.elements_of es.items ≡
         counted size (elements_behind (shown namespace.now) site.table site.scope
         (views parts.now))) }
@@ -209,7 +199,7 @@ fn elements_in(
     namespace: &Namespace<'_>,
     site: Site,
     terms: &[Term],
-) -> Result<Vec<Element>, AllocError>
+) -> Result<Vec<Element>, NoMemory>
     ensures { IfOk result (λ es. map seen.element es.items ≡
         map (λ t. element_in (shown namespace.now) site.table site.scope (view t)) terms.now) }
 {
@@ -229,7 +219,7 @@ fn element_in(
     namespace: &Namespace<'_>,
     site: Site,
     term: &Term,
-) -> Result<Element, AllocError>
+) -> Result<Element, NoMemory>
     ensures { IfOk result (λ e. seen.element e ≡
         element_in (shown namespace.now) site.table site.scope (view term.now)) }
 {

@@ -1,23 +1,23 @@
 // The kinds that names have by their first contents.
 
-ghost use Rattle.std.specs.Prelude.{◌≡◌, ◌%◌, ◌^◌, IfOk, map};
+ghost use Rattle.std.specs.Prelude.{◌≡◌, IfOk, map};
 ghost use Rattle.aml_contents.specs.FirstKinds.{first_kind, held_first, kind_by, name_kind, place_by, shape_by, within_width};
-ghost use Rattle.aml_objects.specs.Widths.{bits_of};
 ghost use Rattle.aml_values.specs.Views.{element, elements_of, view};
 ghost use Rattle.aml_kinds.specs.KindViews.{element_kind, kind_of, shape_of};
 ghost use Rattle.aml_contents.specs.ContentViews.{content, content_kind};
 
 use aml_kinds::{ElementKind, Kind, Shape};
 use aml_namespace::Width;
+use aml_paths::NoMemory;
 use aml_values::{Element, Value};
-use std::alloc::{AllocError, Global};
+use std::alloc::Global;
 
 /// The kind of a name that has this content first, if it is a data name.
 pub(crate) fn first_kind(
     alloc: Global,
     greatest: u64,
     held: &Option<Value>,
-) -> Result<Option<Kind>, AllocError>
+) -> Result<Option<Kind>, NoMemory>
     ensures { IfOk result (λ k. content_kind k ≡ first_kind greatest (content held.now)) }
 {
     match held {
@@ -27,7 +27,7 @@ pub(crate) fn first_kind(
 }
 
 /// The kind of a name that holds this value first.
-fn name_kind(alloc: Global, greatest: u64, value: &Value) -> Result<Kind, AllocError>
+fn name_kind(alloc: Global, greatest: u64, value: &Value) -> Result<Kind, NoMemory>
     ensures { IfOk result (λ k. kind_of k ≡ name_kind greatest (view value.now)) }
 {
     match value {
@@ -38,7 +38,7 @@ fn name_kind(alloc: Global, greatest: u64, value: &Value) -> Result<Kind, AllocE
 
 /// The narrowest kind of a value.
 #[cycle(first_kind)]
-fn kind_by(alloc: Global, value: &Value) -> Result<Kind, AllocError>
+fn kind_by(alloc: Global, value: &Value) -> Result<Kind, NoMemory>
     ensures { IfOk result (λ k. kind_of k ≡ kind_by (view value.now)) }
 {
     match value {
@@ -52,7 +52,7 @@ fn kind_by(alloc: Global, value: &Value) -> Result<Kind, AllocError>
 /// The shape of the elements of a package.
 #[cycle(first_kind)]
 #[tactic(auto, using(crate::proofs::KindsBy::shape_made))]
-fn shape_by(alloc: Global, elements: &[Element]) -> Result<Shape, AllocError>
+fn shape_by(alloc: Global, elements: &[Element]) -> Result<Shape, NoMemory>
     ensures { IfOk result (λ shape. shape ≡ shape_by (elements_of elements.now)) }
 {
     let places = places_by(alloc, elements)?;
@@ -62,7 +62,7 @@ fn shape_by(alloc: Global, elements: &[Element]) -> Result<Shape, AllocError>
 /// The kinds of the elements of a package.
 #[cycle(first_kind)]
 #[tactic(auto, using(aml_values::proofs::Depths::element_item))]
-fn places_by(alloc: Global, elements: &[Element]) -> Result<Vec<ElementKind>, AllocError>
+fn places_by(alloc: Global, elements: &[Element]) -> Result<Vec<ElementKind>, NoMemory>
     ensures { IfOk result (λ places.
         map element_kind places.items ≡ map (λ e. place_by (element e)) elements.now) }
 {
@@ -76,7 +76,7 @@ fn places_by(alloc: Global, elements: &[Element]) -> Result<Vec<ElementKind>, Al
 
 /// The kind of an element.
 #[cycle(first_kind)]
-fn place_by(alloc: Global, each: &Element) -> Result<ElementKind, AllocError>
+fn place_by(alloc: Global, each: &Element) -> Result<ElementKind, NoMemory>
     ensures { IfOk result (λ place. element_kind place ≡ place_by (element each.now)) }
 {
     match each {
@@ -87,12 +87,12 @@ fn place_by(alloc: Global, each: &Element) -> Result<ElementKind, AllocError>
 }
 
 /// The shape of these places.
-fn shape_with(places: Vec<ElementKind>) -> Result<Shape, AllocError>
+fn shape_with(places: Vec<ElementKind>) -> Result<Shape, NoMemory>
     ensures { IfOk result (λ shape. shape ≡ shape_of places.items) }
 {
     match Shape::new(places) {
         Ok(shape) => Ok(shape),
-        Err(_) => Err(AllocError),
+        Err(_) => Err(NoMemory),
     }
 }
 
@@ -111,19 +111,9 @@ fn within_width(width: Width, value: Value) -> Value
     ensures { view result ≡ within_width width (view value) }
 {
     match value {
-        Value::Int(number) => Value::Int(modulo(width, number)),
+        Value::Int(number) => Value::Int(width.wrapped(number)),
         Value::Buf(bytes) => Value::Buf(bytes),
         Value::Str(characters) => Value::Str(characters),
         Value::Pkg(package) => Value::Pkg(package),
-    }
-}
-
-/// A number modulo 2 to the width.
-pub(crate) fn modulo(width: Width, number: u64) -> u64
-    ensures { result ≡ number % 2 ^ bits_of width }
-{
-    match width {
-        Width::Bits32 => number % 0x1_0000_0000,
-        Width::Bits64 => number,
     }
 }

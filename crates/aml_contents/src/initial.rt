@@ -9,7 +9,7 @@ use crate::first_contents::first_content;
 use crate::names::Names;
 use aml_namespace::Namespace;
 use aml_paths::{NoMemory, ObjectId};
-use std::alloc::{AllocError, Global};
+use std::alloc::Global;
 
 impl Names {
     ghost use Rattle.aml_contents.specs.Held.{contents, content_kinds};
@@ -28,14 +28,11 @@ impl Names {
         ensures belong { let ns = shown namespace.now in
             IfOk result (λ made. Belong ns (content_kinds made)) }
     {
-        match Names::first(alloc, namespace) {
-            Ok(made) => Ok(made),
-            Err(_) => Err(NoMemory),
-        }
+        Names::first(alloc, namespace)
     }
 
     /// What the data names of a namespace hold before any evaluation.
-    fn first(alloc: Global, namespace: &Namespace<'_>) -> Result<Names, AllocError>
+    fn first(alloc: Global, namespace: &Namespace<'_>) -> Result<Names, NoMemory>
         ensures contents { let ns = shown namespace.now in
             IfOk result (λ made. contents made ≡ first_contents ns) }
         ensures kinds { let ns = shown namespace.now in
@@ -44,7 +41,7 @@ impl Names {
         let mut names = Names::new(alloc);
         for i in 0..namespace.len() {
             let held = first_content(alloc, namespace, ObjectId(i))?;
-            names.add(alloc, namespace.width(), held)?;
+            names.push(alloc, namespace.width(), held)?;
         }
         Ok(names)
     }

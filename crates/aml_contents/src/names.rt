@@ -18,7 +18,7 @@ use aml_kinds::{Kind, copy_kind, fits};
 use aml_namespace::{Content, Namespace, Object, Source, Width};
 use aml_paths::{NoMemory, ObjectId};
 use aml_values::{Value, copy};
-use std::alloc::{AllocError, Global};
+use std::alloc::Global;
 
 /// What data names hold, by the numbers of their objects. Each content is of its name's kind.
 #[derive(Drop)]
@@ -57,50 +57,19 @@ impl Names {
         ensures kept { OnErr result (contents self.new ≡ contents self.old) }
         ensures kinds_kept { OnErr result (content_kinds self.new ≡ content_kinds self.old) }
     {
-        match self.add(alloc, width, held) {
-            Ok(()) => Ok(()),
-            Err(_) => Err(NoMemory),
-        }
-    }
-
-    /// Adds what the object with the next number holds first.
-    pub(crate) fn add(
-        &mut self,
-        alloc: Global,
-        width: Width,
-        held: Option<Value>,
-    ) -> Result<(), AllocError>
-        ensures held { OnOk result
-            (contents self.new ≡ contents self.old ++ held_first width (content held) ∷ []) }
-        ensures kinds { OnOk result (content_kinds self.new ≡
-            content_kinds self.old ++ first_kind (greatest_of width) (content held) ∷ []) }
-        ensures kept { OnErr result (contents self.new ≡ contents self.old) }
-        ensures kinds_kept { OnErr result (content_kinds self.new ≡ content_kinds self.old) }
-    {
         let kind = first_kind(alloc, width.greatest(), &held)?;
         self.kinds.push(kind)?;
         match self.contents.push(held_first(width, held)) {
             Ok(()) => Ok(()),
             Err(_) => {
                 self.kinds.pop();
-                Err(AllocError)
+                Err(NoMemory)
             }
         }
     }
 
     /// A copy.
     pub fn copy(&self, alloc: Global) -> Result<Names, NoMemory>
-        ensures contents { IfOk result (λ made. contents made ≡ contents self.now) }
-        ensures kinds { IfOk result (λ made. content_kinds made ≡ content_kinds self.now) }
-    {
-        match self.copied(alloc) {
-            Ok(made) => Ok(made),
-            Err(_) => Err(NoMemory),
-        }
-    }
-
-    /// A copy.
-    fn copied(&self, alloc: Global) -> Result<Names, AllocError>
         ensures contents { IfOk result (λ made. contents made ≡ contents self.now) }
         ensures kinds { IfOk result (λ made. content_kinds made ≡ content_kinds self.now) }
     {
@@ -214,7 +183,7 @@ fn put_in(held: &mut Option<Value>, at: usize, byte: u8) -> bool
 fn copied_contents(
     alloc: Global,
     contents: &[Option<Value>],
-) -> Result<Vec<Option<Value>>, AllocError>
+) -> Result<Vec<Option<Value>>, NoMemory>
     ensures { IfOk result (λ made. contents_of made.items ≡ contents_of contents.now) }
 {
     let mut made = Vec::new(alloc);
@@ -226,20 +195,17 @@ fn copied_contents(
 }
 
 /// A copy of a content.
-fn copied_content(alloc: Global, each: &Option<Value>) -> Result<Option<Value>, AllocError>
+fn copied_content(alloc: Global, each: &Option<Value>) -> Result<Option<Value>, NoMemory>
     ensures { IfOk result (λ made. content made ≡ content each.now) }
 {
     match each {
-        Some(value) => match copy(alloc, value) {
-            Ok(made) => Ok(Some(made)),
-            Err(_) => Err(AllocError),
-        },
+        Some(value) => Ok(Some(copy(alloc, value)?)),
         None => Ok(None),
     }
 }
 
 /// Copies of the kinds of contents.
-fn copied_kinds(alloc: Global, kinds: &[Option<Kind>]) -> Result<Vec<Option<Kind>>, AllocError>
+fn copied_kinds(alloc: Global, kinds: &[Option<Kind>]) -> Result<Vec<Option<Kind>>, NoMemory>
     ensures { IfOk result (λ made. content_kinds_of made.items ≡ content_kinds_of kinds.now) }
 {
     let mut made = Vec::new(alloc);
@@ -251,14 +217,11 @@ fn copied_kinds(alloc: Global, kinds: &[Option<Kind>]) -> Result<Vec<Option<Kind
 }
 
 /// A copy of the kind of a content.
-fn copied_content_kind(alloc: Global, each: &Option<Kind>) -> Result<Option<Kind>, AllocError>
+fn copied_content_kind(alloc: Global, each: &Option<Kind>) -> Result<Option<Kind>, NoMemory>
     ensures { IfOk result (λ made. content_kind made ≡ content_kind each.now) }
 {
     match each {
-        Some(kind) => match copy_kind(alloc, kind) {
-            Ok(made) => Ok(Some(made)),
-            Err(_) => Err(AllocError),
-        },
+        Some(kind) => Ok(Some(copy_kind(alloc, kind)?)),
         None => Ok(None),
     }
 }

@@ -10,7 +10,7 @@ use aml_lex::has_byte;
 const EXTERNAL: u8 = 0x15;
 
 /// The opcode of an If.
-const IF: u8 = 0xA0;
+pub(crate) const IF: u8 = 0xA0;
 
 /// The opcode of an Else.
 const ELSE: u8 = 0xA1;
@@ -29,10 +29,8 @@ fn external_end(bytes: &[u8], at: usize) -> Option<usize>
     if !has_byte(EXTERNAL, bytes, at) {
         return None;
     }
-    match name_end(bytes, at + 1) {
-        None => None,
-        Some(next) => bytes_end(2, bytes, next),
-    }
+    let next = name_end(bytes, at + 1)?;
+    bytes_end(2, bytes, next)
 }
 
 /// Whether Externals alone stand up to the end of the bytes.

@@ -4,7 +4,7 @@ ghost use Rattle.std.specs.Prelude.{◌≡◌, ◌≤◌, ◌<◌, ◌+◌, leng
 ghost use Rattle.aml_lex.specs.Standing.{has_byte};
 ghost use Rattle.aml_externals.specs.Extents.{name_end, text_end, package_at, bytes_end, piece_end, letters_end, list_at, term_end};
 
-use aml_lex::{name_string, package_end, string_data};
+use aml_lex::{has_byte, name_string, package_end, string_data};
 use aml_operators::{Letter, Piece, row_of};
 use aml_tree::op_at;
 
@@ -99,14 +99,14 @@ pub(crate) fn letters_end(letters: &[Letter], bytes: &[u8], at: usize, depth: u8
 {
     match letters {
         [] => Some(at),
-        [Letter::One(piece), rest @ ..] => match piece_end(*piece, bytes, at, depth) {
-            None => None,
-            Some(next) => letters_end(rest, bytes, next, depth),
-        },
-        [Letter::Package, ..] => match package(bytes, at) {
-            None => None,
-            Some((stop, _)) => Some(stop),
-        },
+        [Letter::One(piece), rest @ ..] => {
+            let next = piece_end(*piece, bytes, at, depth)?;
+            letters_end(rest, bytes, next, depth)
+        }
+        [Letter::Package, ..] => {
+            let (stop, _) = package(bytes, at)?;
+            Some(stop)
+        }
         _ => None,
     }
 }
@@ -117,7 +117,7 @@ fn no_target_end(bytes: &[u8], at: usize) -> Option<usize>
     ensures ahead { IfSome result (λ next. at < next) }
     ensures within { IfSome result (λ next. next ≤ length bytes.now) }
 {
-    if at < bytes.len() && bytes[at] == NO_TARGET {
+    if has_byte(NO_TARGET, bytes, at) {
         Some(at + 1)
     } else {
         None
@@ -152,10 +152,10 @@ pub(crate) fn list_at(letters: &[Letter], bytes: &[u8], at: usize, depth: u8) ->
     ensures within { IfSome result (λ next. next ≤ length bytes.now) }
 {
     match letters {
-        [Letter::One(piece), rest @ ..] => match piece_end(*piece, bytes, at, depth) {
-            None => None,
-            Some(next) => list_at(rest, bytes, next, depth),
-        },
+        [Letter::One(piece), rest @ ..] => {
+            let next = piece_end(*piece, bytes, at, depth)?;
+            list_at(rest, bytes, next, depth)
+        }
         [Letter::Terms(_), ..] => Some(at),
         _ => None,
     }

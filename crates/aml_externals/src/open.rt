@@ -6,7 +6,7 @@ ghost use Rattle.aml_externals.specs.Opened.{opened, dead_in};
 use crate::step::{Step, step_at};
 
 /// The opcode of a Scope.
-const SCOPE: u8 = 0x10;
+pub(crate) const SCOPE: u8 = 0x10;
 
 /// Opens the dead Ifs of a list of definitions, in which at most so many stand one in another, and
 /// answers how many there were.

@@ -5,7 +5,8 @@ ghost use Rattle.acpi_tables.specs.Header.{IsTable};
 ghost use Rattle.aml_externals.specs.Opened.{kept};
 ghost use Rattle.aml_externals.specs.Table.{table_opened, dead_at};
 
-use crate::open::{is_dead_in, open_list};
+use crate::dead_if::IF;
+use crate::open::{SCOPE, is_dead_in, open_list};
 use acpi_tables::Header;
 
 /// How many lists of definitions stand one in another, where a definition in the innermost has the
@@ -16,7 +17,7 @@ const GREATEST_LISTS: u8 = 63;
 const CHECKSUM: usize = 9;
 
 /// How much lower a Scope's opcode is than an If's.
-const LOWER: u8 = 0x90;
+const LOWER: u8 = IF - SCOPE;
 
 /// Makes each dead If of a table's module a Scope of no name, in place: an If whose test is Zero,
 /// which holds one External or more and nothing else, and has no Else, in the table's list of

@@ -96,10 +96,8 @@ pub fn stop_for<A: Around>(here: &A, why: Cause, at: usize, finding: Finding) ->
 pub fn push(kinds: &mut Vec<Known>, kind: Known) -> Result<(), NoMemory>
     ensures { OnOk result (kinds.new.items ≡ kinds.old.items ++ kind ∷ []) }
 {
-    match kinds.push(kind) {
-        Ok(()) => Ok(()),
-        Err(_) => Err(NoMemory),
-    }
+    kinds.push(kind)?;
+    Ok(())
 }
 
 /// An integer literal.

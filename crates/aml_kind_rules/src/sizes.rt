@@ -15,12 +15,7 @@ use aml_known::{Known, Shapes, Stop};
 use aml_meaning::Conversion;
 use aml_namespace::Width;
 use aml_rules::Place;
-
-/// As many bytes as a buffer may have in a Concatenate.
-const MOST_BYTES: u64 = 65_536;
-
-/// As many elements as a package may have.
-const MOST_ELEMENTS: u64 = 65_535;
+use aml_values::{MOST_BYTES, MOST_ELEMENTS};
 
 /// The kind of the integer that a buffer of so many bytes becomes. V7 at the operator where it is
 /// empty.
@@ -63,7 +58,7 @@ fn joined_size(operator: Place, a: u64, b: u64) -> Result<u64, Refusal>
         ≡ rule.limited_kind (place_of operator) (a + b) (sized (a + b)) }
 {
     match a.checked_add(b) {
-        Some(size) if size <= MOST_BYTES => Ok(size),
+        Some(size) if size <= MOST_BYTES as u64 => Ok(size),
         _ => Err(refused(Cause::OutsideProfile, operator)),
     }
 }
@@ -105,7 +100,7 @@ pub fn size_kind<S: Shapes>(
     match kind {
         Known::Buf(size) | Known::Str(size) => Ok(Known::Int(width.wrapped(size))),
         Known::Pkg(shape) => Ok(Known::Int(width.wrapped(shapes.places(shape)?))),
-        Known::AnyPkg => Ok(Known::Int(MOST_ELEMENTS)),
+        Known::AnyPkg => Ok(Known::Int(MOST_ELEMENTS as u64)),
         Known::Int(_) | Known::Mixed => { Err(Stop::Refused(refused(Cause::WrongKind, operand))) }
     }
 }

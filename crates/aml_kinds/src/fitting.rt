@@ -7,10 +7,7 @@ ghost use Rattle.aml_kinds.specs.Fits.{fits_shape, fits_place};
 ghost use Rattle.aml_kinds.specs.KindViews.{kind_of, element_kind, shape_of};
 
 use crate::kind::{ElementKind, Kind};
-use aml_values::{Element, Value};
-
-/// As many elements as a package may have.
-const MOST_ELEMENTS: usize = 65_535;
+use aml_values::{Element, MOST_ELEMENTS, Value};
 
 /// Whether a value is of a kind.
 #[cycle(fits)]

@@ -8,20 +8,10 @@ ghost use Rattle.aml_kinds.specs.KindViews.{kind_of, element_kind};
 use crate::kind::{ElementKind, Kind};
 use crate::same_kinds::shapes_match;
 use aml_paths::NoMemory;
-use std::alloc::{AllocError, Global};
+use std::alloc::Global;
 
 /// What is known of a value that is of the one kind or of the other.
 pub fn join(alloc: Global, j: &Kind, k: &Kind) -> Result<Kind, NoMemory>
-    ensures { IfOk result (λ joined. kind_of joined ≡ spec.join (kind_of j.now) (kind_of k.now)) }
-{
-    match joined(alloc, j, k) {
-        Ok(kind) => Ok(kind),
-        Err(_) => Err(NoMemory),
-    }
-}
-
-/// What is known of a value that is of the one kind or of the other.
-fn joined(alloc: Global, j: &Kind, k: &Kind) -> Result<Kind, AllocError>
     ensures { IfOk result (λ joined. kind_of joined ≡ spec.join (kind_of j.now) (kind_of k.now)) }
 {
     match (j, k) {
@@ -51,10 +41,9 @@ pub fn join_elements(
 {
     match (d, e) {
         (ElementKind::Unset, _) | (_, ElementKind::Unset) => Ok(ElementKind::Unset),
-        (ElementKind::Value(j), ElementKind::Value(k)) => match joined(alloc, j, k) {
-            Ok(kind) => Ok(ElementKind::Value(kind)),
-            Err(_) => Err(NoMemory),
-        },
+        (ElementKind::Value(j), ElementKind::Value(k)) => {
+            Ok(ElementKind::Value(join(alloc, j, k)?))
+        }
         _ => Ok(ElementKind::Name),
     }
 }

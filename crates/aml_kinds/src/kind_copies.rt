@@ -5,21 +5,11 @@ ghost use Rattle.aml_kinds.specs.KindViews.{kind_of, element_kind};
 
 use crate::kind::{ElementKind, Kind};
 use aml_paths::NoMemory;
-use std::alloc::{AllocError, Global};
-
-/// A copy of a kind.
-pub fn copy_kind(alloc: Global, kind: &Kind) -> Result<Kind, NoMemory>
-    ensures { IfOk result (λ k. kind_of k ≡ kind_of kind.now) }
-{
-    match copied_kind(alloc, kind) {
-        Ok(made) => Ok(made),
-        Err(_) => Err(NoMemory),
-    }
-}
+use std::alloc::Global;
 
 /// A copy of a kind.
 #[cycle(copy_kind)]
-pub(crate) fn copied_kind(alloc: Global, kind: &Kind) -> Result<Kind, AllocError>
+pub fn copy_kind(alloc: Global, kind: &Kind) -> Result<Kind, NoMemory>
     ensures { IfOk result (λ k. kind_of k ≡ kind_of kind.now) }
 {
     match kind {
@@ -37,7 +27,7 @@ pub(crate) fn copied_kind(alloc: Global, kind: &Kind) -> Result<Kind, AllocError
 pub(crate) fn copied_places(
     alloc: Global,
     places: &[ElementKind],
-) -> Result<Vec<ElementKind>, AllocError>
+) -> Result<Vec<ElementKind>, NoMemory>
     ensures { IfOk result (λ made. map element_kind made.items ≡ map element_kind places.now) }
 {
     let mut made = Vec::new(alloc);
@@ -50,11 +40,11 @@ pub(crate) fn copied_places(
 
 /// A copy of the kind of an element.
 #[cycle(copy_kind)]
-fn copied_place(alloc: Global, each: &ElementKind) -> Result<ElementKind, AllocError>
+fn copied_place(alloc: Global, each: &ElementKind) -> Result<ElementKind, NoMemory>
     ensures { IfOk result (λ e. element_kind e ≡ element_kind each.now) }
 {
     match each {
-        ElementKind::Value(kind) => Ok(ElementKind::Value(copied_kind(alloc, kind)?)),
+        ElementKind::Value(kind) => Ok(ElementKind::Value(copy_kind(alloc, kind)?)),
         ElementKind::Name => Ok(ElementKind::Name),
         ElementKind::Unset => Ok(ElementKind::Unset),
     }

@@ -7,8 +7,9 @@ ghost use Rattle.aml_kinds.specs.KindViews.{element_kind, shape_of};
 
 use crate::kind::{ElementKind, Kind};
 use crate::kind_copies::copied_places;
+use aml_paths::NoMemory;
 use aml_values::MOST_NESTED;
-use std::alloc::{AllocError, Global};
+use std::alloc::Global;
 use std::marker::Model;
 
 /// The kinds of a package's elements, in order. As packages, no more than 64 stand in one another.
@@ -91,7 +92,7 @@ impl Shape {
 
     /// A copy.
     #[cycle(copy_kind)]
-    pub(crate) fn copied(&self, alloc: Global) -> Result<Shape, AllocError>
+    pub(crate) fn copied(&self, alloc: Global) -> Result<Shape, NoMemory>
         ensures { IfOk result (λ made. made ≡ self.now) }
     {
         let places = copied_places(alloc, &self.places)?;

@@ -28,10 +28,7 @@ pub struct Env {
 fn given(kinds: &[Known], number: usize) -> Slot
     ensures { result ≡ slice_get kinds.now number }
 {
-    match kinds.get(number) {
-        Some(kind) => Some(*kind),
-        None => None,
-    }
+    kinds.get(number).copied()
 }
 
 impl Env {

@@ -1,11 +1,11 @@
 // Reading name strings (ACPI 6.5, 20.2.2).
 
-ghost use Rattle.std.specs.Prelude.{◌≡◌, ◌≤◌, ◌<◌, ◌*◌, ◌+◌, ℕ, List, [], ◌∷◌, length, drop, IfOk, IsTrue};
+ghost use Rattle.std.specs.Prelude.{◌≡◌, ◌≤◌, ◌<◌, ◌*◌, ◌+◌, ◌↔◌, ℕ, List, [], ◌∷◌, length, take, drop, IfOk, IsTrue};
 ghost use Rattle.std.specs.Borrow.{Bor};
 ghost use Rattle.aml_lex.specs.Characters.{fits_name, is_lead_name_char};
 ghost use Rattle.aml_lex.specs.Names.{name_of};
 ghost use Rattle.aml_lex.specs.NameStrings.{segments_of};
-ghost use Rattle.aml_lex.specs.Read.{place_behind, placed, tested_read};
+ghost use Rattle.aml_lex.specs.Read.{Found, place_behind, placed, tested_read};
 ghost use Rattle.aml_lex.specs.Reading.{IsSeenAs, carets, counted_read, is_rooted, name_string_at, path_read, seg_read, segs_read, with_value};
 ghost use Rattle.aml_lex.specs.Exact.{Reads};
 ghost use Rattle.aml_lex.specs.Spelling.{SpellsName};
@@ -55,6 +55,21 @@ fn name_char(bytes: &[u8], at: usize, leads: bool) -> Result<usize, LexFault>
     }
 }
 
+/// Whether bytes begin with a name segment.
+fn leads_with_seg(bytes: &[u8]) -> bool
+    ensures { IsTrue result ↔ (seg_read bytes.now ≡ Found (take 4 bytes.now) 4) }
+{
+    match bytes {
+        [first, second, third, fourth, ..] => {
+            fits_name(true, *first)
+                && fits_name(false, *second)
+                && fits_name(false, *third)
+                && fits_name(false, *fourth)
+        }
+        _ => false,
+    }
+}
+
 /// The place behind the name segment at a place.
 fn name_seg(bytes: &[u8], at: usize) -> Result<usize, LexFault>
     requires { at ≤ length bytes.now }
@@ -63,6 +78,9 @@ fn name_seg(bytes: &[u8], at: usize) -> Result<usize, LexFault>
     ensures size { IfOk result (λ next. next ≡ at + 4) }
     ensures within { IfOk result (λ next. next ≤ length bytes.now) }
 {
+    if leads_with_seg(&bytes[at..]) {
+        return Ok(at + 4);
+    }
     let second = name_char(bytes, at, true)?;
     let third = name_char(bytes, second, false)?;
     let fourth = name_char(bytes, third, false)?;

@@ -3,7 +3,7 @@
 ghost use Rattle.std.specs.Prelude.{◌≡◌, ◌<◌, IsSome, Some, length, true};
 ghost use Rattle.std.specs.Option.{option_map};
 ghost use Rattle.aml_lex.specs.Names.{name_of};
-ghost use Rattle.aml_lex.specs.Standing.{has_byte, name_there};
+ghost use Rattle.aml_lex.specs.Standing.{bytes_between, has_byte, name_there};
 
 use crate::name_reader::{find_name_string, name_string};
 use crate::names::NameRef;
@@ -14,6 +14,14 @@ pub fn has_byte(byte: u8, bytes: &[u8], at: usize) -> bool
     ensures within { result ≡ true → at < length bytes.now }
 {
     at < bytes.len() && bytes[at] == byte
+}
+
+/// The bytes between two places; none where these are not in order.
+pub fn bytes_between(bytes: &[u8], at: usize, stop: usize) -> &[u8]
+    ensures { result.now ≡ bytes_between bytes.now at stop }
+{
+    let front = &bytes[..stop.min(bytes.len())];
+    if at < front.len() { &front[at..] } else { &[] }
 }
 
 /// The name string that stands at a place, where one does; None also past the bytes.

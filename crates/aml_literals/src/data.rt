@@ -1,28 +1,28 @@
 // Literals of data (ACPI 6.5, 19.6, Buffer, Package and String).
 
 ghost use Rattle.std.specs.Prelude.{◌≡◌, ◌≤◌, ◌<◌, IfOk, length};
-ghost use Rattle.aml_lex.specs.Standing.{bytes_between};
 ghost use Rattle.aml_operators.specs.declared.op.Op.TheVariants as op;
 ghost use Rattle.aml_operators.specs.Tree.{stop_of, trees};
 ghost use Rattle.aml_paths.specs.declared.scope.Scope.TheVariants.{At};
 ghost use Rattle.aml_namespace.specs.Shows.{shown};
-ghost use Rattle.aml_values.specs.Values.{Pkg};
 ghost use Rattle.aml_values.specs.Views as seen;
 ghost use Rattle.aml_contents.specs.BodyData.{body_data};
-ghost use Rattle.aml_contents.specs.FirstContents.{counted, element_in, elements_in, filled, named};
+ghost use Rattle.aml_contents.specs.FirstContents.{counted, element_in, elements_in, named};
 ghost use Rattle.aml_meaning.specs.Actions.{action};
 ghost use Rattle.aml_meaning.specs.declared.action.Action.TheVariants as does;
 ghost use Rattle.aml_literals.specs.There.{DataThere, ElementThere, ElementsThere, IsCount, PackageThere, RestThere, first_element};
 
 use crate::ends::{name_end, package, text_end};
 use crate::numbers::{literal_at, literal_number, number};
+use aml_contents::{filled, package_of};
+use aml_lex::bytes_between;
 use aml_meaning::{Action, action_of};
 use aml_namespace::Namespace;
 use aml_operators::Op;
 use aml_paths::{NamePlace, NoMemory, ObjectId, Scope};
 use aml_tree::op_at;
-use aml_values::{Bytes, Element, Package, Value};
-use std::alloc::{AllocError, Global};
+use aml_values::{Element, Value};
+use std::alloc::Global;
 
 /// In which body a literal stands.
 #[derive(Clone, Copy)]
@@ -53,27 +53,7 @@ pub fn data_value(
         body_data (shown namespace.now) table method.0 op (trees d.there.parts)) }
     ensures place { IfOk result (λ r. (d : DataThere op bytes.now at) → d.there.stop ≡ r.1) }
 {
-    match value(alloc, namespace, Site { table, method }, op, bytes, at) {
-        Ok(read) => Ok(read),
-        Err(_) => Err(NoMemory),
-    }
-}
-
-/// The bytes between two places; none where they are not in order.
-fn between(bytes: &[u8], at: usize, end: usize) -> &[u8]
-    ensures { result.now ≡ bytes_between bytes.now at end }
-{
-    let front = &bytes[..end.min(bytes.len())];
-    if at < front.len() { &front[at..] } else { &[] }
-}
-
-/// So many bytes: the first of these, and zeros behind them.
-fn filled(alloc: Global, size: u64, bytes: &[u8]) -> Result<Bytes, AllocError>
-    ensures { IfOk result (λ made. made ≡ filled size bytes.now) }
-{
-    let mut items = Vec::from_slice(alloc, bytes)?;
-    items.resize(size as usize, 0)?;
-    Ok(Bytes::new(items))
+    value(alloc, namespace, Site { table, method }, op, bytes, at)
 }
 
 /// The value of a string behind its opcode, and the place behind it.
@@ -83,14 +63,14 @@ fn string(
     site: Site,
     bytes: &[u8],
     at: usize,
-) -> Result<(Value, usize), AllocError>
+) -> Result<(Value, usize), NoMemory>
     requires { DataThere op.String bytes.now at }
     ensures value { IfOk result (λ r. (d : DataThere op.String bytes.now at) → seen.view r.0 ≡
         body_data (shown namespace.now) site.table site.method.0 op.String (trees d.there.parts)) }
     ensures place { IfOk result (λ r. (d : DataThere op.String bytes.now at) → d.there.stop ≡ r.1) }
 {
     let stop = text_end(bytes, at);
-    let text = between(namespace.table_bytes(site.table), at, stop - 1);
+    let text = bytes_between(namespace.table_bytes(site.table), at, stop - 1);
     let characters = filled(alloc, (stop - at - 1) as u64, text)?;
     Ok((Value::Str(characters), stop))
 }
@@ -102,7 +82,7 @@ fn buffer(
     site: Site,
     bytes: &[u8],
     at: usize,
-) -> Result<(Value, usize), AllocError>
+) -> Result<(Value, usize), NoMemory>
     requires { DataThere op.Buffer bytes.now at }
     ensures value { IfOk result (λ r. (d : DataThere op.Buffer bytes.now at) → seen.view r.0 ≡
         body_data (shown namespace.now) site.table site.method.0 op.Buffer (trees d.there.parts)) }
@@ -110,7 +90,7 @@ fn buffer(
 {
     let (stop, next) = package(bytes, at);
     let (size, start) = literal_at(&bytes[..stop], next);
-    let initialiser = between(namespace.table_bytes(site.table), start, stop);
+    let initialiser = bytes_between(namespace.table_bytes(site.table), start, stop);
     let items = filled(alloc, size.max((stop - start) as u64), initialiser)?;
     Ok((Value::Buf(items), stop))
 }
@@ -128,16 +108,6 @@ fn count_at(op: Op, bytes: &[u8], at: usize) -> (u64, usize)
     }
 }
 
-/// A package of these elements. No more of them stand in one another than a term has levels.
-fn package_of(elements: Vec<Element>) -> Result<Value, AllocError>
-    ensures { IfOk result (λ v. seen.view v ≡ Pkg (seen.elements_of elements.items)) }
-{
-    match Package::new(elements) {
-        Ok(package) => Ok(Value::Pkg(package)),
-        Err(_) => Err(AllocError),
-    }
-}
-
 /// The value of a literal behind its opcode, and the place behind it.
 #[cycle(data)]
 fn value(
@@ -147,7 +117,7 @@ fn value(
     op: Op,
     bytes: &[u8],
     at: usize,
-) -> Result<(Value, usize), AllocError>
+) -> Result<(Value, usize), NoMemory>
     requires datum { action op ≡ does.Data op }
     requires there { DataThere op bytes.now at }
     ensures value { IfOk result (λ r. (d : DataThere op bytes.now at) → seen.view r.0 ≡
@@ -176,7 +146,7 @@ fn elements(
     count: u64,
     bytes: &[u8],
     start: usize,
-) -> Result<Vec<Element>, AllocError>
+) -> Result<Vec<Element>, NoMemory>
     requires { ElementsThere bytes.now start }
     ensures { IfOk result (λ es. (e : ElementsThere bytes.now start) → seen.elements_of es.items ≡
         counted count
@@ -201,7 +171,7 @@ fn next_element(
     site: Site,
     bytes: &[u8],
     at: usize,
-) -> Result<(Element, usize), AllocError>
+) -> Result<(Element, usize), NoMemory>
     requires { ElementsThere bytes.now at }
     ensures first { IfOk result (λ r. (e : ElementsThere bytes.now at) → seen.element r.0 ≡
         first_element (shown namespace.now) site.table (At site.method) e.parts) }
@@ -224,7 +194,7 @@ fn element(
     site: Site,
     bytes: &[u8],
     at: usize,
-) -> Result<(Element, usize), AllocError>
+) -> Result<(Element, usize), NoMemory>
     requires { ElementThere bytes.now at }
     ensures element { IfOk result (λ r. (e : ElementThere bytes.now at) → seen.element r.0 ≡
         element_in (shown namespace.now) site.table (At site.method) e.tree) }

@@ -1,10 +1,11 @@
 //! What a running method has and changes: its frame, what names hold, and the steps that are left.
-//! It knows no terms and no errors.
+//! It knows no terms and no evaluator's errors.
 //!
 //! Rooms: `frame` is what a method has of its own, with `mutexes`, those that it holds; `machine`
 //! the frame, what names hold and the steps; `arguments` the values that a method is called with,
-//! `slots` locals and arguments, `growth` a value that grows in one of them, `in_place` fields of
-//! buffers that are stored into where they stand, `elements` those of packages where they stand.
+//! `slots` locals and arguments, `copies` copies of what is held, `growth` a value that grows in a
+//! slot, `in_place` fields of buffers that are stored into where they stand, `elements` those of
+//! packages where they stand.
 #![tactic(auto)]
 
 mod arguments;

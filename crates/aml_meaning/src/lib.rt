@@ -4,6 +4,11 @@
 //! evaluation is made of), `Meaning` (what each operator means), `Definitions` (what a Name or a
 //! CreateField form at the top of a body makes), `Whole` (a method's body) and `Runs` (what an
 //! evaluator's answer says of it). `docs/MEANING.md` tells the same in plain words.
+//!
+//! Rooms of the code, which has the words that both evaluators and the verifier share: `action` the
+//! kinds of meaning, `definition` what operators make at the top of a body, `buffer_field` and
+//! `mutex` what a running method has of each, `error` why an evaluation stops, `outcome` how it
+//! ends, `law` the laws of the meaning.
 #![tactic(auto)]
 
 mod action;

@@ -93,10 +93,8 @@ fn push(callees: &mut Vec<ObjectId>, callee: Option<ObjectId>) -> Result<(), NoM
     let Some(id) = callee else {
         return Ok(());
     };
-    match callees.push(id) {
-        Ok(()) => Ok(()),
-        Err(_) => Err(NoMemory),
-    }
+    callees.push(id)?;
+    Ok(())
 }
 
 /// What is found of a method's body, which is read: the methods that it calls, and what is kept of
@@ -190,8 +188,6 @@ fn keep(
 ) -> Result<(), NoMemory>
     ensures { OnOk result (pairs.new.items ≡ pairs.old.items ++ (id, callees) ∷ []) }
 {
-    match pairs.push((id, callees)) {
-        Ok(()) => Ok(()),
-        Err(_) => Err(NoMemory),
-    }
+    pairs.push((id, callees))?;
+    Ok(())
 }

@@ -1,4 +1,5 @@
 pub mod BodyPlaces
+pub mod Contents
 pub mod Shapes
 pub mod Weights
 pub mod Defined

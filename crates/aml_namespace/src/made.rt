@@ -6,22 +6,15 @@ ghost use Rattle.aml_operators.specs.Shape.{AreShaped, IsShaped};
 ghost use Rattle.aml_operators.specs.Tree.{view, views};
 ghost use Rattle.aml_namespace.specs.Parts.{HasParts};
 ghost use Rattle.aml_objects.specs.Kept.{here_of};
-ghost use Rattle.aml_namespace.specs.Made.{buffer_content, buffer_field, content_of, data_of, literal, method_of, name_place, named, named_bits, named_buffer_field, named_data, named_method, named_mutex, named_region, object_of, package_content, reference, scope_numbered, sized_package_content, string_content};
+ghost use Rattle.aml_namespace.specs.Made.{buffer_field, data_of, method_of, name_place, named, named_bits, named_buffer_field, named_data, named_method, named_mutex, named_region, object_of, reference, scope_numbered};
 
+use crate::content::{content_in, literal};
 use aml_objects::{
-    Content, CreatedField, CreatedFieldSize, DataName, Here, Method, Object, Reference, Region,
-    Source,
+    CreatedField, CreatedFieldSize, DataName, Here, Method, Object, Reference, Region, Source,
 };
-use aml_operators::{Op, Term, four, literal_of, number_in, one, size_in, three, two};
+use aml_operators::{Op, Term, four, literal_of, number_in, three, two};
 use aml_paths::{NamePlace, ObjectId, Scope};
 use aml_tree::Span;
-
-/// An integer literal, which a module's sizes, counts and indices are.
-fn literal(term: &Term) -> u64
-    ensures { result ≡ literal (view term.now) }
-{
-    literal_of(term).unwrap_or(0)
-}
 
 /// The scope whose path has a number.
 pub(crate) fn scope_numbered(path: usize) -> Scope
@@ -55,58 +48,6 @@ pub(crate) fn reference(here: Here<'_>, name: &Term) -> Reference
     }
 }
 
-/// The first content of a name that is a buffer.
-fn buffer_content(parts: &[Term]) -> Content
-    requires { length parts.now ≡ 2 }
-    ensures { result ≡ buffer_content (views parts.now) }
-{
-    let (size, initialiser) = two(parts);
-    Content::Buffer(literal(size).max(size_in(initialiser)))
-}
-
-/// The first content of a name that is a string.
-fn string_content(parts: &[Term]) -> Content
-    requires { length parts.now ≡ 1 }
-    ensures { result ≡ string_content (views parts.now) }
-{
-    Content::String(size_in(one(parts)).saturating_sub(1))
-}
-
-/// The first content of a name that is a package.
-fn package_content(parts: &[Term]) -> Content
-    ensures { result ≡ package_content (views parts.now) }
-{
-    match parts {
-        [count, ..] => Content::Package(number_in(count)),
-        [] => Content::Package(0),
-    }
-}
-
-/// The first content of a name that is a package with a term as its count.
-fn sized_package_content(parts: &[Term]) -> Content
-    ensures { result ≡ sized_package_content (views parts.now) }
-{
-    match parts {
-        [count, ..] => Content::Package(literal(count)),
-        [] => Content::Package(0),
-    }
-}
-
-/// What the first content of a name is.
-#[tactic(auto, using(aml_operators::proofs::Views::view_out, aml_operators::proofs::PartsOf::part_count))]
-fn content_of(term: &Term) -> Content
-    requires { IsShaped code.Module (view term.now) }
-    ensures { result ≡ content_of (view term.now) }
-{
-    match term.op {
-        Op::Buffer => buffer_content(&term.parts),
-        Op::String => string_content(&term.parts),
-        Op::Package => package_content(&term.parts),
-        Op::VarPackage => sized_package_content(&term.parts),
-        _ => Content::Integer,
-    }
-}
-
 /// A name of data.
 #[tactic(auto, using(aml_operators::proofs::Views::view_out, aml_operators::proofs::PartsOf::part_count))]
 fn data_of(here: Here<'_>, term: &Term) -> Object
@@ -114,7 +55,7 @@ fn data_of(here: Here<'_>, term: &Term) -> Object
     ensures { result ≡ data_of (here_of here.entry) (view term.now) }
 {
     Object::Data(DataName {
-        content: content_of(term),
+        content: content_in(term.op, &term.parts),
         source: Source::Term {
             table: here.table,
             span: Span {

@@ -9,7 +9,7 @@ use aml_lex::{NameSeg, name_there};
 use aml_operators::Term;
 use aml_paths::NoMemory;
 use aml_tree::made_place;
-use std::alloc::{AllocError, Global};
+use std::alloc::Global;
 use std::collections::BTreeMap;
 
 /// A name that a Name or a CreateField form at the top of a method's body makes, for one call.
@@ -38,15 +38,6 @@ impl OwnNames {
     /// The own names that the statements of a body make; `bytes` are the table's, up to the body's
     /// end.
     pub fn of(alloc: Global, bytes: &[u8], body: &[Term]) -> Result<OwnNames, NoMemory>
-        ensures { IfOk result (λ owns. owns_seen owns ≡ own_names bytes.now (map view body.now)) }
-    {
-        match OwnNames::made(alloc, bytes, body) {
-            Ok(owns) => Ok(owns),
-            Err(_) => Err(NoMemory),
-        }
-    }
-
-    fn made(alloc: Global, bytes: &[u8], body: &[Term]) -> Result<OwnNames, AllocError>
         ensures { IfOk result (λ owns. owns_seen owns ≡ own_names bytes.now (map view body.now)) }
     {
         let names = own_names(alloc, bytes, body)?;
@@ -98,7 +89,7 @@ fn own_made(bytes: &[u8], term: &Term) -> Option<OwnName>
 }
 
 /// The own names that the statements at the top of a body make, in order of definition.
-fn own_names(alloc: Global, bytes: &[u8], body: &[Term]) -> Result<Vec<OwnName>, AllocError>
+fn own_names(alloc: Global, bytes: &[u8], body: &[Term]) -> Result<Vec<OwnName>, NoMemory>
     ensures { IfOk result (λ owns. owns.items ≡ own_names bytes.now (map view body.now)) }
 {
     let mut owns = Vec::new(alloc);
@@ -115,7 +106,7 @@ fn keep_first(
     firsts: &mut BTreeMap<NameSeg, usize>,
     number: usize,
     own: OwnName,
-) -> Result<(), AllocError>
+) -> Result<(), NoMemory>
     ensures { OnOk result ((owns : List OwnName) → number ≡ length owns →
         HasFirsts firsts.old owns → HasFirsts firsts.new (owns ++ own ∷ [])) }
 {
@@ -127,7 +118,7 @@ fn keep_first(
 }
 
 /// The number of the first own name of each segment.
-fn firsts_of(alloc: Global, owns: &[OwnName]) -> Result<BTreeMap<NameSeg, usize>, AllocError>
+fn firsts_of(alloc: Global, owns: &[OwnName]) -> Result<BTreeMap<NameSeg, usize>, NoMemory>
     ensures { IfOk result (λ firsts. HasFirsts firsts owns.now) }
 {
     let mut firsts = BTreeMap::new(alloc);

@@ -21,14 +21,11 @@ pub fn push_path(
     ensures { OnOk result (line.new.items
         ≡ line.old.items ++ path_text (path_of (shown namespace.now).entries id.0)) }
 {
-    let pushed = match namespace.path(alloc, id)? {
-        Some(path) => push_segments(line, path.as_slice()),
-        None => push_segments(line, &[]),
-    };
-    match pushed {
-        Ok(()) => Ok(()),
-        Err(_) => Err(NoMemory),
+    match namespace.path(alloc, id)? {
+        Some(path) => push_segments(line, path.as_slice())?,
+        None => push_segments(line, &[])?,
     }
+    Ok(())
 }
 
 // Adds the path of these segments.

@@ -1,5 +1,11 @@
 //! Accesses of operation regions, who answers them, and the events that others see (ACPI 6.5,
 //! 5.5.2.4).
+//!
+//! Rooms: `world` is who answers accesses, with the `log` of events that it keeps: `registers` is
+//! one of bytes, `all_ones` one whose bits are one, `refusing` one that refuses. `access` has one
+//! access, `event` what others see of a call, `field` where the bits of a field stand; `text` reads
+//! a register file, `fault` says why none can be read, `bytes` has what it sets; `law` is the law
+//! of units.
 #![tactic(auto)]
 
 mod access;

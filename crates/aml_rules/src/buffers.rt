@@ -10,12 +10,9 @@ ghost use Rattle.aml_rules.specs.Tells.{GrowsBy, Obeys, place_of, told};
 use crate::place::{Place, RuleFault, error_at};
 use aml_meaning::{AmlCause, AmlError};
 use aml_namespace::Width;
-use aml_values::{Bytes, Value};
+use aml_values::{Bytes, MOST_BYTES, Value};
 use std::alloc::Global;
 use std::mem;
-
-/// As many bytes as a buffer or a string may have.
-const MOST_BYTES: usize = 65_536;
 
 /// Two buffers or two strings, the second behind the first (ACPI 6.5, 19.6, Concatenate). A2 at the
 /// first operand that is neither, else at a second of another kind; A6 at the operator where there

@@ -1,29 +1,18 @@
 -- The kinds that data names have by what they hold first.
-use Rattle.std.proofs.Common.{◌≡◌, ◌<◌, ◌+◌, ◌++◌, ℕ, List, [], ◌∷◌, Option, Some, map, take, length, refl, sym, ap, ◌∙◌}
+use Rattle.std.proofs.Common.{◌≡◌, ◌<◌, ◌+◌, ◌++◌, ℕ, List, [], ◌∷◌, Option, map, take, length, refl, sym, ap, ◌∙◌}
 use Rattle.std.specs.Option.{option_map}
 use Rattle.std.proofs.lemmas.List.{map_push}
-use Rattle.aml_objects.specs.declared.object.DataName.{DataName}
-use Rattle.aml_objects.specs.declared.object.Object.TheVariants as object
 use Rattle.aml_objects.specs.Entries.{object_at}
 use Rattle.aml_namespace.specs.Load.{Shown}
 use Rattle.aml_kinds.specs.Kinds.{Shape}
-use Rattle.aml_contents.specs.DataKinds.{name_kind_told, object_kind}
-use Rattle.aml_contents.specs.FirstContents.{first_content, value_from}
-use Rattle.aml_contents.specs.FirstKinds.{greatest_of, name_kind}
+use Rattle.aml_contents.specs.DataKinds.{object_kind}
+use Rattle.aml_contents.specs.FirstContents.{first_content}
 use Rattle.aml_contents.proofs.DataKinds.{object_told}
 use Rattle.aml_contents.proofs.FirstNames.{kinds_in, kinds_next}
 use Rattle.aml_known.specs.declared.known.Known.{Known}
 use Rattle.aml_known.specs.Views.{kind_of}
-use Rattle.aml_shapes.specs.NameKinds.{IsName}
-use Rattle.aml_shapes.specs.Numbers.{AreKnown, IsKnown, Keeps, numbered}
+use Rattle.aml_shapes.specs.Numbers.{AreKnown, Keeps, numbered}
 use Rattle.aml_shapes.proofs.Grown.{all_stay}
-
-name_told : (ns : Shown) (d : DataName) → name_kind (greatest_of ns.width) (value_from ns d.content d.source) ≡ name_kind_told ns d.content d.source
-name_told ns d =
-    let told : Some (name_kind (greatest_of ns.width) (value_from ns d.content d.source)) ≡ Some (name_kind_told ns d.content d.source) = object_told ns (Some (object.Data d)) in cc
-
-pub name_is : (ns : Shown) (shapes : List Shape) (d : DataName) (k : Known) → IsKnown (length shapes) k → kind_of (numbered shapes) k ≡ name_kind_told ns d.content d.source → IsName ns shapes d k
-name_is ns shapes d k known is = record { known = known; kind = is ∙ sym (name_told ns d) }
 
 -- one object more, while the shapes grow
 pub objects_more : (ns : Shown) (old new : List Shape) (i : ℕ) (ks : List (Option Known)) (k : Option Known) → i < length ns.entries → Keeps old new → AreKnown (length old) ks → map (option_map (kind_of (numbered old))) ks ≡ kinds_in ns (take i ns.entries) → option_map (kind_of (numbered new)) k ≡ object_kind ns (object_at ns.entries i) → map (option_map (kind_of (numbered new))) (ks ++ k ∷ []) ≡ kinds_in ns (take (i + 1) ns.entries)

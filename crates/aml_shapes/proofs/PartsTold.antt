@@ -1,6 +1,6 @@
 -- What the terms of packages tell of their shapes.
 use Rattle.std.proofs.Common.{◌≡◌, ◌<◌, ◌≤◌, ◌+◌, ◌++◌, ◌∙◌, ℕ, zero, suc, List, [], ◌∷◌, map, take, drop, length, get_or, refl, sym, ap, arith}
-use Rattle.std.specs.declared.alloc.AllocError.{AllocError}
+use Rattle.aml_paths.specs.declared.memory.NoMemory.{NoMemory}
 use Rattle.std.specs.Prelude.{IfOk, Result, Ok, Err}
 use Rattle.std.proofs.lemmas.List.{length-map, length-take, map_push, take_more}
 use Rattle.aml_operators.specs.declared.op.Op.{Op}
@@ -56,7 +56,7 @@ module _ (width : Width) where
       omega (arith, length-take count (drop 1 parts))
 
   -- what is answered of the number of a package's shape
-  pub number_told : (r : Result ℕ AllocError) (count : ℕ) (parts kept : List Term) (ps : List Part) (mid new : List Shape) → kept ≡ take count (drop 1 parts) → map (part_kind (numbered mid)) ps ≡ map place_at kept → AreBelow (length mid) ps → Keeps mid new → IfOk r (λ n. (n < length new) × (numbered new n ≡ shape_with (numbered new) count ps)) → IfOk r (λ n. (n < length new) × (numbered new n ≡ counted_places count (shape_behind width (views parts))))
+  pub number_told : (r : Result ℕ NoMemory) (count : ℕ) (parts kept : List Term) (ps : List Part) (mid new : List Shape) → kept ≡ take count (drop 1 parts) → map (part_kind (numbered mid)) ps ≡ map place_at kept → AreBelow (length mid) ps → Keeps mid new → IfOk r (λ n. (n < length new) × (numbered new n ≡ shape_with (numbered new) count ps)) → IfOk r (λ n. (n < length new) × (numbered new n ≡ counted_places count (shape_behind width (views parts))))
   number_told (Err e) count parts kept ps mid new is each below keeps told = tt
   number_told (Ok n) count parts kept ps mid new is each below keeps told =
       let now = parts_stay (numbered new) (numbered mid) (length mid) keeps.stays ps below ∙ each in

@@ -1,6 +1,6 @@
 -- Shapes as a table keeps them.
 use Rattle.std.proofs.Common.{◌≡◌, ◌<◌, ◌+◌, ℕ, zero, suc, List, [], ◌∷◌, ◌++◌, length, Some, None, Option, IfSome, get_or, slice_get, Bool, true, false, cond, refl, sym, ap, subst, ◌∙◌, inl, inr, arith}
-use Rattle.std.specs.declared.alloc.AllocError.{AllocError}
+use Rattle.aml_paths.specs.declared.memory.NoMemory.{NoMemory}
 use Rattle.std.specs.Prelude.{IfOk, OnErr, OnOk, Result, Ok, Err}
 use Rattle.std.specs.declared.cmp.Ordering.{Ordering}
 use Rattle.std.specs.declared.cmp.Ordering.TheVariants.{Less, Equal, Greater}
@@ -212,11 +212,11 @@ keeps_same : (old new : List Kept) → new ≡ old → Keeps (shapes_kept old) (
 keeps_same old new same = subst (λ ks. Keeps (shapes_kept old) (shapes_kept ks)) (sym same) (keeps_all (shapes_kept old))
 
 -- what putting a shape answers
-pub number_answered : (r : Result ℕ AllocError) (old new : List Kept) (numbers : BTreeMap ShapeKey ℕ) (key : ShapeKey) → IsTable new numbers → IfOk r (λ n. n ≡ length old) → OnOk r (IsPut old new key) → IfOk r (λ n. (n < length (shapes_kept new)) × (numbered (shapes_kept new) n ≡ key_shape (numbered (shapes_kept new)) key))
+pub number_answered : (r : Result ℕ NoMemory) (old new : List Kept) (numbers : BTreeMap ShapeKey ℕ) (key : ShapeKey) → IsTable new numbers → IfOk r (λ n. n ≡ length old) → OnOk r (IsPut old new key) → IfOk r (λ n. (n < length (shapes_kept new)) × (numbered (shapes_kept new) n ≡ key_shape (numbered (shapes_kept new)) key))
 number_answered (Ok n) old new numbers key table last put = number_put old new numbers key n table last put
 number_answered (Err e) old new numbers key table last put = tt
 
-pub keeps_answered : (r : Result ℕ AllocError) (old new : List Kept) (key : ShapeKey) → OnOk r (IsPut old new key) → OnErr r (new ≡ old) → Keeps (shapes_kept old) (shapes_kept new)
+pub keeps_answered : (r : Result ℕ NoMemory) (old new : List Kept) (key : ShapeKey) → OnOk r (IsPut old new key) → OnErr r (new ≡ old) → Keeps (shapes_kept old) (shapes_kept new)
 keeps_answered (Ok n) old new key put same = keeps_put old new key put
 keeps_answered (Err e) old new key put same = keeps_same old new same
 

@@ -1,7 +1,6 @@
 pub mod Keys
 pub mod Laws
 pub mod Literals
-pub mod NameKinds
 pub mod Numbers
 pub mod PartsKnown
 pub mod Tables

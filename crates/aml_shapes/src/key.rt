@@ -8,7 +8,8 @@ ghost use Rattle.aml_judged.specs.KindRules.{place_numbered};
 ghost use Rattle.aml_shapes.specs.Keys.{HasRoom, IsSameKey, key_shape, part_kind};
 
 use aml_known::{ElementKnown, Known, ShapeNumber};
-use std::alloc::{AllocError, Global};
+use aml_paths::NoMemory;
+use std::alloc::Global;
 
 /// What an element of data is.
 #[derive(Clone, Copy, Debug, PartialEq, Eq, PartialOrd, Ord)]
@@ -65,7 +66,7 @@ impl ShapeKey {
     }
 
     /// The same key.
-    pub(crate) fn copied(&self, alloc: Global) -> Result<ShapeKey, AllocError>
+    pub(crate) fn copied(&self, alloc: Global) -> Result<ShapeKey, NoMemory>
         ensures { IfOk result (λ made. IsSameKey made self.now) }
     {
         Ok(ShapeKey {

@@ -27,10 +27,7 @@ impl ShapeTable {
         ensures known { IfOk result (IsLiteral self.new width op (views parts.now)) }
         ensures keeps { Keeps self.old self.new }
     {
-        match kind(alloc, self, width, op, parts) {
-            Ok(known) => Ok(known),
-            Err(_) => Err(NoMemory),
-        }
+        kind(alloc, self, width, op, parts)
     }
 
     /// The kind of what a literal of data in a body holds whose shapes the table has; of any other,
@@ -44,9 +41,6 @@ impl ShapeTable {
     ) -> Result<Known, NoMemory>
         ensures { IfOk result (IsLiteral self.now width op (views parts.now)) }
     {
-        match kind(alloc, &mut Fixed(self), width, op, parts) {
-            Ok(known) => Ok(known),
-            Err(_) => Err(NoMemory),
-        }
+        kind(alloc, &mut Fixed(self), width, op, parts)
     }
 }

@@ -2,52 +2,22 @@
 
 ghost use Rattle.std.specs.Prelude.{◌≡◌, IfOk, length, map};
 ghost use Rattle.std.specs.Option.{option_map};
-ghost use Rattle.aml_operators.specs.Tree.{Node, none, view, views};
-ghost use Rattle.aml_operators.specs.declared.op.Op.TheVariants.{Zero};
+ghost use Rattle.aml_operators.specs.Tree.{view, views};
 ghost use Rattle.aml_objects.specs.Entries.{object_at};
 ghost use Rattle.aml_namespace.specs.Shows.{shown};
 ghost use Rattle.aml_contents.specs.DataKinds.{counted_places, data_shape, name_kind_told, object_kind, shape_behind, source_shape};
-ghost use Rattle.aml_contents.specs.FirstContents as first;
 ghost use Rattle.aml_contents.specs.FirstContents.{first_kinds};
 ghost use Rattle.aml_known.specs.Views.{kind_of};
 ghost use Rattle.aml_shapes.specs.Numbers.{AreKnown, IsNumber, Keeps, Tells, TellsHeld, numbered};
-ghost use Rattle.aml_shapes.specs.NameKinds.{IsName};
 
 use crate::table::ShapeTable;
 use crate::walk::package;
+use aml_contents::data_in;
 use aml_known::{Known, ShapeNumber};
 use aml_namespace::{Content, DataName, Namespace, Object, Source, Width};
 use aml_operators::{Op, Term};
 use aml_paths::{NoMemory, ObjectId};
-use aml_tree::{Span, TreeFault, read_data};
-use std::alloc::{AllocError, Global};
-
-/// The term Zero, which stands where no data can be read.
-fn zero(alloc: Global) -> Term
-    ensures { view result ≡ Node Zero 0 0 none }
-{
-    Term {
-        op: Op::Zero,
-        at: 0,
-        end: 0,
-        parts: Vec::new(alloc),
-    }
-}
-
-/// The data that stands in a part of some bytes, else Zero.
-#[tactic(auto, using(aml_contents::proofs::FirstData::data_there, aml_contents::proofs::FirstData::no_data))]
-fn data_in(alloc: Global, bytes: &[u8], span: Span) -> Result<Term, AllocError>
-    ensures { IfOk result (λ t. view t ≡ first.data_in bytes.now span) }
-{
-    if !span.is_within(bytes) {
-        return Ok(zero(alloc));
-    }
-    match read_data(alloc, bytes, span) {
-        Ok(term) => Ok(term),
-        Err(TreeFault::NoMemory) => Err(AllocError),
-        Err(TreeFault::Refused(_)) => Ok(zero(alloc)),
-    }
-}
+use std::alloc::Global;
 
 /// The parts of a package; no other data has elements.
 #[tactic(auto, using(aml_operators::proofs::Views::view_out))]
@@ -68,7 +38,7 @@ fn source_package(
     namespace: &Namespace<'_>,
     count: u64,
     source: Source,
-) -> Result<usize, AllocError>
+) -> Result<usize, NoMemory>
     ensures number { IfOk result (λ n. IsNumber table.new n
         (counted_places count (source_shape (shown namespace.now) source))) }
     ensures keeps { Keeps table.old table.new }
@@ -93,7 +63,7 @@ fn name_kind(
     table: &mut ShapeTable,
     namespace: &Namespace<'_>,
     name: DataName,
-) -> Result<Known, AllocError>
+) -> Result<Known, NoMemory>
     ensures known { IfOk result (λ k. Tells table.new k
         (name_kind_told (shown namespace.now) name.content name.source)) }
     ensures keeps { Keeps table.old table.new }
@@ -115,7 +85,7 @@ fn object_kind(
     table: &mut ShapeTable,
     namespace: &Namespace<'_>,
     id: ObjectId,
-) -> Result<Option<Known>, AllocError>
+) -> Result<Option<Known>, NoMemory>
     ensures known { let ns = shown namespace.now in IfOk result (λ k.
         TellsHeld table.new k (object_kind ns (object_at ns.entries id.0))) }
     ensures keeps { Keeps table.old table.new }
@@ -127,25 +97,6 @@ fn object_kind(
         }
         _ => Ok(None),
     }
-}
-
-/// The kinds of the objects, by their numbers.
-fn object_kinds(
-    alloc: Global,
-    table: &mut ShapeTable,
-    namespace: &Namespace<'_>,
-) -> Result<Vec<Option<Known>>, AllocError>
-    ensures kinds { IfOk result (λ ks. map (option_map (kind_of (numbered table.new))) ks.items
-        ≡ first_kinds (shown namespace.now)) }
-    ensures known { IfOk result (λ ks. AreKnown (length table.new) ks.items) }
-    ensures keeps { Keeps table.old table.new }
-{
-    let mut kinds = Vec::with_capacity(alloc, namespace.len())?;
-    for i in 0..namespace.len() {
-        let kind = object_kind(alloc, table, namespace, ObjectId(i))?;
-        kinds.push(kind)?;
-    }
-    Ok(kinds)
 }
 
 /// The kinds of what the data names of a namespace hold first, by the numbers of their objects:
@@ -161,27 +112,10 @@ pub fn shared_kinds(
     ensures known { IfOk result (λ ks. AreKnown (length table.new) ks.items) }
     ensures keeps { Keeps table.old table.new }
 {
-    match object_kinds(alloc, table, namespace) {
-        Ok(kinds) => Ok(kinds),
-        Err(_) => Err(NoMemory),
+    let mut kinds = Vec::with_capacity(alloc, namespace.len())?;
+    for i in 0..namespace.len() {
+        let kind = object_kind(alloc, table, namespace, ObjectId(i))?;
+        kinds.push(kind)?;
     }
-}
-
-impl ShapeTable {
-    /// The kind of what a data name of a namespace holds first. The shapes of its packages are
-    /// added where the table does not have them.
-    pub fn intern_name(
-        &mut self,
-        alloc: Global,
-        namespace: &Namespace<'_>,
-        name: DataName,
-    ) -> Result<Known, NoMemory>
-        ensures known { IfOk result (IsName (shown namespace.now) self.new name) }
-        ensures keeps { Keeps self.old self.new }
-    {
-        match name_kind(alloc, self, namespace, name) {
-            Ok(known) => Ok(known),
-            Err(_) => Err(NoMemory),
-        }
-    }
+    Ok(kinds)
 }

@@ -7,7 +7,8 @@ ghost use Rattle.aml_shapes.specs.Numbers.{IsNumber, Keeps, numbered};
 
 use crate::key::ShapeKey;
 use crate::table::ShapeTable;
-use std::alloc::{AllocError, Global};
+use aml_paths::NoMemory;
+use std::alloc::Global;
 
 /// What gives shapes their numbers.
 pub(crate) trait Numbering {
@@ -19,7 +20,7 @@ pub(crate) trait Numbering {
 
     /// The number of a shape, whose inner shapes have numbers. Where it has none, memory is said to
     /// be wanted.
-    fn number_of(&mut self, alloc: Global, key: ShapeKey) -> Result<usize, AllocError>
+    fn number_of(&mut self, alloc: Global, key: ShapeKey) -> Result<usize, NoMemory>
         requires room { HasRoom key }
         requires below { AreBelow (length (shapes self.old)) key.parts.items }
         ensures number { IfOk result (λ n.
@@ -33,7 +34,7 @@ impl Numbering for ShapeTable {
 
     ghost stays = { ⊥ };
 
-    fn number_of(&mut self, alloc: Global, key: ShapeKey) -> Result<usize, AllocError> {
+    fn number_of(&mut self, alloc: Global, key: ShapeKey) -> Result<usize, NoMemory> {
         self.add(alloc, key)
     }
 }
@@ -47,10 +48,7 @@ impl Numbering for Fixed<'_> {
 
     ghost stays = { Unit {0} };
 
-    fn number_of(&mut self, _alloc: Global, key: ShapeKey) -> Result<usize, AllocError> {
-        match self.0.number(&key) {
-            Some(number) => Ok(number),
-            None => Err(AllocError),
-        }
+    fn number_of(&mut self, _alloc: Global, key: ShapeKey) -> Result<usize, NoMemory> {
+        self.0.number(&key).ok_or(NoMemory)
     }
 }

@@ -15,7 +15,7 @@ use crate::kept::Kept;
 use crate::key::ShapeKey;
 use aml_known::{ElementKnown, ShapeNumber, Shapes};
 use aml_paths::NoMemory;
-use std::alloc::{AllocError, Global};
+use std::alloc::Global;
 use std::collections::BTreeMap;
 use std::marker::Model;
 
@@ -72,7 +72,7 @@ impl ShapeTable {
     }
 
     /// The number of a shape, which is added where the table does not have it.
-    pub(crate) fn add(&mut self, alloc: Global, key: ShapeKey) -> Result<usize, AllocError>
+    pub(crate) fn add(&mut self, alloc: Global, key: ShapeKey) -> Result<usize, NoMemory>
         requires room { HasRoom key }
         requires below { AreBelow (length self.old) key.parts.items }
         ensures number { IfOk result
@@ -131,10 +131,7 @@ impl Shapes for ShapeTable {
 fn looked_up(numbers: &BTreeMap<ShapeKey, usize>, key: &ShapeKey) -> Option<usize>
     ensures { result ≡ get key_order numbers.now key.now }
 {
-    match numbers.get(key) {
-        Some(number) => Some(*number),
-        None => None,
-    }
+    numbers.get(key).copied()
 }
 
 /// Puts a shape behind the others, which is not among them.
@@ -143,7 +140,7 @@ fn put(
     shapes: &mut Vec<Kept>,
     numbers: &mut BTreeMap<ShapeKey, usize>,
     key: ShapeKey,
-) -> Result<usize, AllocError>
+) -> Result<usize, NoMemory>
     requires table { IsTable shapes.old.items numbers.old }
     requires room { HasRoom key }
     requires below { AreBelow (length shapes.old.items) key.parts.items }

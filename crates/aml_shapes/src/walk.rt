@@ -12,11 +12,11 @@ ghost use Rattle.aml_shapes.specs.Literals.{literal_kind};
 
 use crate::key::{Part, ShapeKey};
 use crate::numbering::Numbering;
-use aml_contents::content_in;
 use aml_known::{Known, ShapeNumber};
-use aml_namespace::{Content, Width};
+use aml_namespace::{Content, Width, content_in};
 use aml_operators::{Op, Term, behind_first, literal_in};
-use std::alloc::{AllocError, Global};
+use aml_paths::NoMemory;
+use std::alloc::Global;
 
 /// The number of an integer literal, and 0 of any other term.
 pub(crate) fn number_of(op: Op, parts: &[Term]) -> u64
@@ -41,7 +41,7 @@ pub(crate) fn package<N: Numbering>(
     width: Width,
     count: u64,
     parts: &[Term],
-) -> Result<usize, AllocError>
+) -> Result<usize, NoMemory>
     ensures number { IfOk result (λ n. IsNumber (N.shapes numbers.new) n
         (counted_places count (shape_behind width (views parts.now)))) }
     ensures keeps { Keeps (N.shapes numbers.old) (N.shapes numbers.new) }
@@ -67,7 +67,7 @@ fn parts_in<N: Numbering>(
     numbers: &mut N,
     width: Width,
     terms: &[Term],
-) -> Result<Vec<Part>, AllocError>
+) -> Result<Vec<Part>, NoMemory>
     ensures parts { IfOk result (λ ps.
         TellParts (N.shapes numbers.new) ps.items
         (map (λ t. tree_place width (view t)) terms.now)) }
@@ -90,7 +90,7 @@ fn part_of<N: Numbering>(
     numbers: &mut N,
     width: Width,
     term: &Term,
-) -> Result<Part, AllocError>
+) -> Result<Part, NoMemory>
     ensures part { IfOk result (λ p.
         TellsPart (N.shapes numbers.new) p (tree_place width (view term.now))) }
     ensures keeps { Keeps (N.shapes numbers.old) (N.shapes numbers.new) }
@@ -110,7 +110,7 @@ fn value_part<N: Numbering>(
     width: Width,
     op: Op,
     parts: &[Term],
-) -> Result<Part, AllocError>
+) -> Result<Part, NoMemory>
     ensures part { IfOk result (λ p.
         TellsPart (N.shapes numbers.new) p (ValueOf (literal_kind width op (views parts.now)))) }
     ensures keeps { Keeps (N.shapes numbers.old) (N.shapes numbers.new) }
@@ -134,7 +134,7 @@ pub(crate) fn kind<N: Numbering>(
     width: Width,
     op: Op,
     parts: &[Term],
-) -> Result<Known, AllocError>
+) -> Result<Known, NoMemory>
     ensures known { IfOk result (λ k.
         Tells (N.shapes numbers.new) k (literal_kind width op (views parts.now))) }
     ensures keeps { Keeps (N.shapes numbers.old) (N.shapes numbers.new) }

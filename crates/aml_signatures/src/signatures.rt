@@ -2,7 +2,7 @@
 
 ghost use Rattle.std.specs.Prelude.{◌≡◌, ℕ, List, None, OnOk, IfOk, IfErr, map, vec_items, vec_len};
 ghost use Rattle.aml_signatures.specs.ArgumentKinds.{argument_kinds, cut_to, filled, kinds_named};
-ghost use Rattle.aml_signatures.specs.Signed.{kinds_told};
+ghost use Rattle.aml_signatures.specs.Signed.{kinds_told, paths_told};
 ghost use Rattle.aml_signatures.specs.Text.{FailsToSign, LineFails, LineSigns, TextSigns};
 
 use crate::argument_kind::ArgumentKind;
@@ -12,6 +12,7 @@ use aml_namespace::Width;
 use aml_paths::NoMemory;
 use std::alloc::{AllocError, Global};
 use std::collections::BTreeMap;
+use std::collections::btree_map::Keys;
 
 /// The kinds of the arguments of a `_DSM` (ACPI 6.5, 9.1.1): an identifier of 16 bytes, the
 /// revision and the number of a function, and the function's own arguments.
@@ -57,6 +58,14 @@ impl Signatures {
         Ok(signatures)
     }
 
+    /// The paths of which lines tell kinds, in the order of their bytes.
+    #[must_use]
+    pub fn paths(&self) -> Keys<'_, Vec<u8>, Vec<ArgumentKind>>
+        ensures { map vec_items result ≡ paths_told self.now }
+    {
+        self.kinds.keys()
+    }
+
     // Keeps what a line tells, if it counts.
     fn read_line(&mut self, alloc: Global, line: &[u8], number: usize) -> Result<(), SignatureFault>
         ensures told { OnOk result
@@ -90,10 +99,7 @@ impl Signatures {
             vec_items kinds ≡ argument_kinds (kinds_told self.now) path.now count width) }
         ensures count { IfOk result (λ kinds. vec_len kinds ≡ count) }
     {
-        match completed(alloc, self.named(path, count), count, width) {
-            Ok(kinds) => Ok(kinds),
-            Err(_) => Err(NoMemory),
-        }
+        Ok(completed(alloc, self.named(path, count), count, width)?)
     }
 
     // The kinds that are told of a method, or those of a `_DSM`.

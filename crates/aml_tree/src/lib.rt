@@ -3,6 +3,12 @@
 //! A definition block's module is read first, its methods' bodies skipped; a body is read once it
 //! is known how many arguments each name takes. Each reader answers the tree that the grammar ties
 //! to the bytes, or the first fault in the order of the bytes, or want of memory.
+//!
+//! Rooms: `walk` reads terms by the table, `opening` how one begins, `leaf` parts without parts,
+//! `limit` the limits of literal sizes; `module` reads a module, `body` a method's body, `data` the
+//! data of a Name and `head` how it begins, without memory. `arity` is how many arguments a name
+//! takes, `operator` the operator at a place, `fault` why terms cannot be read, `laws` the laws of
+//! the grammar.
 #![tactic(auto)]
 
 mod arity;

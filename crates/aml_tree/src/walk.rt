@@ -15,9 +15,15 @@ use crate::limit::is_too_large;
 use crate::opening::{Opening, is_none, open_term, refuse};
 use aml_lex::{LexCause, has_byte};
 use aml_operators::{
-    Code, Letter, Op, Piece, Spot, Term, count_of, item_of_byte, item_pieces, literal_of, row_of,
+    Code, Letter, Op, Piece, Spot, Term, item_of_byte, item_pieces, literal_of, row_of,
 };
 use std::alloc::Global;
+
+/// The opcode of a Buffer.
+const BUFFER: u8 = 0x11;
+
+/// The opcode of an Else.
+const ELSE: u8 = 0xA1;
 
 /// What stays the same while one term is read.
 #[derive(Clone, Copy, Debug)]
@@ -130,7 +136,7 @@ impl<'a, A: Arity> Reader<'a, A> {
                 if letters.is_empty() {
                     return Ok(leaf(self.alloc, op, at, next));
                 }
-                let mut parts = Vec::with_capacity(self.alloc, count_of(letters))?;
+                let mut parts = Vec::with_capacity(self.alloc, letters.len())?;
                 let end = self.parts(&mut parts, letters, at, bytes, next, depth)?;
                 parts.shrink_to_fit();
                 Ok(Term { op, at, end, parts })
@@ -175,7 +181,7 @@ impl<'a, A: Arity> Reader<'a, A> {
                 Ok(leaf(self.alloc, Op::AsciiCharList, at, next))
             }
             Piece::Connection => {
-                if has_byte(0x11, bytes, at) {
+                if has_byte(BUFFER, bytes, at) {
                     return self.term(own, Spot::Connection, bytes, at, depth);
                 }
                 let (_, next) = name(bytes, at)?;
@@ -260,7 +266,7 @@ impl<'a, A: Arity> Reader<'a, A> {
         ensures ahead { IfOk result (λ next. at ≤ next) }
         ensures within { IfOk result (λ next. next ≤ length bytes.now) }
     {
-        if !has_byte(0xA1, bytes, at) {
+        if !has_byte(ELSE, bytes, at) {
             return Ok(at);
         }
         let (stop, next) = end(bytes, at + 1)?;

@@ -5,6 +5,9 @@ ghost use Rattle.std.specs.Prelude.{◌≡◌, IfOk, length, nat_lt, slice_set};
 use std::alloc::AllocError;
 use std::marker::Model;
 
+/// As many bytes as a buffer or a string may have.
+pub const MOST_BYTES: usize = 65_536;
+
 /// Bytes, which contracts see as a list.
 #[derive(Drop)]
 pub struct Bytes {

@@ -5,21 +5,11 @@ ghost use Rattle.aml_values.specs.Views.{view, element};
 
 use crate::value::{Element, Value};
 use aml_paths::NoMemory;
-use std::alloc::{AllocError, Global};
-
-/// A copy of a value.
-pub fn copy(alloc: Global, value: &Value) -> Result<Value, NoMemory>
-    ensures { IfOk result (λ v. view v ≡ view value.now) }
-{
-    match copied(alloc, value) {
-        Ok(made) => Ok(made),
-        Err(_) => Err(NoMemory),
-    }
-}
+use std::alloc::Global;
 
 /// A copy of a value.
 #[cycle(copy)]
-pub(crate) fn copied(alloc: Global, value: &Value) -> Result<Value, AllocError>
+pub fn copy(alloc: Global, value: &Value) -> Result<Value, NoMemory>
     ensures { IfOk result (λ v. view v ≡ view value.now) }
 {
     match value {
@@ -32,10 +22,7 @@ pub(crate) fn copied(alloc: Global, value: &Value) -> Result<Value, AllocError>
 
 /// A copy of the elements of a package.
 #[cycle(copy)]
-pub(crate) fn copied_elements(
-    alloc: Global,
-    elements: &[Element],
-) -> Result<Vec<Element>, AllocError>
+pub(crate) fn copied_elements(alloc: Global, elements: &[Element]) -> Result<Vec<Element>, NoMemory>
     ensures { IfOk result (λ es. map element es.items ≡ map element elements.now) }
 {
     let mut made = Vec::new(alloc);
@@ -48,11 +35,11 @@ pub(crate) fn copied_elements(
 
 /// A copy of an element.
 #[cycle(copy)]
-fn copied_element(alloc: Global, each: &Element) -> Result<Element, AllocError>
+fn copied_element(alloc: Global, each: &Element) -> Result<Element, NoMemory>
     ensures { IfOk result (λ e. element e ≡ element each.now) }
 {
     match each {
-        Element::Value(value) => Ok(Element::Value(copied(alloc, value)?)),
+        Element::Value(value) => Ok(Element::Value(copy(alloc, value)?)),
         Element::Name(object) => Ok(Element::Name(*object)),
         Element::Unset => Ok(Element::Unset),
     }

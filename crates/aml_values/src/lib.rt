@@ -8,8 +8,8 @@ mod package;
 mod same_values;
 mod value;
 
-pub use bytes::Bytes;
+pub use bytes::{Bytes, MOST_BYTES};
 pub use copies::copy;
-pub use package::{MOST_NESTED, Package};
+pub use package::{MOST_ELEMENTS, MOST_NESTED, Package};
 pub use same_values::is_same_value;
 pub use value::{Element, Value};

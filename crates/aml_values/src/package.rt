@@ -7,11 +7,15 @@ ghost use Rattle.aml_values.specs.Views.{element, elements_of};
 
 use crate::copies::copied_elements;
 use crate::value::{Element, Value};
-use std::alloc::{AllocError, Global};
+use aml_paths::NoMemory;
+use std::alloc::Global;
 use std::marker::Model;
 
 /// How many packages may stand in one another: as many as a term may have levels.
 pub const MOST_NESTED: u8 = 64;
+
+/// As many elements as a package may have.
+pub const MOST_ELEMENTS: usize = 65_535;
 
 /// The elements of a package. No more than 64 packages stand in one another, so that whatever goes
 /// through a value, as its drop does, goes no deeper.
@@ -93,7 +97,7 @@ impl Package {
 
     /// A copy.
     #[cycle(copy)]
-    pub(crate) fn copied(&self, alloc: Global) -> Result<Package, AllocError>
+    pub(crate) fn copied(&self, alloc: Global) -> Result<Package, NoMemory>
         ensures { IfOk result (λ made. made ≡ self.now) }
     {
         let elements = copied_elements(alloc, &self.elements)?;

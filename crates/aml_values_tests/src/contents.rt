@@ -1,7 +1,6 @@
 // What data names hold, each row written by hand from the definitions.
 
 mod first;
-mod often;
 
 use crate::kinds::{Sample, value_of};
 use acpi_samples::{HOST, table_of};

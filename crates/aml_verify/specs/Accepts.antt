@@ -1,5 +1,5 @@
 -- Which arguments an accepted method takes.
-use Rattle.std.specs.Prelude.{◌==◌, ◌&&◌, nat_le, length, List, [], ◌∷◌, Bool, true, false, Option, Some, None}
+use Rattle.std.specs.Prelude.{◌==◌, ◌&&◌, ℕ, suc, nat_le, length, List, [], ◌∷◌, Bool, true, false, Option, Some, None, if◌then◌else◌}
 use Rattle.aml_judged.specs.Judged.{Accepted}
 use Rattle.aml_kinds.specs.Fits.{fits, most_elements}
 use Rattle.aml_kinds.specs.Kinds.{Kind}
@@ -36,7 +36,18 @@ are_of [] [] = true
 are_of (k ∷ ks) (v ∷ vs) = is_of k v && are_of ks vs
 are_of ks vs = false
 
+-- the first value that is not of the kind at its place, by its number, with that kind
+abbrev pub misfit_from : ℕ → List Known → List Value → Option (ℕ × Known)
+misfit_from number (k ∷ ks) (v ∷ vs) =
+    if is_of k v then misfit_from (suc number) ks vs else Some (number, k)
+misfit_from number ks vs = None
+
 -- the same of what is said of a method, by the kinds that its verdict has
+abbrev pub misfit : Option Verdict → List Value → Option (ℕ × Known)
+misfit (Some (verdict.Accepted a)) values = misfit_from 0 a.args.items values
+misfit said values = None
+
+-- whether a method takes values, by the kinds that its verdict has
 abbrev pub takes : Option Verdict → List Value → Bool
 takes (Some (verdict.Accepted a)) values = are_of a.args.items values
 takes said values = false

@@ -1,14 +1,11 @@
 // Whether values are of the kinds that a verdict has for arguments.
 
-ghost use Rattle.std.specs.Prelude.{◌≡◌, map};
+ghost use Rattle.std.specs.Prelude.{◌≡◌, ◌+◌, ◌≤◌, length, map};
 ghost use Rattle.aml_values.specs.Views.{view};
-ghost use Rattle.aml_verify.specs.Accepts.{are_of, is_of};
+ghost use Rattle.aml_verify.specs.Accepts.{are_of, is_of, misfit_from};
 
 use aml_known::Known;
-use aml_values::Value;
-
-/// As many elements as a package may have.
-const MOST_ELEMENTS: usize = 65_535;
+use aml_values::{MOST_ELEMENTS, Value};
 
 /// Whether there is a value for each of some kinds, and is of it.
 pub(crate) fn are_of(kinds: &[Known], values: &[Value]) -> bool
@@ -19,6 +16,31 @@ pub(crate) fn are_of(kinds: &[Known], values: &[Value]) -> bool
         [kind, other_kinds @ ..] => match values {
             [] => false,
             [value, others @ ..] => is_of(*kind, value) && are_of(other_kinds, others),
+        },
+    }
+}
+
+/// The number of the first value that is not of the kind at its place, with that kind, where the
+/// first kind has this number.
+pub(crate) fn misfit_from(
+    number: usize,
+    kinds: &[Known],
+    values: &[Value],
+) -> Option<(usize, Known)>
+    requires { number + length kinds.now ≤ usize.MAX }
+    ensures { result ≡ misfit_from number kinds.now (map view values.now) }
+{
+    match kinds {
+        [] => None,
+        [kind, other_kinds @ ..] => match values {
+            [] => None,
+            [value, others @ ..] => {
+                if is_of(*kind, value) {
+                    misfit_from(number + 1, other_kinds, others)
+                } else {
+                    Some((number, *kind))
+                }
+            }
         },
     }
 }

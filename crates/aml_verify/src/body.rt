@@ -17,7 +17,7 @@ use aml_operators::{Op, Term};
 use aml_paths::{NoMemory, ObjectId};
 use aml_regions::AnyField;
 use aml_shapes::ShapeTable;
-use std::alloc::{AllocError, Global};
+use std::alloc::Global;
 use std::cell::Cell;
 
 /// What is known around a method's body, and the own names that it made so far.
@@ -57,16 +57,6 @@ fn at<T: Copy>(places: &[Option<T>], number: usize) -> Option<T>
 impl Body<'_, '_, '_> {
     /// Makes an own name more.
     fn grow(&mut self, kind: Option<Known>, field: Option<BufferField>) -> Result<(), NoMemory>
-        ensures grown { OnOk result (IsGrown self.old self.new kind field) }
-        ensures shapes { self.new.shapes ≡ self.old.shapes }
-    {
-        match self.pushed(kind, field) {
-            Ok(()) => Ok(()),
-            Err(_) => Err(NoMemory),
-        }
-    }
-
-    fn pushed(&mut self, kind: Option<Known>, field: Option<BufferField>) -> Result<(), AllocError>
         ensures grown { OnOk result (IsGrown self.old self.new kind field) }
         ensures shapes { self.new.shapes ≡ self.old.shapes }
     {

@@ -11,15 +11,16 @@ ghost use Rattle.aml_methods.specs.Judgings.{Told};
 ghost use Rattle.aml_namespace.specs.Shows.{shown};
 ghost use Rattle.aml_shapes.specs.Numbers.{numbered};
 ghost use Rattle.aml_values.specs.Views.{view};
-ghost use Rattle.aml_verify.specs.Accepts.{accepts_by, takes};
+ghost use Rattle.aml_verify.specs.Accepts.{accepts_by, misfit, takes};
 ghost use Rattle.aml_verify.specs.Keeping.{Means, body_of};
 ghost use Rattle.aml_verify.specs.Said.{accepted_by, verdict_at};
 ghost use Rattle.aml_verify.specs.Verdicts.{IsChecked};
 
-use crate::accepts::are_of;
+use crate::accepts::{are_of, misfit_from};
 use crate::verdict::{Verdict, accepted_at};
 use aml_bodies::Kept;
 use aml_contents::Names;
+use aml_known::Known;
 use aml_namespace::{Link, Namespace};
 use aml_paths::ObjectId;
 use aml_shapes::ShapeTable;
@@ -144,6 +145,19 @@ impl<'a> Checked<'a> {
             Some(Verdict::Refused(_, _)) => false,
             Some(Verdict::Unreadable { .. }) => false,
             None => false,
+        }
+    }
+
+    /// The number of the first of some values that is not of the kind of the argument at its place,
+    /// with that kind, where the method with a number is accepted.
+    #[must_use]
+    pub fn misfit(&self, method: ObjectId, values: &[Value]) -> Option<(usize, Known)>
+        ensures { result
+            ≡ misfit (verdict_at self.now.verdicts.items method.0) (map view values.now) }
+    {
+        match self.verdict(method) {
+            Some(Verdict::Accepted(accepted)) => misfit_from(0, &accepted.args, values),
+            Some(Verdict::Refused(_, _) | Verdict::Unreadable { .. }) | None => None,
         }
     }
 

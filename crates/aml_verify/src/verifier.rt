@@ -76,10 +76,8 @@ fn no_marks(alloc: Global, count: usize) -> Result<Vec<bool>, NoMemory>
 fn behind(mut order: Vec<ObjectId>, others: &[ObjectId]) -> Result<Vec<ObjectId>, NoMemory>
     ensures { IfOk result (λ all. all.items ≡ order.items ++ others.now) }
 {
-    match order.extend_from_slice(others) {
-        Ok(()) => Ok(order),
-        Err(_) => Err(NoMemory),
-    }
+    order.extend_from_slice(others)?;
+    Ok(order)
 }
 
 /// Keeps what is said of the method with a number, where there is room for it.

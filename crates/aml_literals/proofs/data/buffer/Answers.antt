@@ -17,9 +17,9 @@ returns-clause-value c = λ d.
     let r = c.package-stop.result in
     let n = c.literal_at-size.result.0 in
     let start = c.literal_at-size.result.1 in
-    let items = c.between-initialiser.ensures ∙ ap (λ (bytes : List ℕ). bytes_between bytes start r.0) c.table_bytes.ensures in
+    let items = c.bytes_between-initialiser.ensures ∙ ap (λ (bytes : List ℕ). bytes_between bytes start r.0) c.table_bytes.ensures in
     buffer_value (shown c.args.namespace.now) c.args.site.table c.args.site.method.0 c.args.bytes.now c.args.at r c.package-stop.ensures.is c.package-stop.ensures.within n start c.in_ok-items.items c.literal_at-size.ensures.number c.literal_at-size.ensures.place
-    (c.in_ok-items.ensures ∙ ap (λ (size : ℕ). filled size c.between-initialiser.result.now) c.max.ensures ∙ ap (filled (max n (r.0 - start))) items) d
+    (c.in_ok-items.ensures ∙ ap (λ (size : ℕ). filled size c.bytes_between-initialiser.result.now) c.max.ensures ∙ ap (filled (max n (r.0 - start))) items) d
 
 pub returns-clause-place : goal.returns-clause-place
 returns-clause-place c = λ d.

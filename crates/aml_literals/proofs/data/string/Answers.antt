@@ -14,7 +14,7 @@ text_end-stop-requires c =
 pub returns-clause-value : goal.returns-clause-value
 returns-clause-value c = λ d.
     let stop = c.text_end-stop.result in
-    let text = c.between-text.ensures ∙ ap (λ (bytes : List ℕ). bytes_between bytes c.args.at (stop - 1)) c.table_bytes.ensures in
+    let text = c.bytes_between-text.ensures ∙ ap (λ (bytes : List ℕ). bytes_between bytes c.args.at (stop - 1)) c.table_bytes.ensures in
     string_value (shown c.args.namespace.now) c.args.site.table c.args.site.method.0 c.args.bytes.now c.args.at stop c.in_ok-characters.characters c.text_end-stop.ensures.is
     (c.in_ok-characters.ensures ∙ ap (filled (stop - c.args.at - 1)) text) d
 

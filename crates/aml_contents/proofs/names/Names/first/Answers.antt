@@ -11,10 +11,10 @@ pub loop-i-preserved : goal.loop-i-preserved
 loop-i-preserved c =
     let ns = shown c.args.namespace.now in
     let there : c.loop-i.i < length ns.entries = omega (arith, c.loop-i-test.true, c.len-i-end.ensures) in
-    let added = c.in_ok-add.ensures in
+    let added = c.in_ok-push.ensures in
     record {
-      held = contents_next ns c.loop-i.i (contents c.loop-i.names) (contents c.add.new.self) (content c.in_ok-held.held) there c.loop-i.invariant.held c.in_ok-held.ensures (added.held ∙ ap (λ (w : Width). contents c.loop-i.names ++ held_first w (content c.in_ok-held.held) ∷ []) c.width.ensures);
-      kinds = kinds_next ns c.loop-i.i (content_kinds c.loop-i.names) (content_kinds c.add.new.self) (content c.in_ok-held.held) there c.loop-i.invariant.kinds c.in_ok-held.ensures (added.kinds ∙ ap (λ (w : Width). content_kinds c.loop-i.names ++ first_kind (greatest_of w) (content c.in_ok-held.held) ∷ []) c.width.ensures);
+      held = contents_next ns c.loop-i.i (contents c.loop-i.names) (contents c.push.new.self) (content c.in_ok-held.held) there c.loop-i.invariant.held c.in_ok-held.ensures (added.held ∙ ap (λ (w : Width). contents c.loop-i.names ++ held_first w (content c.in_ok-held.held) ∷ []) c.width.ensures);
+      kinds = kinds_next ns c.loop-i.i (content_kinds c.loop-i.names) (content_kinds c.push.new.self) (content c.in_ok-held.held) there c.loop-i.invariant.kinds c.in_ok-held.ensures (added.kinds ∙ ap (λ (w : Width). content_kinds c.loop-i.names ++ first_kind (greatest_of w) (content c.in_ok-held.held) ∷ []) c.width.ensures);
     }
 
 pub returns-clause-contents : goal.returns-clause-contents
