@@ -9,6 +9,9 @@ says. A focus makes tables that dwell on one part of the meaning: `fields`, `mut
 `operators`, `packages`, `effects` (operands that change what others read), `careful` (accepted bodies), `depth`
 (calls), `double` (two errors in one operator) and `chaos`; without one a table has something of each.
 
+The status must be that of the last line: 1 of a fault, 3 of an error, of `out of steps` and of a method that is refused,
+else 0; a difference in it is one too. So is a method that `verify` accepts and `eval` refuses.
+
 Of one sort of difference the first ones are told in full, with the seed and the case. With --counts it is told how
 often each thing was met. S is 1, and cases are numbered from 0, or from K on.
 """
@@ -28,6 +31,14 @@ from program import Program, given_words, run_deeply, words_of
 
 LIMIT = 3000
 FOREVER = 1e9
+
+
+def status_of(line):
+    """The status that goes with a last line."""
+    if line.startswith("fault "):
+        return 2 if line.startswith("fault E520 ") else 1
+    is_refused = line.startswith("\\") and " refused " in line
+    return 3 if is_refused or line.startswith("error ") or line == "out of steps" else 0
 
 
 class Comparison:
@@ -59,13 +70,14 @@ class Comparison:
             print("  " + line, flush=True)
 
     def same(self, what, words, wanted, told):
-        """Runs the program and compares its lines with those wanted."""
+        """Runs the program and compares its lines with those wanted, and its status with that of the last of them."""
         self.done += 1
         status, lines, notes = self.program.run(words)
-        if lines == wanted and status in (0, 1, 3):
+        wanted_status = status_of(wanted[-1] if wanted else "")
+        if lines == wanted and status == wanted_status:
             return True
         first = next((i for i, (a, b) in enumerate(zip(lines, wanted)) if a != b), min(len(lines), len(wanted)))
-        self.tell(what, [*told, f"words {' '.join(words)}", f"status {status} {notes[:200]}",
+        self.tell(what, [*told, f"words {' '.join(words)}", f"status {status}, wanted {wanted_status}; {notes[:200]}",
                                 f"first difference at line {first}",
                                 f"program   {lines[max(0, first - 3):first + 3]} .. {lines[-1:]}",
                                 f"reference {wanted[max(0, first - 3):first + 3]} .. {wanted[-1:]}"])
@@ -124,13 +136,13 @@ class Comparison:
         self.accepted(method, words, files, whole, told)
 
     def accepted(self, method, words, files, whole, told):
-        """Without a number of steps an accepted method gives the same; others are refused."""
+        """Without a number of steps a method that `verify` accepts gives the same, where it takes the arguments by their kinds."""
         if show_path(method.path) not in self.accepted_paths:
             self.counts["accepted", "no"] += 1
             return
         words = ["eval", "--method", show_path(method.path), *self.kinds, *words, *files]
         status, lines, _ = self.program.run(words)
-        if lines and (" refused " in lines[-1] or lines[-1].startswith("fault E522")):
+        if lines and lines[-1].startswith("fault E522"):
             self.counts["accepted", "no"] += 1
             return
         self.counts["accepted", "yes"] += 1
