@@ -3,8 +3,9 @@
 
 LISTING is what `list_names` prints of the tables. `acpiexec` (of Debian's acpica-tools) loads the same tables, and its
 `namespace` command lists what it has. Printed are the paths that only one of both has, and those whose kinds differ;
-the last line counts both. What differs by nature is left out: the predefined names, as `acpiexec` takes `_SB_` and `_TZ_`
-for a device and a thermal zone, and `\\_TI_`, which is its own.
+the last line counts both, and the status is 1 where they differ or nothing was compared. What differs by nature is left
+out: the predefined names, as `acpiexec` takes `_SB_` and `_TZ_` for a device and a thermal zone, and `\\_TI_`, which is
+its own.
 """
 import re
 import subprocess
@@ -49,13 +50,14 @@ def ours(listing):
 
 def main(listing, tables):
     a, b = ours(listing), acpica(tables)
-    differences = 0
-    for path in sorted((a.keys() | b.keys()) - PREDEFINED):
+    differences, compared = 0, sorted((a.keys() | b.keys()) - PREDEFINED)
+    for path in compared:
         if a.get(path) != b.get(path):
             differences += 1
             print(f"{path}: {a.get(path, 'missing')} here, {b.get(path, 'missing')} there")
     print(f"{len(a)} paths here, {len(b)} there, {differences} differences")
+    return 1 if differences or not compared else 0
 
 
 if __name__ == "__main__":
-    main(sys.argv[1], sys.argv[2:])
+    sys.exit(main(sys.argv[1], sys.argv[2:]))

@@ -11,7 +11,8 @@ its own refused is refused. One that inherited its refusal, or whose function wa
 without those that it calls, and in the end alone.
 
 It fails where an edit is still proved, where an old text does not stand just once, where it does not compile (the front
-end alone reads all of them first), and where it fell only by a name that went, which a proof file cites.
+end alone reads all of them first), where it fell only by a name that went, which a proof file cites, and where the prover
+met only a limit of its own, and gave no verdict.
 
 What was refused is kept, in the folder acpicheck-edits of $XDG_CACHE_HOME or else in /var/tmp, by a checksum of all that
 it stands on: the toolchain, the crate and those below, the edit and these scripts. With the word `after` the lines of
@@ -44,7 +45,7 @@ COUNTS = re.compile(r"(\d+) passed, (\d+) failed\n?")
 IS_PROVED = re.compile(r"rt: (\w+) proved\n?")
 # How often an edit goes into a check with others before it is tried alone.
 MOST = 3
-# The evaluators, in whose cycles of calls a check of any function is one of all, and takes ten minutes.
+# The evaluators, in whose cycles of calls a check of any function is one of all, and takes some minutes.
 LONG = ("aml_direct", "aml_plain")
 
 
@@ -144,7 +145,7 @@ class Trial:
         if said.status == 0 and said.ended:
             self.settle(edit, PROVED, "STILL PROVED: the contract is too weak, or it means the same")
         elif said.status == 3 and any(map(edit_checks.LIMIT.search, said.lines)):
-            self.settle(edit, REFUSED, "only by a limit of the prover, which gave no verdict")
+            self.settle(edit, UNSURE, "a limit of the prover, which gave no verdict, shows nothing of the contract")
         elif not said.ended or said.status != 1:
             self.settle(edit, UNSURE, f"NOT TRIED: its check ended with status {said.status}: {said.lines[-2:]}"[:300])
         elif kind == REFUSED:

@@ -11,8 +11,8 @@ a beginning of what the row says, behind which `fault E524 NoMemory` may stand; 
 program's own, since it may have told of the row's fault, or of the file, before memory was wanted.
 
 The programs are those that `make test` leaves in crates/NAME/out; one that is missing, or older than the sources that
-it is built from, is a failure. The N-th growth of a run is refused by a `malloc` of this script's own, for which a C
-compiler is needed.
+it is built from, or that lists no such test, is a failure. The N-th growth of a run is refused by a `malloc` of this
+script's own, for which a C compiler is needed.
 """
 import os
 import re
@@ -207,7 +207,11 @@ def main():
         shim, count_to = f"{room}/shim.so", f"{room}/count"
         subprocess.run(["cc", "-x", "c", "-shared", "-fPIC", "-o", shim, "-"], input=SHIM.encode(), check=True)
         for program in found:
-            for test in named_tests(program):
+            tests = named_tests(program)
+            if not tests:
+                failed += 1
+                print(f"{os.path.basename(program)}: it lists no test whose name begins with rows_of_ or want_of_memory")
+            for test in tests:
                 growths, wrong = tried_in_turn(shim, program, test, count_to)
                 tried, failed = tried + growths, failed + wrong
         if os.path.isfile(rows.PROGRAM):

@@ -4,10 +4,10 @@
 In the folder, or in folders in it, each file whose name begins with DSDT is a machine, with the SSDT whose name ends as
 its own does. Each method that is accepted is evaluated with as many ones as it takes arguments, by acpicheck and by
 `acpiexec` (of Debian's acpica-tools), over registers that all hold zero. Printed are the methods whose values differ and,
-last, how many do not. Packages are compared without the names in them, which `acpiexec` prints by their last segments.
-As it runs methods named `_REG` and `_STA` of its own accord first, it has copies of the tables in which they are named
-otherwise. What is refused is counted, what is not evaluated (`_OSI`, and methods whose arguments are no integers), and
-what `acpiexec` does not show.
+last, how many do not; the status is 1 where one differs or nothing was compared. Packages are compared without the names
+in them, which `acpiexec` prints by their last segments. As it runs methods named `_REG` and `_STA` of its own accord
+first, it has copies of the tables in which they are named otherwise. What is refused is counted, what is not evaluated
+(`_OSI`, and methods whose arguments are no integers), and what `acpiexec` does not show.
 """
 import collections
 import concurrent.futures
@@ -142,8 +142,8 @@ def main(folder, program=ACPICHECK):
             counts[kind] += 1
             if kind == "differ":
                 print(answer)
-    print(", ".join(f"{count} {kind}" for kind, count in sorted(counts.items())))
-    return 1 if counts["differ"] else 0
+    print(", ".join(f"{count} {kind}" for kind, count in sorted(counts.items())) or "there is no method")
+    return 1 if counts["differ"] or not counts["equal"] else 0
 
 
 if __name__ == "__main__":

@@ -142,4 +142,5 @@ def main():
     print(f'{len(found)} templates, {items} items')
 
 
-main()
+if __name__ == '__main__':
+    main()

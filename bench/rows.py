@@ -408,7 +408,7 @@ def lay_out(row, room):
 
 
 def run(program, row, room, words=None, env=None):
-    """The program's status, standard output and standard error; the last is left out of a fault."""
+    """The program's status, standard output and standard error."""
     ran = subprocess.run([program, *(words or row.words)], input=row.input, capture_output=True, cwd=room, env=env,
                          timeout=SECONDS)
     return ran.returncode, ran.stdout, ran.stderr

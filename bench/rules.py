@@ -4,8 +4,9 @@
 Each is one text of crates/aml_judged/specs in the place of another. `rt check` of aml_judged must refuse it, and what
 refused it is told: a proof of a law, or one of the examples (proofs/*Examples, Edges, Rows), which alone show a rule
 that refuses too much. The crate is checked in a copy of the repository in a temporary folder, over what `rt check` kept
-of it, so the repository stays as it is. The last line counts; a rule that is proved, or whose text does not stand once, is
-a failure. Where each rule stands is in docs/VERDICTS.md.
+of it, so the repository stays as it is. The last line counts; a rule that is proved, whose text does not stand once, or
+with which a file of specs/ has an error, so that it is no definition, is a failure. A NAME that no rule has is told, and
+then none is tried. Where each rule stands is in docs/VERDICTS.md.
 """
 import argparse
 import os
@@ -262,6 +263,9 @@ def tried(room, rule):
     with open(path, "w", encoding="utf-8") as it:
         it.write(text)
     files = sorted(set(ERROR.findall(ran.stdout + ran.stderr)))
+    undefined = [file for file in files if file.startswith("specs/")]
+    if undefined:
+        raise ValueError("it is no definition: " + " ".join(undefined))
     if ran.returncode and not files:
         raise ValueError("it was not judged: " + (ran.stdout + ran.stderr)[-200:])
     return files if ran.returncode else []
@@ -280,7 +284,11 @@ def main():
     words.add_argument("--from", type=int, default=1, dest="first")
     words.add_argument("names", nargs="*")
     given = words.parse_args()
+    unknown = [name for name in given.names if name not in {rule.name for rule in RULES}]
     rules = [rule for rule in RULES[given.first - 1:] if not given.names or rule.name in given.names]
+    if unknown or not rules:
+        print("\n".join(f"{name}: no rule has that name" for name in unknown) or "there is no rule to try")
+        return 1
     failed = 0
     with tempfile.TemporaryDirectory() as room:
         copied(f"{room}/all")

@@ -5,7 +5,7 @@
 turns. Each is run at two sizes, the second twice the first; of each the least processor time of five runs counts. What a turn costs is
 the difference of both over the difference of the turns, so that starting, loading, reading and judging are left out. It is evaluated
 straight from its bytes (`eval`), where the verifier accepts it, then from its tree (`eval --plain`), and by acpiexec; all must give the
-same value.
+same integer, and where they do not, both are printed and the status is 1.
 
 Behind `resident` stands how much memory acpicheck had resident at most, at each of its two sizes, by `/usr/bin/time` (apt-get install
 time). It should not grow with the turns, but in TEXT, whose string does, and in KEEP and INDX, fields of regions, each access of which is an
@@ -202,7 +202,7 @@ def main(words):
         asl = Path(folder) / "speed.asl"
         asl.write_text(source())
         subprocess.run(["iasl", "-oa", "-p", folder + "/speed", asl], capture_output=True, check=True)
-        table = folder + "/speed.aml"
+        table, differ = folder + "/speed.aml", 0
         print("loop   from bytes     --plain    acpiexec   times plain   times acpiexec  resident")
         for loop in words[1:] or LOOPS:
             mine, other = LOOPS[loop]
@@ -217,8 +217,11 @@ def main(words):
                 here, held, _ = costs(lambda n: ours(program, table, loop, n, []), mine)
                 print(f"{loop}   {here * 1e9:8.0f} ns {plain * 1e9:8.0f} ns {there * 1e9:8.0f} ns {plain / here:13.2f} {there / here:16.1f}"
                       f" {held[0]:7}, {held[1]} KiB", end="")
-            print("" if all(value(it) == value(told) for it in said) else f"  here {said}, there {value(told)}")
+            is_same = isinstance(value(told), int) and all(value(it) == value(told) for it in said)
+            differ += not is_same
+            print("" if is_same else f"  here {said}, there {value(told)}")
+    return 1 if differ else 0
 
 
 if __name__ == "__main__":
-    main(sys.argv[1:])
+    sys.exit(main(sys.argv[1:]))
