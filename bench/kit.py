@@ -6,7 +6,7 @@
 
 Some kits' `rt` walks every chain of libraries below a crate, and not every library: for the sum of the texts that a
 library is made from (`stamp`), and for the list of what lies below (`below`). This repository has layers enough that
-there are 900,000 such chains below the listing, and reading the same files once for each takes hours, of which no
+there are some 960,000 such chains below the listing, and reading the same files once for each takes hours, of which no
 proof has any. So within one call of `stamp` each library's sum is made once, and `below`, which never changes once a
 crate is read, is kept. Nothing else is touched: what is checked, in which order, and what is said of it is the kit's
 own. Where the kit is built otherwise, `rt` runs as it is.
