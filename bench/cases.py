@@ -12,6 +12,7 @@ A case is a folder crates/acpicheck/cases/NAME:
 | words | the words, one a line, each with Python's escapes for bytes, as \\xff; no file: no words |
 | input | standard input; no file: an empty one |
 | NAME.hex | hex text, spaces and line ends left out, whose bytes stand in the file NAME where the program runs |
+| a folder | a folder of that name there, with such files |
 | output | what standard output must be; no file: nothing |
 | status | the status that the program must end with; no file: 0 |
 | notes | lines that must stand on standard error, parts of lines where they do not begin as the program's own; no file: it must be empty |
@@ -55,9 +56,12 @@ def words_of(case):
 
 
 def lay_out(case, room):
-    """Writes the case's files where the program is to run."""
+    """Writes the case's files, and those of its folders, where the program is to run."""
     for name in os.listdir(case):
-        if name.endswith(".hex"):
+        if os.path.isdir(f"{case}/{name}"):
+            os.mkdir(f"{room}/{name}")
+            lay_out(f"{case}/{name}", f"{room}/{name}")
+        elif name.endswith(".hex"):
             with open(f"{room}/{name.removesuffix('.hex')}", "wb") as it:
                 it.write(bytes.fromhex(part(case, name).decode("ascii")))
 

@@ -48,10 +48,10 @@ def absolute(scope, name):
     return scope[:len(scope) - name.parents] + name.segments
 
 
-def wants(name, path):
+def wants(name, path, missing="which nothing before it defines, or which holds no names"):
     """What is told of a name that wants a path which is not there, or that leads above the root."""
     wanted = "a path above the root" if path is None else printed(path)
-    return f"the name at byte {name.at} wants {wanted}, which is not there or holds no names"
+    return f"the name at byte {name.at} wants {wanted}, {missing}"
 
 
 def find(entries, scope, name):
@@ -177,7 +177,7 @@ class Namespace:
         path = self.check_place(scope, name)
         found = find(self.objects, scope, source)
         if found is None:
-            raise Fault("E304", source.at, note=wants(source, absolute(scope, source)))
+            raise Fault("E304", source.at, note=wants(source, absolute(scope, source), "which nothing before it defines"))
         self.made[path] = number, name.at
         self.objects[path] = found
 

@@ -8,6 +8,7 @@ use Rattle.acpi_listing.specs.Steps.{Step, Then, Quietly, Obtains, Ends, Prints,
 use Rattle.acpi_sources.specs.declared.fault.Fault.{Fault}
 use Rattle.acpi_listing.specs.declared.stop.Stop.{Stop}
 use Rattle.acpi_listing.specs.declared.stop.Stop.TheVariants.{Fault as Faulty, Run}
+use Rattle.acpi_sources.specs.declared.status.Status.{Status}
 
 -- a step gave a value, so the chain goes on
 pub goes_on : {F V W : Type 0} (first : Step F V) (next : V → Step F W) (old mid new : F) (held between holds : Option (List ℕ)) (v : V) (r : Result W Stop)
@@ -43,7 +44,7 @@ pub given_fault : {F V W : Type 0} (is : Result V Fault → Type 0) (next : V �
 given_fault is next old held f r same did = quiet_fault (λ o x n. is x × (n ≡ o)) next old old held f r same (did, refl)
 
 -- the end
-pub ended : {F : Type 0} (old : F) (held : Option (List ℕ)) (status n : ℕ) → n ≡ status → Writes (Ends status) old old held held (Ok n)
+pub ended : {F : Type 0} (old : F) (held : Option (List ℕ)) (status n : Status) → n ≡ status → Writes (Ends status) old old held held (Ok n)
 ended old held status n is = ([], ((ap (λ m. Ok m) is, refl), refl), Appends-nil held)
 
 -- a text that was written whole, or not
@@ -55,12 +56,12 @@ pub cut_off : {F : Type 0} (old : F) (held holds : Option (List ℕ)) (line : Li
 cut_off old held holds line f (front, rest, split, wrote) = (front, ((rest, split), refl), wrote)
 
 -- a last line, and its status
-pub told : {F : Type 0} (old : F) (held holds : Option (List ℕ)) (line : List ℕ) (status n : ℕ)
+pub told : {F : Type 0} (old : F) (held holds : Option (List ℕ)) (line : List ℕ) (status n : Status)
     → n ≡ status → Appends held holds line → Writes (Tells line status) old old held holds (Ok n)
 told old held holds line status n is wrote =
     goes_on (Prints line) (λ _. Ends status) old old old held holds holds tt (Ok n) (printed old held holds line tt wrote) (ended old holds status n is)
 
-pub half_told : {F : Type 0} (old : F) (held holds : Option (List ℕ)) (line : List ℕ) (status : ℕ) (f : RunFault) (r : Result ℕ Stop)
+pub half_told : {F : Type 0} (old : F) (held holds : Option (List ℕ)) (line : List ℕ) (status : Status) (f : RunFault) (r : Result Status Stop)
     → IsErrAnd r (λ s. s ≡ Run f) → ((front : List ℕ) × (rest : List ℕ) × (line ≡ front ++ rest) × Appends held holds front)
     → Writes (Tells line status) old old held holds r
 half_told old held holds line status f r is part = stops (Prints line) (λ _. Ends status) old old held holds (Run f) r is (cut_off old held holds line f part)

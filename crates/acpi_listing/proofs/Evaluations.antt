@@ -42,6 +42,8 @@ use Rattle.acpi_listing.specs.declared.stop.Stop.TheVariants.{Fault as Faulty}
 use Rattle.acpi_sources.specs.declared.inputs.InputNames.{InputNames}
 use Rattle.acpi_sources.specs.declared.inputs.Inputs.{Inputs}
 use Rattle.acpi_listing.proofs.Chains.{given, given_fault, quiet, quiet_fault, still}
+use Rattle.acpi_sources.specs.declared.status.Status.{Status}
+use Rattle.acpi_sources.specs.declared.status.Status.TheVariants as exit
 
 -- a namespace with texts that are these
 pub known_texts : (interfaces : List (List ℕ)) (tables : List (List ℕ)) (ns : Shown) (passed known : List (Bor (List ℕ)))
@@ -49,7 +51,7 @@ pub known_texts : (interfaces : List (List ℕ)) (tables : List (List ℕ)) (ns 
 known_texts interfaces tables ns passed known same are loaded = (loaded.0, loaded.1 ∙ ap bytes_in same ∙ are)
 
 -- behind the load and the method
-pub after_find : (bytes : ℕ → ℕ → ℕ) (told : Told) (word : List ℕ) (arguments : List Value) (steps : Option ℕ) (interfaces : List (List ℕ)) (tables : List (List ℕ)) (ns : Shown) (id : ℕ) (m : Method) (held holds : Option (List ℕ)) (r : Result ℕ Stop)
+pub after_find : (bytes : ℕ → ℕ → ℕ) (told : Told) (word : List ℕ) (arguments : List Value) (steps : Option ℕ) (interfaces : List (List ℕ)) (tables : List (List ℕ)) (ns : Shown) (id : ℕ) (m : Method) (held holds : Option (List ℕ)) (r : Result Status Stop)
     → IsNamespace interfaces tables ns → IsMethodAt ns word id m
     → Writes (EvaluatesFound bytes told ns arguments steps (id, m)) tt tt held holds r
     → Writes (EvaluatesTables bytes told word arguments steps interfaces tables) tt tt held holds r
@@ -58,13 +60,13 @@ after_find bytes told word arguments steps interfaces tables ns id m held holds 
     (given (Finds ns word) (EvaluatesFound bytes told ns arguments steps) tt tt held holds (id, m) r names does)
 
 -- tables that cannot be loaded, and a path that no method has
-pub no_tables : (bytes : ℕ → ℕ → ℕ) (told : Told) (word : List ℕ) (arguments : List Value) (steps : Option ℕ) (interfaces : List (List ℕ)) (tables : List (List ℕ)) (held : Option (List ℕ)) (f : Fault) (r : Result ℕ Stop)
+pub no_tables : (bytes : ℕ → ℕ → ℕ) (told : Told) (word : List ℕ) (arguments : List Value) (steps : Option ℕ) (interfaces : List (List ℕ)) (tables : List (List ℕ)) (held : Option (List ℕ)) (f : Fault) (r : Result Status Stop)
     → IsErrAnd r (λ s. s ≡ Faulty f) → Loads interfaces tables (Err f)
     → Writes (EvaluatesTables bytes told word arguments steps interfaces tables) tt tt held held r
 no_tables bytes told word arguments steps interfaces tables held f r is fails =
     given_fault (Loads interfaces tables) (λ n. Then (Obtains (Finds n word)) (EvaluatesFound bytes told n arguments steps)) tt held f r is fails
 
-pub no_method : (bytes : ℕ → ℕ → ℕ) (told : Told) (word : List ℕ) (arguments : List Value) (steps : Option ℕ) (interfaces : List (List ℕ)) (tables : List (List ℕ)) (ns : Shown) (held : Option (List ℕ)) (f : Fault) (r : Result ℕ Stop)
+pub no_method : (bytes : ℕ → ℕ → ℕ) (told : Told) (word : List ℕ) (arguments : List Value) (steps : Option ℕ) (interfaces : List (List ℕ)) (tables : List (List ℕ)) (ns : Shown) (held : Option (List ℕ)) (f : Fault) (r : Result Status Stop)
     → IsErrAnd r (λ s. s ≡ Faulty f) → IsNamespace interfaces tables ns → Finds ns word (Err f)
     → Writes (EvaluatesTables bytes told word arguments steps interfaces tables) tt tt held held r
 no_method bytes told word arguments steps interfaces tables ns held f r is loaded none =
@@ -73,35 +75,35 @@ no_method bytes told word arguments steps interfaces tables ns held f r is loade
 
 -- a method's body that was read, or cannot be
 module _ (bytes : ℕ → ℕ → ℕ) (ns : Shown) (id : ℕ) (m : Method) (arguments : List Value) (steps : ℕ) where
-  pub no_body : (held : Option (List ℕ)) (f : Fault) (r : Result ℕ Stop) → IsErrAnd r (λ s. s ≡ Faulty f) → ReadsBody ns id m (Err f)
+  pub no_body : (held : Option (List ℕ)) (f : Fault) (r : Result Status Stop) → IsErrAnd r (λ s. s ≡ Faulty f) → ReadsBody ns id m (Err f)
       → Writes (EvaluatesMethod bytes ns arguments steps (id, m)) tt tt held held r
   no_body held f r is fails = given_fault (ReadsBody ns id m) (EvaluatesBody bytes ns (id, m) arguments steps) tt held f r is fails
 
-  pub after_body : (body : Result (List Tree) Refusal) (held holds : Option (List ℕ)) (r : Result ℕ Stop) → ReadsBody ns id m (Ok body)
+  pub after_body : (body : Result (List Tree) Refusal) (held holds : Option (List ℕ)) (r : Result Status Stop) → ReadsBody ns id m (Ok body)
       → Writes (EvaluatesBody bytes ns (id, m) arguments steps body) tt tt held holds r
       → Writes (EvaluatesMethod bytes ns arguments steps (id, m)) tt tt held holds r
   after_body body held holds r reads does = given (ReadsBody ns id m) (EvaluatesBody bytes ns (id, m) arguments steps) tt tt held holds body r reads does
 
   module _ (ts : List Tree) (body : IsBodyOf ns id m ts) where
-    abbrev behind_outcome : Outcome × List Event → Step (Unit {0}) ℕ
+    abbrev behind_outcome : Outcome × List Event → Step (Unit {0}) Status
     behind_outcome o = Tells (evaluation_text ns.entries o) (outcome_status o.0)
 
-    abbrev behind_fit : Unit {0} → Step (Unit {0}) ℕ
+    abbrev behind_fit : Unit {0} → Step (Unit {0}) Status
     behind_fit _ = Then (Obtains (IsMeant ns bytes id m (trees ts) arguments steps)) behind_outcome
 
     -- arguments that do not fit
-    pub no_fit : (held : Option (List ℕ)) (f : Fault) (r : Result ℕ Stop) → IsErrAnd r (λ s. s ≡ Faulty f) → Fit ns m arguments (Err f)
+    pub no_fit : (held : Option (List ℕ)) (f : Fault) (r : Result Status Stop) → IsErrAnd r (λ s. s ≡ Faulty f) → Fit ns m arguments (Err f)
         → Writes (EvaluatesMethod bytes ns arguments steps (id, m)) tt tt held held r
     no_fit held f r is fails = after_body (Ok ts) held held r body (given_fault (Fit ns m arguments) behind_fit (tt {0}) held f r is fails)
 
     -- an evaluation that wants memory, and one that ended
-    pub no_outcome : (held : Option (List ℕ)) (f : Fault) (r : Result ℕ Stop) → IsErrAnd r (λ s. s ≡ Faulty f) → Takes ns m arguments
+    pub no_outcome : (held : Option (List ℕ)) (f : Fault) (r : Result Status Stop) → IsErrAnd r (λ s. s ≡ Faulty f) → Takes ns m arguments
         → IsMeant ns bytes id m (trees ts) arguments steps (Err f) → Writes (EvaluatesMethod bytes ns arguments steps (id, m)) tt tt held held r
     no_outcome held f r is takes meant = after_body (Ok ts) held held r body
         (given (Fit ns m arguments) behind_fit tt tt held held tt r takes
         (given_fault (IsMeant ns bytes id m (trees ts) arguments steps) behind_outcome tt held f r is meant))
 
-    pub after_outcome : (outcome : Outcome × List Event) (held holds : Option (List ℕ)) (r : Result ℕ Stop) → Takes ns m arguments
+    pub after_outcome : (outcome : Outcome × List Event) (held holds : Option (List ℕ)) (r : Result Status Stop) → Takes ns m arguments
         → IsMeant ns bytes id m (trees ts) arguments steps (Ok outcome)
         → Writes (Tells (evaluation_text ns.entries outcome) (outcome_status outcome.0)) (tt {0}) (tt {0}) held holds r
         → Writes (EvaluatesMethod bytes ns arguments steps (id, m)) tt tt held holds r
@@ -129,21 +131,21 @@ none_accepted said is a accepted = (let does : is_accepted said ≡ true = ap is
 
 -- a method that is judged first
 module _ (bytes : ℕ → ℕ → ℕ) (told : Told) (ns : Shown) (arguments : List Value) (found : ℕ × Method) where
-  abbrev behind_verdicts : Checked → Step (Unit {0}) ℕ
+  abbrev behind_verdicts : Checked → Step (Unit {0}) Status
   behind_verdicts checked = EvaluatesJudged bytes ns arguments found checked (said_of checked found.0)
 
-  abbrev behind_done : Outcome × List Event → Step (Unit {0}) ℕ
+  abbrev behind_done : Outcome × List Event → Step (Unit {0}) Status
   behind_done ended = Tells (evaluation_text ns.entries ended) (outcome_status ended.0)
 
-  abbrev behind_accepts : ℕ → Unit {0} → Step (Unit {0}) ℕ
+  abbrev behind_accepts : ℕ → Unit {0} → Step (Unit {0}) Status
   behind_accepts bound _ = Then (Obtains (IsDone bytes ns found arguments bound)) behind_done
 
-  pub no_judgement : (held : Option (List ℕ)) (f : Fault) (r : Result ℕ Stop) → IsErrAnd r (λ s. s ≡ Faulty f) → Judges told ns (Err f)
+  pub no_judgement : (held : Option (List ℕ)) (f : Fault) (r : Result Status Stop) → IsErrAnd r (λ s. s ≡ Faulty f) → Judges told ns (Err f)
       → Writes (EvaluatesFound bytes told ns arguments None found) tt tt held held r
   no_judgement held f r is wants = given_fault (Judges told ns) behind_verdicts tt held f r is wants
 
   module _ (checked : Checked) (are : AreVerdictsOn told ns checked) where
-    after_verdicts : (said : Option Verdict) (held holds : Option (List ℕ)) (r : Result ℕ Stop) → said_of checked found.0 ≡ said
+    after_verdicts : (said : Option Verdict) (held holds : Option (List ℕ)) (r : Result Status Stop) → said_of checked found.0 ≡ said
         → Writes (EvaluatesJudged bytes ns arguments found checked said) tt tt held holds r
         → Writes (EvaluatesFound bytes told ns arguments None found) tt tt held holds r
     after_verdicts said held holds r is does =
@@ -151,14 +153,14 @@ module _ (bytes : ℕ → ℕ → ℕ) (told : Told) (ns : Shown) (arguments : L
         (subst (λ v. Writes (EvaluatesJudged bytes ns arguments found checked v) tt tt held holds r) (sym is) does)
 
     -- one that is accepted, and does not take the arguments
-    pub not_taken : (accepted : Accepted) (held : Option (List ℕ)) (f : Fault) (r : Result ℕ Stop) → IsErrAnd r (λ s. s ≡ Faulty f)
+    pub not_taken : (accepted : Accepted) (held : Option (List ℕ)) (f : Fault) (r : Result Status Stop) → IsErrAnd r (λ s. s ≡ Faulty f)
         → said_of checked found.0 ≡ Some (verdict.Accepted accepted) → Accepts checked accepted arguments (Err f)
         → Writes (EvaluatesFound bytes told ns arguments None found) tt tt held held r
     not_taken accepted held f r is said refuses = after_verdicts _ held held r said
         (given_fault (Accepts checked accepted arguments) (behind_accepts accepted.bound) tt held f r is refuses)
 
     -- one that takes them: its evaluation wants memory, or is done
-    pub not_done : (accepted : Accepted) (held : Option (List ℕ)) (f : Fault) (r : Result ℕ Stop) → IsErrAnd r (λ s. s ≡ Faulty f)
+    pub not_done : (accepted : Accepted) (held : Option (List ℕ)) (f : Fault) (r : Result Status Stop) → IsErrAnd r (λ s. s ≡ Faulty f)
         → said_of checked found.0 ≡ Some (verdict.Accepted accepted) → Accepts checked accepted arguments (Ok tt)
         → IsDone bytes ns found arguments accepted.bound (Err f)
         → Writes (EvaluatesFound bytes told ns arguments None found) tt tt held held r
@@ -166,7 +168,7 @@ module _ (bytes : ℕ → ℕ → ℕ) (told : Told) (ns : Shown) (arguments : L
         (given (Accepts checked accepted arguments) (behind_accepts accepted.bound) tt tt held held tt r takes
         (given_fault (IsDone bytes ns found arguments accepted.bound) behind_done tt held f r is wants))
 
-    pub done : (accepted : Accepted) (ended : Outcome × List Event) (held holds : Option (List ℕ)) (r : Result ℕ Stop)
+    pub done : (accepted : Accepted) (ended : Outcome × List Event) (held holds : Option (List ℕ)) (r : Result Status Stop)
         → said_of checked found.0 ≡ Some (verdict.Accepted accepted) → Accepts checked accepted arguments (Ok tt)
         → IsDone bytes ns found arguments accepted.bound (Ok ended)
         → Writes (Tells (evaluation_text ns.entries ended) (outcome_status ended.0)) (tt {0}) (tt {0}) held holds r
@@ -176,50 +178,50 @@ module _ (bytes : ℕ → ℕ → ℕ) (told : Told) (ns : Shown) (arguments : L
         (given (IsDone bytes ns found arguments accepted.bound) behind_done tt tt held holds ended r is does))
 
     -- and any other
-    other : (said : Option Verdict) (held holds : Option (List ℕ)) (r : Result ℕ Stop) → ((a : Accepted) → said ≡ Some (verdict.Accepted a) → ⊥)
-        → Writes (Tells (said_text checked (record { 0 = found.0 })) 3) (tt {0}) (tt {0}) held holds r
+    other : (said : Option Verdict) (held holds : Option (List ℕ)) (r : Result Status Stop) → ((a : Accepted) → said ≡ Some (verdict.Accepted a) → ⊥)
+        → Writes (Tells (said_text checked (record { 0 = found.0 })) exit.Refused) (tt {0}) (tt {0}) held holds r
         → Writes (EvaluatesJudged bytes ns arguments found checked said) tt tt held holds r
     other None held holds r not does = does
     other (Some (verdict.Accepted a)) held holds r not does = absurd (not a refl)
     other (Some (verdict.Refused refusal finding)) held holds r not does = does
     other (Some (verdict.Unreadable table refusal)) held holds r not does = does
 
-    pub not_accepted : (held holds : Option (List ℕ)) (r : Result ℕ Stop) → ((a : Accepted) → said_of checked found.0 ≡ Some (verdict.Accepted a) → ⊥)
-        → Writes (Tells (said_text checked (record { 0 = found.0 })) 3) (tt {0}) (tt {0}) held holds r
+    pub not_accepted : (held holds : Option (List ℕ)) (r : Result Status Stop) → ((a : Accepted) → said_of checked found.0 ≡ Some (verdict.Accepted a) → ⊥)
+        → Writes (Tells (said_text checked (record { 0 = found.0 })) exit.Refused) (tt {0}) (tt {0}) held holds r
         → Writes (EvaluatesFound bytes told ns arguments None found) tt tt held holds r
     not_accepted held holds r not does = after_verdicts _ held holds r refl (other (said_of checked found.0) held holds r not does)
 
 -- what stands behind the inputs, behind the kinds, behind the registers, and behind the arguments
-abbrev behind_inputs : {F : Type 0} → Registers → Told → List ℕ → List Value → Option ℕ → Option (List ℕ) → Inputs → Step F ℕ
+abbrev behind_inputs : {F : Type 0} → Registers → Told → List ℕ → List Value → Option ℕ → Option (List ℕ) → Inputs → Step F Status
 behind_inputs registers told word arguments steps osi inputs = Still (EvaluatesTables (contents registers.file) told word arguments steps (interfaces_of osi) (tables_of inputs))
 
-abbrev behind_signatures : {F : Type 0} → Answers F → InputNames → List ℕ → Option ℕ → Option (List ℕ) → List Value → Registers → Signatures → Step F ℕ
+abbrev behind_signatures : {F : Type 0} → Answers F → InputNames → List ℕ → Option ℕ → Option (List ℕ) → List Value → Registers → Signatures → Step F Status
 behind_signatures answers names word steps osi arguments registers signatures =
     Then (ReadsInputs answers names) (behind_inputs registers (kinds_told signatures) word arguments steps osi)
 
-abbrev behind_registers : {F : Type 0} → Answers F → InputNames → List ℕ → Option (List ℕ) → Option ℕ → Option (List ℕ) → List Value → Registers → Step F ℕ
+abbrev behind_registers : {F : Type 0} → Answers F → InputNames → List ℕ → Option (List ℕ) → Option ℕ → Option (List ℕ) → List Value → Registers → Step F Status
 behind_registers answers names word kinds steps osi arguments registers =
     Then (ReadsSignatures answers kinds) (behind_signatures answers names word steps osi arguments registers)
 
-abbrev behind_arguments : {F : Type 0} → Answers F → InputNames → List ℕ → Option (List ℕ) → Option (List ℕ) → Option ℕ → Option (List ℕ) → List Value → Step F ℕ
+abbrev behind_arguments : {F : Type 0} → Answers F → InputNames → List ℕ → Option (List ℕ) → Option (List ℕ) → Option ℕ → Option (List ℕ) → List Value → Step F Status
 behind_arguments answers names word regs kinds steps osi arguments =
     Then (ReadsRegisters answers regs) (behind_registers answers names word kinds steps osi arguments)
 
 -- arguments that cannot be read
-pub no_arguments : {F : Type 0} (answers : Answers F) (old : F) (names : InputNames) (word : List ℕ) (args regs kinds : Option (List ℕ)) (steps : Option ℕ) (osi : Option (List ℕ)) (held : Option (List ℕ)) (f : Fault) (r : Result ℕ Stop)
+pub no_arguments : {F : Type 0} (answers : Answers F) (old : F) (names : InputNames) (word : List ℕ) (args regs kinds : Option (List ℕ)) (steps : Option ℕ) (osi : Option (List ℕ)) (held : Option (List ℕ)) (f : Fault) (r : Result Status Stop)
     → IsErrAnd r (λ s. s ≡ Faulty f) → ReadsArguments args (Err f) → Writes (EvaluatesFiles answers names word args regs kinds steps osi) old old held held r
 no_arguments answers old names word args regs kinds steps osi held f r is bad =
     given_fault (ReadsArguments args) (behind_arguments answers names word regs kinds steps osi) old held f r is bad
 
 -- registers that cannot be set
-pub no_registers : {F : Type 0} (answers : Answers F) (old new : F) (names : InputNames) (word : List ℕ) (args regs kinds : Option (List ℕ)) (arguments : List Value) (steps : Option ℕ) (osi : Option (List ℕ)) (held : Option (List ℕ)) (f : Fault) (r : Result ℕ Stop)
+pub no_registers : {F : Type 0} (answers : Answers F) (old new : F) (names : InputNames) (word : List ℕ) (args regs kinds : Option (List ℕ)) (arguments : List Value) (steps : Option ℕ) (osi : Option (List ℕ)) (held : Option (List ℕ)) (f : Fault) (r : Result Status Stop)
     → IsErrAnd r (λ s. s ≡ Faulty f) → ListsArguments args arguments → OpensRegisters answers old regs (Err f) new → Writes (EvaluatesFiles answers names word args regs kinds steps osi) old new held held r
 no_registers answers old new names word args regs kinds arguments steps osi held f r is lists opens =
     given (ReadsArguments args) (behind_arguments answers names word regs kinds steps osi) old new held held arguments r lists
     (quiet_fault (λ o x n. OpensRegisters answers o regs x n) (behind_registers answers names word kinds steps osi arguments) old new held f r is opens)
 
 -- kinds that cannot be read
-pub no_signatures : {F : Type 0} (answers : Answers F) (old set new : F) (names : InputNames) (word : List ℕ) (args regs kinds : Option (List ℕ)) (arguments : List Value) (registers : Registers) (steps : Option ℕ) (osi : Option (List ℕ)) (held : Option (List ℕ)) (f : Fault) (r : Result ℕ Stop)
+pub no_signatures : {F : Type 0} (answers : Answers F) (old set new : F) (names : InputNames) (word : List ℕ) (args regs kinds : Option (List ℕ)) (arguments : List Value) (registers : Registers) (steps : Option ℕ) (osi : Option (List ℕ)) (held : Option (List ℕ)) (f : Fault) (r : Result Status Stop)
     → IsErrAnd r (λ s. s ≡ Faulty f) → ListsArguments args arguments → OpensRegisters answers old regs (Ok registers) set → OpensSignatures answers set kinds (Err f) new
     → Writes (EvaluatesFiles answers names word args regs kinds steps osi) old new held held r
 no_signatures answers old set new names word args regs kinds arguments registers steps osi held f r is lists sets opens =
@@ -228,7 +230,7 @@ no_signatures answers old set new names word args regs kinds arguments registers
     (quiet_fault (λ o x n. OpensSignatures answers o kinds x n) (behind_signatures answers names word steps osi arguments registers) set new held f r is opens))
 
 -- inputs that cannot be read
-pub no_inputs : {F : Type 0} (answers : Answers F) (old set told new : F) (names : InputNames) (word : List ℕ) (args regs kinds : Option (List ℕ)) (arguments : List Value) (registers : Registers) (signatures : Signatures) (steps : Option ℕ) (osi : Option (List ℕ)) (held : Option (List ℕ)) (f : Fault) (r : Result ℕ Stop)
+pub no_inputs : {F : Type 0} (answers : Answers F) (old set told new : F) (names : InputNames) (word : List ℕ) (args regs kinds : Option (List ℕ)) (arguments : List Value) (registers : Registers) (signatures : Signatures) (steps : Option ℕ) (osi : Option (List ℕ)) (held : Option (List ℕ)) (f : Fault) (r : Result Status Stop)
     → IsErrAnd r (λ s. s ≡ Faulty f) → ListsArguments args arguments → OpensRegisters answers old regs (Ok registers) set → OpensSignatures answers set kinds (Ok signatures) told
     → OpensInputs answers told names (Err f) new → Writes (EvaluatesFiles answers names word args regs kinds steps osi) old new held held r
 no_inputs answers old set told new names word args regs kinds arguments registers signatures steps osi held f r is lists sets tells opens =
@@ -238,7 +240,7 @@ no_inputs answers old set told new names word args regs kinds arguments register
     (quiet_fault (λ o x n. OpensInputs answers o names x n) (behind_inputs registers (kinds_told signatures) word arguments steps osi) told new held f r is opens)))
 
 -- inputs that were read
-pub inputs_evaluated : {F : Type 0} (answers : Answers F) (old set told new : F) (names : InputNames) (word : List ℕ) (args regs kinds : Option (List ℕ)) (arguments : List Value) (registers : Registers) (signatures : Signatures) (inputs : Inputs) (steps : Option ℕ) (osi : Option (List ℕ)) (held holds : Option (List ℕ)) (r : Result ℕ Stop)
+pub inputs_evaluated : {F : Type 0} (answers : Answers F) (old set told new : F) (names : InputNames) (word : List ℕ) (args regs kinds : Option (List ℕ)) (arguments : List Value) (registers : Registers) (signatures : Signatures) (inputs : Inputs) (steps : Option ℕ) (osi : Option (List ℕ)) (held holds : Option (List ℕ)) (r : Result Status Stop)
     → ListsArguments args arguments → OpensRegisters answers old regs (Ok registers) set → OpensSignatures answers set kinds (Ok signatures) told
     → OpensInputs answers told names (Ok inputs) new
     → Writes (EvaluatesTables (contents registers.file) (kinds_told signatures) word arguments steps (interfaces_of osi) (tables_of inputs)) tt tt held holds r
@@ -251,24 +253,24 @@ inputs_evaluated answers old set told new names word args regs kinds arguments r
     (still (EvaluatesTables (contents registers.file) (kinds_told signatures) word arguments steps (interfaces_of osi) (tables_of inputs)) new held holds r does))))
 
 -- what stands behind the inputs of `names`, and behind their load
-abbrev behind_tables : {F : Type 0} → Inputs → Step F ℕ
-behind_tables inputs = Then (Obtains (Loads [] (tables_of inputs))) (λ ns. Tells (names_text ns) 0)
+abbrev behind_tables : {F : Type 0} → Inputs → Step F Status
+behind_tables inputs = Then (Obtains (Loads [] (tables_of inputs))) (λ ns. Tells (names_text ns) exit.Done)
 
 -- no names: inputs that cannot be read, or tables that cannot be loaded
-pub no_names : {F : Type 0} (answers : Answers F) (old new : F) (names : InputNames) (held : Option (List ℕ)) (f : Fault) (r : Result ℕ Stop)
+pub no_names : {F : Type 0} (answers : Answers F) (old new : F) (names : InputNames) (held : Option (List ℕ)) (f : Fault) (r : Result Status Stop)
     → IsErrAnd r (λ s. s ≡ Faulty f) → OpensInputs answers old names (Err f) new → Writes (ListsNames answers names) old new held held r
 no_names answers old new names held f r is opens = quiet_fault (λ o x n. OpensInputs answers o names x n) behind_tables old new held f r is opens
 
-pub no_namespace : {F : Type 0} (answers : Answers F) (old new : F) (names : InputNames) (inputs : Inputs) (held : Option (List ℕ)) (f : Fault) (r : Result ℕ Stop)
+pub no_namespace : {F : Type 0} (answers : Answers F) (old new : F) (names : InputNames) (inputs : Inputs) (held : Option (List ℕ)) (f : Fault) (r : Result Status Stop)
     → IsErrAnd r (λ s. s ≡ Faulty f) → OpensInputs answers old names (Ok inputs) new → Loads [] (tables_of inputs) (Err f) → Writes (ListsNames answers names) old new held held r
 no_namespace answers old new names inputs held f r is opens fails =
     quiet (λ o x n. OpensInputs answers o names x n) behind_tables old new new held held inputs r opens
-    (given_fault (Loads [] (tables_of inputs)) (λ ns. Tells (names_text ns) 0) new held f r is fails)
+    (given_fault (Loads [] (tables_of inputs)) (λ ns. Tells (names_text ns) exit.Done) new held f r is fails)
 
 -- the names of tables that were loaded
-pub names_listed : {F : Type 0} (answers : Answers F) (old new : F) (names : InputNames) (inputs : Inputs) (ns : Shown) (held holds : Option (List ℕ)) (r : Result ℕ Stop)
-    → OpensInputs answers old names (Ok inputs) new → Loads [] (tables_of inputs) (Ok ns) → Writes (Tells (names_text ns) 0) new new held holds r
+pub names_listed : {F : Type 0} (answers : Answers F) (old new : F) (names : InputNames) (inputs : Inputs) (ns : Shown) (held holds : Option (List ℕ)) (r : Result Status Stop)
+    → OpensInputs answers old names (Ok inputs) new → Loads [] (tables_of inputs) (Ok ns) → Writes (Tells (names_text ns) exit.Done) new new held holds r
     → Writes (ListsNames answers names) old new held holds r
 names_listed answers old new names inputs ns held holds r opens loaded tells =
     quiet (λ o x n. OpensInputs answers o names x n) behind_tables old new new held holds inputs r opens
-    (given (Loads [] (tables_of inputs)) (λ shown. Tells (names_text shown) 0) new new held holds ns r loaded tells)
+    (given (Loads [] (tables_of inputs)) (λ shown. Tells (names_text shown) exit.Done) new new held holds ns r loaded tells)

@@ -19,6 +19,8 @@ use Rattle.acpi_sources.specs.Faults.{in_table}
 use Rattle.acpi_sources.specs.declared.fault.FaultCause.TheVariants as cause
 use Rattle.acpi_listing.specs.declared.stop.Stop.{Stop}
 use Rattle.acpi_listing.specs.declared.stop.Stop.TheVariants.{Fault as Faulty, Run}
+use Rattle.acpi_sources.specs.declared.status.Status.{Status}
+use Rattle.acpi_sources.specs.declared.status.Status.TheVariants as exit
 
 -- a file whose table was read is what its printing is
 pub file_read : {F : Type 0} (answers : Answers F) (number : ℕ) (name bytes lent : List ℕ) (table : Table) (old new : F) (held holds : Option (List ℕ)) (r : Result (Unit {0}) Stop)
@@ -64,7 +66,7 @@ file_cut answers number name bytes lent table old new held holds f (Err s) is sa
 -- the files of the names from one on make the listing of all
 abbrev pub LeftFrom : {F X : Type 0} → Answers F → F → (X → List ℕ) → List X → ℕ → F → Option (List ℕ) → Option (List ℕ) → Type 0
 LeftFrom answers old now xs i mid held between =
-    (new : _) (holds : Option (List ℕ)) (r : Result ℕ Stop) → Writes (ListsFiles answers i (map now (drop i xs))) mid new between holds r
+    (new : _) (holds : Option (List ℕ)) (r : Result Status Stop) → Writes (ListsFiles answers i (map now (drop i xs))) mid new between holds r
     → Writes (ListsFiles answers 0 (map now xs)) old new held holds r
 
 -- one more file was listed
@@ -81,10 +83,10 @@ pub files_all : {F X : Type 0} (answers : Answers F) (old new : F) (now : X → 
     → length xs ≤ i → LeftFrom answers old now xs i new held holds → Writes (ListsFiles answers 0 (map now xs)) old new held holds (Ok 0)
 files_all answers old new now xs i held holds all left =
     left new holds (Ok 0) (subst (λ rest. Writes (ListsFiles answers i (map now rest)) new new holds holds (Ok 0)) (sym (drop_all i xs all))
-    (ended new holds 0 0 refl))
+    (ended new holds exit.Done exit.Done refl))
 
 -- a file stopped the listing
-pub files_stopped : {F X : Type 0} (answers : Answers F) (old mid new : F) (now : X → List ℕ) (xs : List X) (i : ℕ) (d : X) (held between holds : Option (List ℕ)) (e : Stop) (r : Result ℕ Stop)
+pub files_stopped : {F X : Type 0} (answers : Answers F) (old mid new : F) (now : X → List ℕ) (xs : List X) (i : ℕ) (d : X) (held between holds : Option (List ℕ)) (e : Stop) (r : Result Status Stop)
     → IsErrAnd r (λ s. s ≡ e) → i < length xs → LeftFrom answers old now xs i mid held between
     → Writes (ListsFile answers i (now (get_or xs i d))) mid new between holds (Err e)
     → Writes (ListsFiles answers 0 (map now xs)) old new held holds r

@@ -11,14 +11,15 @@ use Rattle.acpi_listing.specs.declared.stop.Stop.{Stop}
 use Rattle.acpi_listing.specs.declared.stop.Stop.TheVariants.{Fault as Faulty}
 use Rattle.acpi_words.specs.declared.words.Request.{Request}
 use Rattle.acpi_listing.proofs.Chains.{given}
+use Rattle.acpi_sources.specs.declared.status.Status.{Status}
 
 -- a fault's line stands behind what the command wrote
-pub told_fault : {F : Type 0} (answers : Answers F) (words : List (List ℕ)) (old new : F) (held between holds : Option (List ℕ)) (f : Fault) (r : Result ℕ RunFault)
+pub told_fault : {F : Type 0} (answers : Answers F) (words : List (List ℕ)) (old new : F) (held between holds : Option (List ℕ)) (f : Fault) (r : Result Status RunFault)
     → Writes (ObeysWords answers words) old new held between (Err (Faulty f)) → Reports f between holds r → RunsWords answers words old new held holds r
 told_fault answers words old new held between holds f r (text, does, wrote) (status, lists) =
     (text, Err (Faulty f), does, (status, lists_then r held between holds text (fault_line f) wrote lists))
 
 -- what was asked for was done
-pub obeyed : {F : Type 0} (answers : Answers F) (words : List (List ℕ)) (old new : F) (held holds : Option (List ℕ)) (request : Request) (r : Result ℕ Stop)
+pub obeyed : {F : Type 0} (answers : Answers F) (words : List (List ℕ)) (old new : F) (held holds : Option (List ℕ)) (request : Request) (r : Result Status Stop)
     → Asks words (Ok request) → Writes (Obeys answers request) old new held holds r → Writes (ObeysWords answers words) old new held holds r
 obeyed answers words old new held holds request r = given (Asks words) (Obeys answers) old new held holds request r

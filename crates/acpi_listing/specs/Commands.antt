@@ -62,7 +62,7 @@ use Rattle.acpi_listing.specs.Registers.{ReadsRegisters}
 use Rattle.acpi_listing.specs.Signatures.{ReadsSignatures}
 use Rattle.acpi_listing.specs.Steps.{Step, Then, Obtains, Still, Tells}
 use Rattle.acpi_words.specs.FirstLine.{StartsWith, FailsToStart}
-use Rattle.acpi_sources.specs.Input.{IsRead, hex_answers}
+use Rattle.acpi_sources.specs.Input.{IsRead, hex_answers, is_whole}
 use Rattle.acpi_words.specs.Words.{AsksFor, AsksNothing}
 use Rattle.acpi_sources.specs.declared.fault.Fault.{Fault}
 use Rattle.acpi_sources.specs.declared.fault.FaultCause.TheVariants as cause
@@ -86,6 +86,8 @@ use Rattle.aml_verify.specs.Verdicts.{IsChecked}
 use Rattle.aml_verify.specs.declared.checked.Checked.{Checked}
 use Rattle.aml_verify.specs.declared.verdict.Verdict.{Verdict}
 use Rattle.aml_verify.specs.declared.verdict.Verdict.TheVariants as verdict
+use Rattle.acpi_sources.specs.declared.status.Status.{Status}
+use Rattle.acpi_sources.specs.declared.status.Status.TheVariants as exit
 
 -- the method whose printed path, or an alias's, a word is
 abbrev pub IsMethodAt : Shown → List ℕ → ℕ → Method → Type 0
@@ -111,10 +113,10 @@ abbrev pub Takes : Shown → Method → List Value → Type 0
 Takes ns m arguments = (length arguments ≡ m.args) × IsTrue (are_taken ns.width arguments)
 
 -- the status of an outcome
-abbrev pub outcome_status : Outcome → ℕ
-outcome_status (Done _) = 0
-outcome_status (AmlError _) = 3
-outcome_status OutOfSteps = 3
+abbrev pub outcome_status : Outcome → Status
+outcome_status (Done _) = exit.Done
+outcome_status (AmlError _) = exit.Refused
+outcome_status OutOfSteps = exit.Refused
 
 -- the arguments, or the first fault of their text
 abbrev pub ReadsArguments : Option (List ℕ) → Result (List Value) Fault → Type 0
@@ -199,11 +201,11 @@ with_events (Ok outcome) events = Ok (outcome, events)
 with_events (Err f) events = Err f
 
 -- `names`: the files, their load, the lines of all names
-abbrev pub ListsNames : {F : Type 0} → Answers F → InputNames → Step F ℕ
+abbrev pub ListsNames : {F : Type 0} → Answers F → InputNames → Step F Status
 ListsNames answers names =
     Then (ReadsInputs answers names) (λ inputs.
     Then (Obtains (Loads [] (tables_of inputs))) (λ ns.
-    Tells (names_text ns) 0))
+    Tells (names_text ns) exit.Done))
 
 -- verdicts on just the methods of a namespace, whose arguments are of the kinds that are told
 abbrev pub AreVerdictsOn : Told → Shown → Checked → Type 0
@@ -214,22 +216,22 @@ abbrev pub Judges : Told → Shown → Result Checked Fault → Type 0
 Judges told ns (Ok checked) = AreVerdictsOn told ns checked
 Judges told ns (Err f) = f ≡ nowhere cause.NoMemory
 
--- the status of verdicts: 3 where a method is refused
-abbrev pub verdicts_status : Checked → ℕ
-verdicts_status checked = if any_refused checked then 3 else 0
+-- the status of verdicts: Refused where a method is
+abbrev pub verdicts_status : Checked → Status
+verdicts_status checked = if any_refused checked then exit.Refused else exit.Done
 
 -- `verify` of a namespace, where these kinds are told: the verdicts on all methods, their lines
-abbrev pub VerifiesLoaded : Told → Shown → Step (Unit {0}) ℕ
+abbrev pub VerifiesLoaded : Told → Shown → Step (Unit {0}) Status
 VerifiesLoaded told ns =
     Then (Obtains (Judges told ns)) (λ checked.
     Tells (verdicts_text checked) (verdicts_status checked))
 
 -- `verify` of tables: the load, and what was loaded
-abbrev pub VerifiesTables : Told → List (List ℕ) → Step (Unit {0}) ℕ
+abbrev pub VerifiesTables : Told → List (List ℕ) → Step (Unit {0}) Status
 VerifiesTables told tables = Then (Obtains (Loads [] tables)) (λ ns. VerifiesLoaded told ns)
 
 -- `verify`: the kinds that are told, the files, their tables
-abbrev pub VerifiesFiles : {F : Type 0} → Answers F → InputNames → Option (List ℕ) → Step F ℕ
+abbrev pub VerifiesFiles : {F : Type 0} → Answers F → InputNames → Option (List ℕ) → Step F Status
 VerifiesFiles answers names kinds =
     Then (ReadsSignatures answers kinds) (λ signatures.
     Then (ReadsInputs answers names) (λ inputs.
@@ -242,16 +244,16 @@ printed_path ns id = path_text (path_of ns.entries id)
 -- `eval` of a body, over registers of these bytes: a refused one has its line; else the arguments
 -- must fit, and the events and the outcome have their lines
 abbrev pub EvaluatesBody : (ℕ → ℕ → ℕ) → Shown → ℕ × Method → List Value → ℕ →
-    Result (List Tree) Refusal → Step (Unit {0}) ℕ
+    Result (List Tree) Refusal → Step (Unit {0}) Status
 EvaluatesBody bytes ns (id, m) arguments steps (Err refusal) =
-    Tells (refusal_line (printed_path ns id) m.table refusal) 3
+    Tells (refusal_line (printed_path ns id) m.table refusal) exit.Refused
 EvaluatesBody bytes ns (id, m) arguments steps (Ok ts) =
     Then (Obtains (Fit ns m arguments)) (λ _.
     Then (Obtains (IsMeant ns bytes id m (trees ts) arguments steps)) (λ ended.
     Tells (evaluation_text ns.entries ended) (outcome_status ended.0)))
 
 -- `eval` of a method's body, with so many steps: the body is read, and evaluated
-abbrev pub EvaluatesMethod : (ℕ → ℕ → ℕ) → Shown → List Value → ℕ → ℕ × Method → Step (Unit {0}) ℕ
+abbrev pub EvaluatesMethod : (ℕ → ℕ → ℕ) → Shown → List Value → ℕ → ℕ × Method → Step (Unit {0}) Status
 EvaluatesMethod bytes ns arguments steps found =
     Then (Obtains (ReadsBody ns found.0 found.1)) (EvaluatesBody bytes ns found arguments steps)
 
@@ -271,7 +273,7 @@ Accepts checked accepted arguments (Err f) =
 -- `eval` of an accepted method, with as many steps as its verdict says: the arguments must be of
 -- its kinds, and the events and the value or none have their lines
 abbrev pub EvaluatesAccepted : (ℕ → ℕ → ℕ) → Shown → List Value → ℕ × Method → Checked → Accepted →
-    Step (Unit {0}) ℕ
+    Step (Unit {0}) Status
 EvaluatesAccepted bytes ns arguments found checked accepted =
     Then (Obtains (Accepts checked accepted arguments)) (λ _.
     Then (Obtains (IsDone bytes ns found arguments accepted.bound)) (λ ended.
@@ -280,16 +282,16 @@ EvaluatesAccepted bytes ns arguments found checked accepted =
 -- `eval` of a method by what is said of it: an accepted one is evaluated; what is said of any other
 -- has its line
 abbrev pub EvaluatesJudged : (ℕ → ℕ → ℕ) → Shown → List Value → ℕ × Method → Checked →
-    Option Verdict → Step (Unit {0}) ℕ
+    Option Verdict → Step (Unit {0}) Status
 EvaluatesJudged bytes ns arguments found checked (Some (verdict.Accepted accepted)) =
     EvaluatesAccepted bytes ns arguments found checked accepted
 EvaluatesJudged bytes ns arguments found checked said =
-    Tells (said_text checked (record { 0 = found.0 })) 3
+    Tells (said_text checked (record { 0 = found.0 })) exit.Refused
 
 -- `eval` of a method with so many steps, or, without a number, by its verdict, where these kinds
 -- are told
 abbrev pub EvaluatesFound : (ℕ → ℕ → ℕ) → Told → Shown → List Value → Option ℕ → ℕ × Method →
-    Step (Unit {0}) ℕ
+    Step (Unit {0}) Status
 EvaluatesFound bytes told ns arguments (Some steps) found =
     EvaluatesMethod bytes ns arguments steps found
 EvaluatesFound bytes told ns arguments None found =
@@ -299,7 +301,7 @@ EvaluatesFound bytes told ns arguments None found =
 -- `eval` of tables, over registers of these bytes, where these kinds are told and `_OSI` knows
 -- these texts: the load, the method of that path, its evaluation
 abbrev pub EvaluatesTables : (ℕ → ℕ → ℕ) → Told → List ℕ → List Value → Option ℕ → List (List ℕ) →
-    List (List ℕ) → Step (Unit {0}) ℕ
+    List (List ℕ) → Step (Unit {0}) Status
 EvaluatesTables bytes told word arguments steps interfaces tables =
     Then (Obtains (Loads interfaces tables)) (λ ns.
     Then (Obtains (Finds ns word)) (EvaluatesFound bytes told ns arguments steps))
@@ -307,7 +309,7 @@ EvaluatesTables bytes told word arguments steps interfaces tables =
 -- `eval`: the arguments, the registers, the kinds, the files, their tables over these registers,
 -- where `_OSI` knows the text of `--osi`
 abbrev pub EvaluatesFiles : {F : Type 0} → Answers F → InputNames → List ℕ → Option (List ℕ) →
-    Option (List ℕ) → Option (List ℕ) → Option ℕ → Option (List ℕ) → Step F ℕ
+    Option (List ℕ) → Option (List ℕ) → Option ℕ → Option (List ℕ) → Step F Status
 EvaluatesFiles answers names word args regs kinds steps osi =
     Then (Obtains (ReadsArguments args)) (λ arguments.
     Then (ReadsRegisters answers regs) (λ registers.
@@ -359,19 +361,19 @@ octets_of (Buf octets) = Some octets
 octets_of v = None
 
 -- the items of bytes have their lines; where there are no bytes, the object gave no buffer
-abbrev pub ListsItems : Option (List ℕ) → Step (Unit {0}) ℕ
-ListsItems (Some octets) = Then (Obtains (ReadsItems octets)) (λ items. Tells (items_text items) 0)
+abbrev pub ListsItems : Option (List ℕ) → Step (Unit {0}) Status
+ListsItems (Some octets) = Then (Obtains (ReadsItems octets)) (λ items. Tells (items_text items) exit.Done)
 ListsItems None = Obtains (λ r. r ≡ Err (nowhere cause.NotBuffer))
 
 -- `resources` by what the object gives; a method that is not accepted has its line
-abbrev pub ListsGiven : Checked → ℕ → Given → Step (Unit {0}) ℕ
+abbrev pub ListsGiven : Checked → ℕ → Given → Step (Unit {0}) Status
 ListsGiven checked id (given.Value v) = ListsItems (octets_of (view v))
 ListsGiven checked id given.Nothing = ListsItems None
-ListsGiven checked id given.Refused = Tells (said_text checked (record { 0 = id })) 3
+ListsGiven checked id given.Refused = Tells (said_text checked (record { 0 = id })) exit.Refused
 
 -- `resources` of a namespace, over registers of these bytes, where these kinds are told: the object
 -- of that path, the verdicts on all methods, what the object gives
-abbrev pub ListsLoaded : (ℕ → ℕ → ℕ) → Told → List ℕ → Shown → Step (Unit {0}) ℕ
+abbrev pub ListsLoaded : (ℕ → ℕ → ℕ) → Told → List ℕ → Shown → Step (Unit {0}) Status
 ListsLoaded bytes told word ns =
     Then (Obtains (FindsObject ns word)) (λ id.
     Then (Obtains (Judges told ns)) (λ checked.
@@ -379,13 +381,13 @@ ListsLoaded bytes told word ns =
     ListsGiven checked id g)))
 
 -- `resources` of tables: the load, and what was loaded
-abbrev pub ListsTables : (ℕ → ℕ → ℕ) → Told → List ℕ → List (List ℕ) → Step (Unit {0}) ℕ
+abbrev pub ListsTables : (ℕ → ℕ → ℕ) → Told → List ℕ → List (List ℕ) → Step (Unit {0}) Status
 ListsTables bytes told word tables =
     Then (Obtains (Loads [] tables)) (λ ns. ListsLoaded bytes told word ns)
 
 -- `resources`: the registers, the kinds that are told, the files, their tables over these registers
 abbrev pub ListsResources : {F : Type 0} → Answers F → InputNames → List ℕ → Option (List ℕ) →
-    Option (List ℕ) → Step F ℕ
+    Option (List ℕ) → Step F Status
 ListsResources answers names word regs kinds =
     Then (ReadsRegisters answers regs) (λ registers.
     Then (ReadsSignatures answers kinds) (λ signatures.
@@ -435,22 +437,22 @@ Follows madt links prt =
     Tries (λ found. routes_with madt links prt ≡ Ok found) (FollowsNot madt links prt)
 
 -- the routes of a package have their lines; any other value is no _PRT
-abbrev pub ListsValue : Option Madt → Links → Value → Step (Unit {0}) ℕ
+abbrev pub ListsValue : Option Madt → Links → Value → Step (Unit {0}) Status
 ListsValue madt links (Pkg elements) =
-    Then (Obtains (Follows madt links (Pkg elements))) (λ routes. Tells (routes_text routes) 0)
+    Then (Obtains (Follows madt links (Pkg elements))) (λ routes. Tells (routes_text routes) exit.Done)
 ListsValue madt links v = Obtains (λ r. r ≡ Err (nowhere cause.NotPackage))
 
 -- `routing` by what the object gives, and the items of the links that it names; a method that is
 -- not accepted has its line
-abbrev pub ListsPrt : Option Madt → Checked → ℕ → Given → Links → Step (Unit {0}) ℕ
+abbrev pub ListsPrt : Option Madt → Checked → ℕ → Given → Links → Step (Unit {0}) Status
 ListsPrt madt checked id (given.Value v) links = ListsValue madt links (view v)
 ListsPrt madt checked id given.Nothing links = Obtains (λ r. r ≡ Err (nowhere cause.NotPackage))
-ListsPrt madt checked id given.Refused links = Tells (said_text checked (record { 0 = id })) 3
+ListsPrt madt checked id given.Refused links = Tells (said_text checked (record { 0 = id })) exit.Refused
 
 -- `routing` of a namespace, over registers of these bytes, where these kinds are told, with a MADT
 -- or none: the object of that path, the verdicts on all methods, what the object gives and then its
 -- links, where their interrupts go
-abbrev pub RoutesLoaded : (ℕ → ℕ → ℕ) → Told → Option Madt → List ℕ → Shown → Step (Unit {0}) ℕ
+abbrev pub RoutesLoaded : (ℕ → ℕ → ℕ) → Told → Option Madt → List ℕ → Shown → Step (Unit {0}) Status
 RoutesLoaded bytes told madt word ns =
     Then (Obtains (FindsObject ns word)) (λ id.
     Then (Obtains (Judges told ns)) (λ checked.
@@ -459,14 +461,14 @@ RoutesLoaded bytes told madt word ns =
 
 -- `routing` of tables: the load, and what was loaded
 abbrev pub RoutesTables : (ℕ → ℕ → ℕ) → Told → Option Madt → List ℕ → List (List ℕ) →
-    Step (Unit {0}) ℕ
+    Step (Unit {0}) Status
 RoutesTables bytes told madt word tables =
     Then (Obtains (Loads [] tables)) (λ ns. RoutesLoaded bytes told madt word ns)
 
 -- `routing`: the registers, the kinds that are told, the MADT, the files, their tables over these
 -- registers
 abbrev pub ListsRoutes : {F : Type 0} → Answers F → InputNames → List ℕ → Option (List ℕ) →
-    Option (List ℕ) → Option (List ℕ) → Step F ℕ
+    Option (List ℕ) → Option (List ℕ) → Step F Status
 ListsRoutes answers names word regs kinds controllers =
     Then (ReadsRegisters answers regs) (λ registers.
     Then (ReadsSignatures answers kinds) (λ signatures.
@@ -481,7 +483,7 @@ abbrev pub Asks : List (List ℕ) → Result Request Fault → Type 0
 Asks words = Tries (AsksFor words) (λ f. (f ≡ nowhere cause.CommandLine) × AsksNothing words)
 
 -- what is asked for is done, with files of a source
-abbrev pub Obeys : {F : Type 0} → Answers F → Request → Step F ℕ
+abbrev pub Obeys : {F : Type 0} → Answers F → Request → Step F Status
 Obeys answers (Tables names) = ListsFiles answers 0 (map (λ name. name.now) (vec_items names))
 Obeys answers (Names names) = ListsNames answers names
 Obeys answers (Verify request) =
@@ -500,17 +502,17 @@ Obeys answers (Routing request) =
     (option_map (λ name. name.now) request.asked.kinds) (option_map (λ name. name.now) request.madt)
 
 -- a command: its words, and what they ask for
-abbrev pub ObeysWords : {F : Type 0} → Answers F → List (List ℕ) → Step F ℕ
+abbrev pub ObeysWords : {F : Type 0} → Answers F → List (List ℕ) → Step F Status
 ObeysWords answers words = Then (Obtains (Asks words)) (Obeys answers)
 
 -- a fault's line is listed, and its status answered
-abbrev pub Reports : Fault → Option (List ℕ) → Option (List ℕ) → Result ℕ RunFault → Type 0
+abbrev pub Reports : Fault → Option (List ℕ) → Option (List ℕ) → Result Status RunFault → Type 0
 Reports f held holds r =
     IfOk r (λ ended. ended ≡ fault_status f) × Lists r held holds (fault_line f)
 
 -- what a command wrote, how it ended, and what stands in the writer: its text, behind that a
 -- fault's line where it ended with a fault
-abbrev pub IsTold : List ℕ → Result ℕ Stop → Option (List ℕ) → Option (List ℕ) → Result ℕ RunFault →
+abbrev pub IsTold : List ℕ → Result Status Stop → Option (List ℕ) → Option (List ℕ) → Result Status RunFault →
     Type 0
 IsTold text (Ok status) held holds r = (r ≡ Ok status) × Appends held holds text
 IsTold text (Err (Faulty f)) held holds r =
@@ -519,14 +521,14 @@ IsTold text (Err (Run f)) held holds r = (r ≡ Err f) × Appends held holds tex
 
 -- a command by its words, and what is told of it
 abbrev pub RunsWords : {F : Type 0} → Answers F → List (List ℕ) → F → F → Option (List ℕ) →
-    Option (List ℕ) → Result ℕ RunFault → Type 0
+    Option (List ℕ) → Result Status RunFault → Type 0
 RunsWords answers words old new held holds r =
-    (text : List ℕ) × (ended : Result ℕ Stop) × ObeysWords answers words old text ended new ×
+    (text : List ℕ) × (ended : Result Status Stop) × ObeysWords answers words old text ended new ×
     IsTold text ended held holds r
 
 -- a command by what was read of standard input: by the words of the first line, with the files on
 -- the others
-abbrev pub RunsBytes : List ℕ → Bool → Option (List ℕ) → Option (List ℕ) → Result ℕ RunFault →
+abbrev pub RunsBytes : List ℕ → Bool → Option (List ℕ) → Option (List ℕ) → Result Status RunFault →
     Type 0
 RunsBytes bytes whole held holds r =
     ((words : List (List ℕ)) × (old new : HexLines) × StartsWith bytes whole words old ×
@@ -536,8 +538,8 @@ RunsBytes bytes whole held holds r =
 
 -- a command by standard input
 abbrev pub RunsInput : Option (List ℕ) → Option (List ℕ) → Option (List ℕ) → Option (List ℕ) →
-    Result ℕ RunFault → Type 0
+    Result Status RunFault → Type 0
 RunsInput old new held holds r =
     Reports (nowhere cause.NoMemory) held holds r
     ⊎ ((read : Input) × IsRead old new read ×
-    RunsBytes (vec_items read.bytes) read.is_whole held holds r)
+    RunsBytes (vec_items read.bytes) (is_whole read.end) held holds r)

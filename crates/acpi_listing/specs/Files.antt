@@ -10,6 +10,8 @@ use Rattle.acpi_tables.specs.declared.fault.TableFault.{TableFault}
 use Rattle.acpi_text.specs.Tables.{table_text}
 use Rattle.acpi_text.specs.declared.table.Table.{Table}
 use Rattle.acpi_listing.specs.Steps.{Step, Then, Quietly, Obtains, Ends, Prints}
+use Rattle.acpi_sources.specs.declared.status.Status.{Status}
+use Rattle.acpi_sources.specs.declared.status.Status.TheVariants as exit
 
 -- a file is read
 abbrev pub Reads : {F : Type 0} → Answers F → List ℕ → Step F (List ℕ)
@@ -30,7 +32,7 @@ ListsFile answers number name =
     Prints (table_text table)))
 
 -- files are listed one after the other
-abbrev pub ListsFiles : {F : Type 0} → Answers F → ℕ → List (List ℕ) → Step F ℕ
-ListsFiles answers number [] = Ends 0
+abbrev pub ListsFiles : {F : Type 0} → Answers F → ℕ → List (List ℕ) → Step F Status
+ListsFiles answers number [] = Ends exit.Done
 ListsFiles answers number (name ∷ names) =
     Then (ListsFile answers number name) (λ _. ListsFiles answers (number + 1) names)

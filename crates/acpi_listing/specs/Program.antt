@@ -5,11 +5,13 @@ use Rattle.acpi_text.specs.declared.writing.RunFault.{RunFault}
 use Rattle.acpi_listing.specs.Commands.{Reports, RunsWords, RunsInput}
 use Rattle.acpi_sources.specs.Files.{Answers}
 use Rattle.acpi_sources.specs.declared.fault.Fault.{Fault}
+use Rattle.acpi_sources.specs.declared.status.Status.{Status}
+use Rattle.acpi_sources.specs.declared.status.Status.TheVariants as exit
 
 -- a command by words where there are some, and standard input is left alone; else by standard input,
 -- and no file is asked for
 abbrev pub RunsByWords : {F : Type 0} → Answers F → F → F → List (List ℕ) → Option (List ℕ) →
-    Option (List ℕ) → Option (List ℕ) → Option (List ℕ) → Result ℕ RunFault → Type 0
+    Option (List ℕ) → Option (List ℕ) → Option (List ℕ) → Result Status RunFault → Type 0
 RunsByWords answers old new [] from to held holds r =
     RunsInput from to held holds r × (new ≡ old)
 RunsByWords answers old new (word ∷ words) from to held holds r =
@@ -17,7 +19,7 @@ RunsByWords answers old new (word ∷ words) from to held holds r =
 
 -- words that cannot be had are told as a fault, and nothing is read
 abbrev pub RunsEither : {F B : Type 0} → Answers F → F → F → Result (Vec (String B) B) Fault →
-    Option (List ℕ) → Option (List ℕ) → Option (List ℕ) → Option (List ℕ) → Result ℕ RunFault →
+    Option (List ℕ) → Option (List ℕ) → Option (List ℕ) → Option (List ℕ) → Result Status RunFault →
     Type 0
 RunsEither answers old new (Ok words) from to held holds r =
     RunsByWords answers old new (map string_bytes (vec_items words)) from to held holds r
@@ -26,15 +28,15 @@ RunsEither answers old new (Err f) from to held holds r =
 
 -- the status of an end, with the bytes that are left unwritten: that of the command where there are
 -- none, else 1
-abbrev pub IsStatusOf : Result ℕ RunFault → List ℕ → ℕ → Type 0
+abbrev pub IsStatusOf : Result Status RunFault → List ℕ → Status → Type 0
 IsStatusOf (Ok ended) [] status = status ≡ ended
-IsStatusOf (Ok ended) (byte ∷ more) status = status ≡ 1
-IsStatusOf (Err _) unwritten status = status ≡ 1
+IsStatusOf (Ok ended) (byte ∷ more) status = status ≡ exit.Fault
+IsStatusOf (Err _) unwritten status = status ≡ exit.Fault
 
 -- the program: what it prints, of that a beginning where a write fails, and its status
 abbrev pub RunsProgram : {F B : Type 0} → Answers F → F → F → Result (Vec (String B) B) Fault →
-    Option (List ℕ) → Option (List ℕ) → Option (List ℕ) → Option (List ℕ) → List ℕ → ℕ → Type 0
+    Option (List ℕ) → Option (List ℕ) → Option (List ℕ) → Option (List ℕ) → List ℕ → Status → Type 0
 RunsProgram answers old new words from to held holds unwritten status =
-    (ended : Result ℕ RunFault) × (between : Option (List ℕ)) ×
+    (ended : Result Status RunFault) × (between : Option (List ℕ)) ×
     RunsEither answers old new words from to held between ended
     × Keeps between holds × IsStatusOf ended unwritten status

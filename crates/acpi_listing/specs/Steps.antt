@@ -4,6 +4,7 @@ use Rattle.std.specs.Io.KnownBytes.{Appends}
 use Rattle.acpi_sources.specs.declared.fault.Fault.{Fault}
 use Rattle.acpi_listing.specs.declared.stop.Stop.{Stop}
 use Rattle.acpi_listing.specs.declared.stop.Stop.TheVariants.{Fault as Faulty, Run}
+use Rattle.acpi_sources.specs.declared.status.Status.{Status}
 
 -- a step: a source of files, what is written, a value or what stops the command, and the source
 -- behind it
@@ -31,7 +32,7 @@ abbrev pub Obtains : {F V : Type 0} → (Result V Fault → Type 0) → Step F V
 Obtains is = Quietly (λ old r new. is r × (new ≡ old))
 
 -- the end of a command, with this status
-abbrev pub Ends : {F : Type 0} → ℕ → Step F ℕ
+abbrev pub Ends : {F : Type 0} → Status → Step F Status
 Ends status = Obtains (λ r. r ≡ Ok status)
 
 -- a text is written; or writing stops the command, behind a beginning of the text
@@ -41,7 +42,7 @@ Prints line old text (Err (Faulty _)) new = ⊥
 Prints line old text (Err (Run _)) new = ((rest : List ℕ) × (line ≡ text ++ rest)) × (new ≡ old)
 
 -- the last text of a command, and its status
-abbrev pub Tells : {F : Type 0} → List ℕ → ℕ → Step F ℕ
+abbrev pub Tells : {F : Type 0} → List ℕ → Status → Step F Status
 Tells line status = Then (Prints line) (λ _. Ends status)
 
 -- steps that need no source, where there is one

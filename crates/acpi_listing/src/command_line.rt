@@ -1,20 +1,19 @@
 // The program: its words, its streams and its status.
 
-ghost use Rattle.std.specs.Prelude.{◌≤◌, IfOk};
 ghost use Rattle.std.specs.Io.Buffered.{writer_buffer, writer_contents};
 ghost use Rattle.std.specs.Io.KnownBytes.{Keeps};
 ghost use Rattle.acpi_listing.specs.Program.{RunsEither, RunsProgram};
 
 use crate::program::{report, run_noted, run_words_noted};
-use acpi_sources::{Fault, FaultCause, Source};
+use acpi_sources::{Fault, FaultCause, Source, Status};
 use acpi_text::RunFault;
 use acpi_words::{Notes, StandardError};
 use std::alloc::Global;
 use std::io::{BufWriter, ErrorKind, Read, Write};
 
-/// Runs the program by its words, without words by its standard input, and answers the status that
-/// it ends with: that of [`run_words`] or [`run`], and 1 where not all was written. By words standard
-/// input is left alone; by standard input no file is asked for.
+/// Runs the program by its words, without words by its standard input, and answers how it ended: as
+/// [`run_words`] or [`run`], and with a fault where not all was written. By words standard input is
+/// left alone; by standard input no file is asked for.
 pub fn run_program<R: Read, F: Source, W: Write + Drop, N: Eprint>(
     alloc: Global,
     words: Result<Vec<String>, Fault>,
@@ -22,18 +21,17 @@ pub fn run_program<R: Read, F: Source, W: Write + Drop, N: Eprint>(
     files: &mut F,
     out: &mut BufWriter<W>,
     notes: &N,
-) -> u8
-    ensures printed { RunsProgram F.answers files.old files.new words
+) -> Status
+    ensures { RunsProgram F.answers files.old files.new words
         (R.remaining input.old) (R.remaining input.new)
         (writer_contents W.contents out.old) (writer_contents W.contents out.new)
         (writer_buffer out.new) result }
-    ensures status { result ≤ 3 }
 {
     let ended = run_either(alloc, words, input, files, out, &StandardError::new(notes));
     write_held(out, notes);
     match ended {
         Ok(status) if out.buffer().is_empty() => status,
-        _ => 1,
+        _ => Status::Fault,
     }
 }
 
@@ -45,11 +43,10 @@ fn run_either<R: Read, F: Source, W: Write, N: Notes>(
     files: &mut F,
     out: &mut W,
     notes: &N,
-) -> Result<u8, RunFault>
-    ensures printed { RunsEither F.answers files.old files.new words
+) -> Result<Status, RunFault>
+    ensures { RunsEither F.answers files.old files.new words
         (R.remaining input.old) (R.remaining input.new)
         (W.contents out.old) (W.contents out.new) result }
-    ensures status { IfOk result (λ status. status ≤ 3) }
 {
     let words = match words {
         Ok(words) => words,

@@ -1,6 +1,6 @@
 // The command `eval`.
 
-ghost use Rattle.std.specs.Prelude.{◌≡◌, ◌≤◌, ◌↔◌, [], IsSome, None, Some, true};
+ghost use Rattle.std.specs.Prelude.{◌≡◌, ◌↔◌, [], IsSome, None, Some, true};
 ghost use Rattle.std.specs.Prelude.{IfOk, IfErr, map, option_map, vec_items};
 ghost use Rattle.acpi_words.specs.Arguments.{ListsArguments, ListsBadArguments};
 ghost use Rattle.aml_values.specs.Views.{view};
@@ -26,6 +26,7 @@ ghost use Rattle.aml_verify.specs.declared.verdict.Verdict.TheVariants as verdic
 ghost use Rattle.aml_signatures.specs.Signed.{kinds_told};
 ghost use Rattle.acpi_text.specs.Outcome.{refusal_line};
 ghost use Rattle.acpi_sources.specs.declared.fault.FaultCause.TheVariants as cause;
+ghost use Rattle.acpi_sources.specs.declared.status.Status.TheVariants as exit;
 
 use crate::load::load_counted;
 use crate::regs::read_registers;
@@ -36,12 +37,12 @@ use crate::tell::{
     tell_unread, tell_untold,
 };
 use crate::verify::verdicts_on;
-use acpi_sources::{Fault, FaultCause, Inputs, Source};
+use acpi_sources::{Fault, FaultCause, Inputs, Source, Status};
 use acpi_text::{RunFault, list_evaluation, list_events, list_refusal};
 use acpi_verdicts::list_said;
 use acpi_words::{EvalRequest, Notes, read_arguments};
 use aml_contents::Names;
-use aml_interp::evaluate as value_of;
+use aml_interp::evaluate as evaluate_accepted;
 use aml_meaning::Outcome;
 use aml_namespace::{Method, Namespace, Width};
 use aml_operators::Term;
@@ -59,15 +60,14 @@ use std::io::Write;
 /// Evaluates a method, and prints its events and how that ended: with a number of steps that is
 /// given, or with as many as the verdict on it says; a method that is refused has the line of its
 /// verdict.
-pub fn evaluate<F: Source, N: Notes, W: Write>(
+pub(crate) fn evaluate<F: Source, N: Notes, W: Write>(
     alloc: Global,
     request: &EvalRequest<'_>,
     files: &mut F,
     notes: &N,
     out: &mut W,
-) -> Result<u8, Stop>
-    ensures status { IfOk result (λ status. status ≤ 3) }
-    ensures printed { Writes (EvaluatesFiles F.answers request.now.inputs request.now.method.now
+) -> Result<Status, Stop>
+    ensures { Writes (EvaluatesFiles F.answers request.now.inputs request.now.method.now
         (option_map (λ text. text.now) request.now.args)
         (option_map (λ name. name.now) request.now.regs)
         (option_map (λ name. name.now) request.now.kinds) request.now.steps
@@ -78,16 +78,16 @@ pub fn evaluate<F: Source, N: Notes, W: Write>(
     let registers = read_registers(alloc, request.regs, files, notes)?;
     let signatures = read_signatures(alloc, request.kinds, files, notes)?;
     let inputs = Inputs::read(alloc, &request.inputs, files)?;
-    let given = Given {
+    let setup = Setup {
         arguments,
         registers,
     };
-    evaluate_inputs(alloc, request, given, &signatures, &inputs, notes, out)
+    evaluate_inputs(alloc, request, setup, &signatures, &inputs, notes, out)
 }
 
 // What a method is evaluated with: its arguments, and the registers that answer it.
 #[derive(Drop)]
-struct Given {
+struct Setup {
     arguments: Vec<Value>,
     registers: Registers,
 }
@@ -130,18 +130,17 @@ fn interfaces_of<'a>(alloc: Global, osi: Option<&'a str>) -> Result<Vec<&'a [u8]
 fn evaluate_inputs<N: Notes, W: Write>(
     alloc: Global,
     request: &EvalRequest<'_>,
-    given: Given,
+    setup: Setup,
     signatures: &Signatures,
     inputs: &Inputs,
     notes: &N,
     out: &mut W,
-) -> Result<u8, Stop>
-    requires set { TextSets given.registers.text.items (contents given.registers.file) }
-    requires fresh { given.registers.file.events.items ≡ [] }
-    ensures status { IfOk result (λ status. status ≤ 3) }
-    ensures printed { Writes
-        (EvaluatesTables (contents given.registers.file) (kinds_told signatures.now)
-        request.now.method.now (map view (vec_items given.arguments)) request.now.steps
+) -> Result<Status, Stop>
+    requires set { TextSets setup.registers.text.items (contents setup.registers.file) }
+    requires fresh { setup.registers.file.events.items ≡ [] }
+    ensures { Writes
+        (EvaluatesTables (contents setup.registers.file) (kinds_told signatures.now)
+        request.now.method.now (map view (vec_items setup.arguments)) request.now.steps
         (interfaces_of (option_map (λ text. text.now) request.now.osi)) (tables_of inputs.now)) tt
         tt (W.contents out.old) (W.contents out.new) result }
 {
@@ -151,11 +150,11 @@ fn evaluate_inputs<N: Notes, W: Write>(
     match request.steps {
         Some(steps) => {
             evaluate_method(
-                alloc, request, &namespace, id, method, given, steps, notes, out,
+                alloc, request, &namespace, id, method, setup, steps, notes, out,
             )
         }
         None => evaluate_judged(
-            alloc, request, &namespace, signatures, id, method, given, notes, out,
+            alloc, request, &namespace, signatures, id, method, setup, notes, out,
         ),
     }
 }
@@ -168,17 +167,16 @@ fn evaluate_judged<N: Notes, W: Write>(
     signatures: &Signatures,
     id: ObjectId,
     method: Method,
-    given: Given,
+    setup: Setup,
     notes: &N,
     out: &mut W,
-) -> Result<u8, Stop>
+) -> Result<Status, Stop>
     requires there { method_at (shown namespace.now) id.0 ≡ Some method }
-    requires set { TextSets given.registers.text.items (contents given.registers.file) }
-    requires fresh { given.registers.file.events.items ≡ [] }
-    ensures status { IfOk result (λ status. status ≤ 3) }
-    ensures printed { Writes
-        (EvaluatesFound (contents given.registers.file) (kinds_told signatures.now)
-        (shown namespace.now) (map view (vec_items given.arguments)) None (id.0, method))
+    requires set { TextSets setup.registers.text.items (contents setup.registers.file) }
+    requires fresh { setup.registers.file.events.items ≡ [] }
+    ensures { Writes
+        (EvaluatesFound (contents setup.registers.file) (kinds_told signatures.now)
+        (shown namespace.now) (map view (vec_items setup.arguments)) None (id.0, method))
         tt tt (W.contents out.old) (W.contents out.new) result }
 {
     let checked = verdicts_on(alloc, namespace, signatures)?;
@@ -188,23 +186,23 @@ fn evaluate_judged<N: Notes, W: Write>(
         tell_paths(alloc, notes, namespace, signatures);
         tell_untold(notes, &checked, &[id], request.kinds);
         tell_plain(notes, &checked, id);
-        return tell_said(alloc, out, &checked, id);
+        return print_said(alloc, out, &checked, id);
     }
-    if !checked.accepts(id, &given.arguments) {
+    if !checked.accepts(id, &setup.arguments) {
         tell_misfit(
             alloc,
             notes,
             namespace,
             request.method,
             method,
-            &given.arguments,
-            checked.misfit(id, &given.arguments),
+            &setup.arguments,
+            checked.misfit(id, &setup.arguments),
         );
         return Err(Stop::Fault(Fault::nowhere(FaultCause::ArgsDontFit)));
     }
-    let mut registers = given.registers;
-    let outcome = done_over(alloc, &checked, id, given.arguments, &mut registers)?;
-    tell_outcome(alloc, out, namespace, &outcome, registers.events())
+    let mut registers = setup.registers;
+    let outcome = done_over(alloc, &checked, id, setup.arguments, &mut registers)?;
+    print_outcome(alloc, out, namespace, &outcome, registers.events())
 }
 
 // How an accepted method's evaluation ends, from what the names of the tables hold first, over
@@ -227,7 +225,7 @@ fn done_over(
         (with_events result (events_of world.new.file.events.items)) }
 {
     let mut names = Names::initial(alloc, checked.namespace())?;
-    let value = value_of(alloc, checked, &mut names, id, arguments, world)?;
+    let value = evaluate_accepted(alloc, checked, &mut names, id, arguments, world)?;
     Ok(Outcome::Done(value))
 }
 
@@ -250,17 +248,16 @@ fn evaluate_method<N: Notes, W: Write>(
     namespace: &Namespace<'_>,
     id: ObjectId,
     method: Method,
-    given: Given,
+    setup: Setup,
     steps: u64,
     notes: &N,
     out: &mut W,
-) -> Result<u8, Stop>
+) -> Result<Status, Stop>
     requires there { method_at (shown namespace.now) id.0 ≡ Some method }
-    requires set { TextSets given.registers.text.items (contents given.registers.file) }
-    requires fresh { given.registers.file.events.items ≡ [] }
-    ensures status { IfOk result (λ status. status ≤ 3) }
-    ensures printed { Writes (EvaluatesMethod (contents given.registers.file) (shown namespace.now)
-        (map view (vec_items given.arguments)) steps (id.0, method))
+    requires set { TextSets setup.registers.text.items (contents setup.registers.file) }
+    requires fresh { setup.registers.file.events.items ≡ [] }
+    ensures { Writes (EvaluatesMethod (contents setup.registers.file) (shown namespace.now)
+        (map view (vec_items setup.arguments)) steps (id.0, method))
         tt tt (W.contents out.old) (W.contents out.new) result }
 {
     let body = match namespace.tree(alloc, id) {
@@ -269,34 +266,34 @@ fn evaluate_method<N: Notes, W: Write>(
         Err(TreeFault::Refused(refusal)) => {
             let names = request.inputs.files.as_slice();
             tell_unread(alloc, notes, namespace, names, id, method.table, refusal);
-            return tell_refusal(alloc, out, namespace, id, method.table, refusal);
+            return print_refusal(alloc, out, namespace, id, method.table, refusal);
         }
     };
-    if !fits(namespace, method, &given.arguments) {
+    if !fits(namespace, method, &setup.arguments) {
         tell_misfit(
             alloc,
             notes,
             namespace,
             request.method,
             method,
-            &given.arguments,
+            &setup.arguments,
             None,
         );
         return Err(Stop::Fault(Fault::nowhere(FaultCause::ArgsDontFit)));
     }
-    let mut world = given.registers;
+    let mut world = setup.registers;
     let outcome = outcome_of(
         alloc,
         namespace,
         id,
         body,
-        given.arguments,
+        setup.arguments,
         &mut world,
         steps,
     )?;
     let names = request.inputs.files.as_slice();
     tell_error(alloc, notes, namespace, names, &outcome);
-    tell_outcome(alloc, out, namespace, &outcome, world.events())
+    print_outcome(alloc, out, namespace, &outcome, world.events())
 }
 
 // How a method's evaluation ends, from what the names of the tables hold first, over registers.
@@ -341,15 +338,14 @@ fn list_ended<W: Write>(
 }
 
 // Prints the events of an evaluation and how it ended, and answers the status of that.
-fn tell_outcome<W: Write>(
+fn print_outcome<W: Write>(
     alloc: Global,
     out: &mut W,
     namespace: &Namespace<'_>,
     outcome: &Outcome,
     events: &[Event],
-) -> Result<u8, Stop>
-    ensures status { IfOk result (λ status. status ≤ 3) }
-    ensures printed { let entries = (shown namespace.now).entries in
+) -> Result<Status, Stop>
+    ensures { let entries = (shown namespace.now).entries in
         let text = evaluation_text entries (outcome.now, events_of events.now) in
         Writes (Tells text (outcome_status outcome.now))
         (tt {0}) (tt {0}) (W.contents out.old) (W.contents out.new) result }
@@ -359,36 +355,34 @@ fn tell_outcome<W: Write>(
 }
 
 /// Prints what is said of a method that is not accepted, and answers the status of that.
-pub fn tell_said<W: Write>(
+pub(crate) fn print_said<W: Write>(
     alloc: Global,
     out: &mut W,
     checked: &Checked<'_>,
     id: ObjectId,
-) -> Result<u8, Stop>
-    ensures status { IfOk result (λ status. status ≤ 3) }
-    ensures printed { Writes (Tells (said_text checked.now id) 3) (tt {0}) (tt {0})
+) -> Result<Status, Stop>
+    ensures { Writes (Tells (said_text checked.now id) exit.Refused) (tt {0}) (tt {0})
         (W.contents out.old) (W.contents out.new) result }
 {
     list_said(alloc, out, checked, id)?;
-    Ok(3)
+    Ok(Status::Refused)
 }
 
 // Prints that a method's body cannot be read, and answers the status of that.
-fn tell_refusal<W: Write>(
+fn print_refusal<W: Write>(
     alloc: Global,
     out: &mut W,
     namespace: &Namespace<'_>,
     id: ObjectId,
     table: usize,
     refusal: Refusal,
-) -> Result<u8, Stop>
-    ensures status { IfOk result (λ status. status ≤ 3) }
-    ensures printed { let path = printed_path (shown namespace.now) id.0 in
-        Writes (Tells (refusal_line path table refusal) 3) (tt {0}) (tt {0})
+) -> Result<Status, Stop>
+    ensures { let path = printed_path (shown namespace.now) id.0 in
+        Writes (Tells (refusal_line path table refusal) exit.Refused) (tt {0}) (tt {0})
         (W.contents out.old) (W.contents out.new) result }
 {
     list_refusal(alloc, out, namespace, id, table, refusal)?;
-    Ok(3)
+    Ok(Status::Refused)
 }
 
 // The method whose printed path, or an alias's, the word is.
@@ -447,12 +441,11 @@ fn is_taken(greatest: u64, value: &Value) -> bool
     }
 }
 
-fn status_of(outcome: &Outcome) -> u8
-    ensures value { result ≡ outcome_status outcome.now }
-    ensures most { result ≤ 3 }
+fn status_of(outcome: &Outcome) -> Status
+    ensures { result ≡ outcome_status outcome.now }
 {
     match outcome {
-        Outcome::Done(_) => 0,
-        Outcome::AmlError(_) | Outcome::OutOfSteps => 3,
+        Outcome::Done(_) => Status::Done,
+        Outcome::AmlError(_) | Outcome::OutOfSteps => Status::Refused,
     }
 }

@@ -1,33 +1,32 @@
 // The command `tables`: files that are read and listed one after the other.
 
-ghost use Rattle.std.specs.Prelude.{◌≤◌, IfOk, map};
+ghost use Rattle.std.specs.Prelude.{map};
 ghost use Rattle.acpi_listing.specs.Files.{ListsFile, ListsFiles};
 ghost use Rattle.acpi_listing.specs.Steps.{Writes};
 
 use crate::stop::Stop;
 use crate::tell::tell_table;
-use acpi_sources::{Fault, Source, read_any_table, read_within_limit};
+use acpi_sources::{Fault, Source, Status, read_any_table, read_within_limit};
 use acpi_text::list_tables;
 use acpi_words::Notes;
 use std::alloc::Global;
 use std::io::Write;
 
 /// Lists files one by one, each read when those before it were listed.
-pub fn list_files<F: Source, N: Notes, W: Write>(
+pub(crate) fn list_files<F: Source, N: Notes, W: Write>(
     alloc: Global,
     names: &[&str],
     files: &mut F,
     notes: &N,
     out: &mut W,
-) -> Result<u8, Stop>
-    ensures status { IfOk result (λ status. status ≤ 3) }
-    ensures printed { Writes (ListsFiles F.answers 0 (map (λ name. name.now) names.now))
+) -> Result<Status, Stop>
+    ensures { Writes (ListsFiles F.answers 0 (map (λ name. name.now) names.now))
         files.old files.new (W.contents out.old) (W.contents out.new) result }
 {
     for (number, name) in names.iter().enumerate() {
         list_file(alloc, number, name, files, notes, out)?;
     }
-    Ok(0)
+    Ok(Status::Done)
 }
 
 fn list_file<F: Source, N: Notes, W: Write>(

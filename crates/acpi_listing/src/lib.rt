@@ -21,4 +21,4 @@ mod tell;
 mod verify;
 
 pub use command_line::run_program;
-pub use program::{run, run_noted, run_words, run_words_noted};
+pub use program::{run, run_words};

@@ -20,7 +20,7 @@ const OS_NAME: &[u8] = b"acpicheck";
 /// the files, with the texts that `_OSI` knows.
 ///
 /// Faults: E101 to E104, E201 to E209, E301 to E304, with table and place; E524.
-pub fn load<'a, N: Notes>(
+pub(crate) fn load<'a, N: Notes>(
     alloc: Global,
     inputs: &'a Inputs,
     names: &InputNames<'_>,
@@ -50,7 +50,7 @@ pub fn load<'a, N: Notes>(
 /// tables declare as others'.
 ///
 /// Faults: those of `load`.
-pub fn load_counted<'a, N: Notes>(
+pub(crate) fn load_counted<'a, N: Notes>(
     alloc: Global,
     inputs: &'a Inputs,
     names: &InputNames<'_>,

@@ -12,7 +12,7 @@ use std::alloc::Global;
 /// The bytes of the file of that name; without a name there are none.
 ///
 /// Faults: E523 of a file that cannot be read or is too large; E524.
-pub fn read_controllers<F: Source>(
+pub(crate) fn read_controllers<F: Source>(
     name: Option<&str>,
     files: &mut F,
 ) -> Result<Option<Vec<u8>>, Fault>
@@ -29,7 +29,7 @@ pub fn read_controllers<F: Source>(
 /// The MADT that fills the bytes of the file of that name, where there are some.
 ///
 /// Faults: E101 to E105, with the byte alone.
-pub fn madt_of<'a, N: Notes>(
+pub(crate) fn madt_of<'a, N: Notes>(
     alloc: Global,
     name: Option<&str>,
     bytes: &'a Option<Vec<u8>>,

@@ -30,7 +30,7 @@ use aml_verify::Checked;
 use std::alloc::Global;
 
 /// The object whose printed path, or an alias's, the word is, where it gives a value.
-pub fn find_object<N: Notes>(
+pub(crate) fn find_object<N: Notes>(
     alloc: Global,
     namespace: &Namespace<'_>,
     word: &str,
@@ -53,7 +53,7 @@ pub fn find_object<N: Notes>(
 
 /// What an object that gives a value gives, from what the names of the tables hold first, over
 /// registers.
-pub fn given_over(
+pub(crate) fn given_over(
     alloc: Global,
     checked: &Checked<'_>,
     id: ObjectId,
@@ -73,7 +73,7 @@ pub fn given_over(
 
 /// What an object that gives a value gives, and the items of the links that it names, from what the
 /// names of the tables hold first, over registers. People are told which link is at fault.
-pub fn prt_over<N: Notes>(
+pub(crate) fn prt_over<N: Notes>(
     alloc: Global,
     checked: &Checked<'_>,
     id: ObjectId,

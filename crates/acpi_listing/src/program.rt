@@ -1,6 +1,6 @@
 // The program over any source of files and any writer.
 
-ghost use Rattle.std.specs.Prelude.{◌≤◌, IfOk, map};
+ghost use Rattle.std.specs.Prelude.{map};
 ghost use Rattle.acpi_listing.specs.Commands.{ObeysWords, Reports, RunsWords, RunsInput};
 ghost use Rattle.acpi_listing.specs.Steps.{Writes};
 
@@ -12,16 +12,14 @@ use crate::routing::list_routes_of;
 use crate::stop::Stop;
 use crate::tell::tell_end;
 use crate::verify::verify_files;
-use acpi_sources::{Fault, FaultCause, Source, list_fault, read_input};
+use acpi_sources::{Fault, FaultCause, Source, Status, list_fault, read_input};
 use acpi_text::RunFault;
 use acpi_words::{LineNotes, Notes, Request, Silent, read_first_line, read_words, start_note};
 use std::alloc::Global;
 use std::convert::AsStr;
 use std::io::{Read, Write};
 
-/// Runs the command that the words ask for, and answers the status that the program ends with: 0
-/// done; 1 a fault; 2 words that are no command line; 3 a refused method, one that cannot be read,
-/// an AML error, or out of steps.
+/// Runs the command that the words ask for, and answers how it ended.
 ///
 /// A fault's line is written last.
 pub fn run_words<S: AsStr, F: Source, W: Write>(
@@ -29,24 +27,22 @@ pub fn run_words<S: AsStr, F: Source, W: Write>(
     words: &[S],
     files: &mut F,
     out: &mut W,
-) -> Result<u8, RunFault>
-    ensures status { IfOk result (λ status. status ≤ 3) }
-    ensures printed { RunsWords F.answers (map S.text words.entry.now) files.old files.new
+) -> Result<Status, RunFault>
+    ensures { RunsWords F.answers (map S.text words.entry.now) files.old files.new
         (W.contents out.old) (W.contents out.new) result }
 {
     run_words_noted(alloc, words, files, &Silent, out)
 }
 
 /// As [`run_words`], and tells of a fault more than its line.
-pub fn run_words_noted<S: AsStr, F: Source, N: Notes, W: Write>(
+pub(crate) fn run_words_noted<S: AsStr, F: Source, N: Notes, W: Write>(
     alloc: Global,
     words: &[S],
     files: &mut F,
     notes: &N,
     out: &mut W,
-) -> Result<u8, RunFault>
-    ensures status { IfOk result (λ status. status ≤ 3) }
-    ensures printed { RunsWords F.answers (map S.text words.entry.now) files.old files.new
+) -> Result<Status, RunFault>
+    ensures { RunsWords F.answers (map S.text words.entry.now) files.old files.new
         (W.contents out.old) (W.contents out.new) result }
 {
     match obey(alloc, words, files, notes, out) {
@@ -64,23 +60,21 @@ pub fn run_words_noted<S: AsStr, F: Source, N: Notes, W: Write>(
 ///
 /// Answers as [`run_words`]. E523 where there is no line, or the input cannot be read to its end or
 /// has more than 16,777,216 bytes.
-pub fn run<R: Read, W: Write>(alloc: Global, input: &mut R, out: &mut W) -> Result<u8, RunFault>
-    ensures status { IfOk result (λ status. status ≤ 3) }
-    ensures printed { RunsInput (R.remaining input.old) (R.remaining input.new)
+pub fn run<R: Read, W: Write>(alloc: Global, input: &mut R, out: &mut W) -> Result<Status, RunFault>
+    ensures { RunsInput (R.remaining input.old) (R.remaining input.new)
         (W.contents out.old) (W.contents out.new) result }
 {
     run_noted(alloc, input, &Silent, out)
 }
 
 /// As [`run`], and tells of a fault more than its line, a file by the number of its line.
-pub fn run_noted<R: Read, N: Notes, W: Write>(
+pub(crate) fn run_noted<R: Read, N: Notes, W: Write>(
     alloc: Global,
     input: &mut R,
     notes: &N,
     out: &mut W,
-) -> Result<u8, RunFault>
-    ensures status { IfOk result (λ status. status ≤ 3) }
-    ensures printed { RunsInput (R.remaining input.old) (R.remaining input.new)
+) -> Result<Status, RunFault>
+    ensures { RunsInput (R.remaining input.old) (R.remaining input.new)
         (W.contents out.old) (W.contents out.new) result }
 {
     let Ok(input) = read_input(alloc, input) else {
@@ -100,9 +94,8 @@ pub fn run_noted<R: Read, N: Notes, W: Write>(
 }
 
 /// Writes a fault's line, and answers its status.
-pub fn report<W: Write>(alloc: Global, out: &mut W, fault: Fault) -> Result<u8, RunFault>
-    ensures status { IfOk result (λ status. status ≤ 3) }
-    ensures told { Reports fault (W.contents out.old) (W.contents out.new) result }
+pub(crate) fn report<W: Write>(alloc: Global, out: &mut W, fault: Fault) -> Result<Status, RunFault>
+    ensures { Reports fault (W.contents out.old) (W.contents out.new) result }
 {
     list_fault(alloc, out, fault)?;
     Ok(fault.status())
@@ -114,9 +107,8 @@ fn obey<S: AsStr, F: Source, N: Notes, W: Write>(
     files: &mut F,
     notes: &N,
     out: &mut W,
-) -> Result<u8, Stop>
-    ensures status { IfOk result (λ status. status ≤ 3) }
-    ensures printed { Writes (ObeysWords F.answers (map S.text words.entry.now))
+) -> Result<Status, Stop>
+    ensures { Writes (ObeysWords F.answers (map S.text words.entry.now))
         files.old files.new (W.contents out.old) (W.contents out.new) result }
 {
     match read_words(alloc, words)? {

@@ -15,7 +15,7 @@ use std::alloc::Global;
 ///
 /// Faults: E523 of a file that cannot be read or is too large; E511 with the number of the first
 /// bad line; E524.
-pub fn read_registers<F: Source, N: Notes>(
+pub(crate) fn read_registers<F: Source, N: Notes>(
     alloc: Global,
     name: Option<&str>,
     files: &mut F,

@@ -1,6 +1,6 @@
 // The command `resources`.
 
-ghost use Rattle.std.specs.Prelude.{◌≡◌, ◌≤◌, [], Ok, Some, IfOk, option_map, vec_items};
+ghost use Rattle.std.specs.Prelude.{◌≡◌, [], Ok, Some, option_map, vec_items};
 ghost use Rattle.acpi_listing.specs.Commands.{ListsGiven, ListsItems, ListsLoaded, ListsResources, ListsTables, SpellsNoItems, octets_of};
 ghost use Rattle.acpi_sources.specs.Inputs.{tables_of};
 ghost use Rattle.acpi_listing.specs.Steps.{Tells, Writes};
@@ -13,8 +13,9 @@ ghost use Rattle.aml_regions.specs.Registers.{contents};
 ghost use Rattle.aml_regions.specs.Text.{TextSets};
 ghost use Rattle.aml_signatures.specs.Signed.{kinds_told};
 ghost use Rattle.aml_values.specs.Views.{view};
+ghost use Rattle.acpi_sources.specs.declared.status.Status.TheVariants as exit;
 
-use crate::eval::tell_said;
+use crate::eval::print_said;
 use crate::load::load_counted;
 use crate::objects::{find_object, given_over};
 use crate::regs::read_registers;
@@ -25,7 +26,7 @@ use crate::verify::verdicts_on;
 use acpi_objects::Given;
 use acpi_resource_text::list_resources;
 use acpi_resources::{Item, items};
-use acpi_sources::{Fault, FaultCause, Inputs, Source};
+use acpi_sources::{Fault, FaultCause, Inputs, Source, Status};
 use acpi_words::{Notes, ObjectRequest};
 use aml_namespace::Namespace;
 use aml_paths::ObjectId;
@@ -38,15 +39,14 @@ use std::io::Write;
 
 /// Prints the resource descriptors that an object gives: what a data name holds, or what the
 /// evaluation of an accepted method gives; a method that is refused has the line of its verdict.
-pub fn list_resources_of<F: Source, N: Notes, W: Write>(
+pub(crate) fn list_resources_of<F: Source, N: Notes, W: Write>(
     alloc: Global,
     request: &ObjectRequest<'_>,
     files: &mut F,
     notes: &N,
     out: &mut W,
-) -> Result<u8, Stop>
-    ensures status { IfOk result (λ status. status ≤ 3) }
-    ensures printed { Writes (ListsResources F.answers request.now.inputs request.now.object.now
+) -> Result<Status, Stop>
+    ensures { Writes (ListsResources F.answers request.now.inputs request.now.object.now
         (option_map (λ name. name.now) request.now.regs)
         (option_map (λ name. name.now) request.now.kinds))
         files.old files.new (W.contents out.old) (W.contents out.new) result }
@@ -66,11 +66,10 @@ fn list_inputs<N: Notes, W: Write>(
     inputs: &Inputs,
     notes: &N,
     out: &mut W,
-) -> Result<u8, Stop>
+) -> Result<Status, Stop>
     requires set { TextSets registers.text.items (contents registers.file) }
     requires fresh { registers.file.events.items ≡ [] }
-    ensures status { IfOk result (λ status. status ≤ 3) }
-    ensures printed { Writes (ListsTables (contents registers.file) (kinds_told signatures.now)
+    ensures { Writes (ListsTables (contents registers.file) (kinds_told signatures.now)
         request.now.object.now (tables_of inputs.now))
         tt tt (W.contents out.old) (W.contents out.new) result }
 {
@@ -89,11 +88,10 @@ fn list_loaded<N: Notes, W: Write>(
     namespace: &Namespace<'_>,
     notes: &N,
     out: &mut W,
-) -> Result<u8, Stop>
+) -> Result<Status, Stop>
     requires set { TextSets registers.text.items (contents registers.file) }
     requires fresh { registers.file.events.items ≡ [] }
-    ensures status { IfOk result (λ status. status ≤ 3) }
-    ensures printed { Writes (ListsLoaded (contents registers.file) (kinds_told signatures.now)
+    ensures { Writes (ListsLoaded (contents registers.file) (kinds_told signatures.now)
         request.now.object.now (shown namespace.now))
         tt tt (W.contents out.old) (W.contents out.new) result }
 {
@@ -112,9 +110,8 @@ fn list_given<N: Notes, W: Write>(
     given: &Given,
     notes: &N,
     out: &mut W,
-) -> Result<u8, Stop>
-    ensures status { IfOk result (λ status. status ≤ 3) }
-    ensures printed { Writes (ListsGiven checked.now id.0 given.now)
+) -> Result<Status, Stop>
+    ensures { Writes (ListsGiven checked.now id.0 given.now)
         tt tt (W.contents out.old) (W.contents out.new) result }
 {
     match given {
@@ -123,7 +120,7 @@ fn list_given<N: Notes, W: Write>(
         Given::Refused => {
             let names = request.inputs.files.as_slice();
             tell_reason(alloc, notes, checked, names, id);
-            tell_said(alloc, out, checked, id)
+            print_said(alloc, out, checked, id)
         }
     }
 }
@@ -145,9 +142,8 @@ fn list_items<N: Notes, W: Write>(
     octets: Option<&[u8]>,
     notes: &N,
     out: &mut W,
-) -> Result<u8, Stop>
-    ensures status { IfOk result (λ status. status ≤ 3) }
-    ensures printed { Writes (ListsItems (option_map (λ octets. octets.now) octets.entry))
+) -> Result<Status, Stop>
+    ensures { Writes (ListsItems (option_map (λ octets. octets.now) octets.entry))
         tt tt (W.contents out.old) (W.contents out.new) result }
 {
     match octets {
@@ -173,13 +169,12 @@ fn list_spelled<N: Notes, W: Write>(
     octets: &[u8],
     notes: &N,
     out: &mut W,
-) -> Result<u8, Stop>
-    ensures status { IfOk result (λ status. status ≤ 3) }
-    ensures printed { Writes (ListsItems (Some octets.now))
+) -> Result<Status, Stop>
+    ensures { Writes (ListsItems (Some octets.now))
         tt tt (W.contents out.old) (W.contents out.new) result }
 {
     let items = spelled_items(alloc, object, octets, notes)?;
-    tell_items(alloc, out, items.as_slice())
+    print_items(alloc, out, items.as_slice())
 }
 
 // The items that bytes spell; people are told why there are none.
@@ -209,11 +204,10 @@ fn items_in(alloc: Global, octets: &[u8]) -> Result<Vec<Item>, Fault>
 }
 
 // Prints items, and answers the status of that.
-fn tell_items<W: Write>(alloc: Global, out: &mut W, items: &[Item]) -> Result<u8, Stop>
-    ensures status { IfOk result (λ status. status ≤ 3) }
-    ensures printed { Writes (Tells (items_text items.now) 0) (tt {0}) (tt {0})
+fn print_items<W: Write>(alloc: Global, out: &mut W, items: &[Item]) -> Result<Status, Stop>
+    ensures { Writes (Tells (items_text items.now) exit.Done) (tt {0}) (tt {0})
         (W.contents out.old) (W.contents out.new) result }
 {
     list_resources(alloc, out, items)?;
-    Ok(0)
+    Ok(Status::Done)
 }

@@ -1,6 +1,6 @@
 // The command `routing`.
 
-ghost use Rattle.std.specs.Prelude.{◌≡◌, ◌≤◌, [], Ok, IfOk, option_map, vec_items};
+ghost use Rattle.std.specs.Prelude.{◌≡◌, [], Ok, option_map, vec_items};
 ghost use Rattle.acpi_listing.specs.Commands.{FollowsNot, ListsPrt, ListsRoutes, ListsValue, RoutesLoaded, RoutesTables, routes_with};
 ghost use Rattle.acpi_sources.specs.Faults.{nowhere, Tries};
 ghost use Rattle.acpi_sources.specs.Inputs.{tables_of};
@@ -13,8 +13,9 @@ ghost use Rattle.aml_regions.specs.Registers.{contents};
 ghost use Rattle.aml_regions.specs.Text.{TextSets};
 ghost use Rattle.aml_signatures.specs.Signed.{kinds_told};
 ghost use Rattle.aml_values.specs.Views.{view};
+ghost use Rattle.acpi_sources.specs.declared.status.Status.TheVariants as exit;
 
-use crate::eval::tell_said;
+use crate::eval::print_said;
 use crate::load::load_counted;
 use crate::madt::{madt_of, read_controllers};
 use crate::objects::{find_object, prt_over};
@@ -27,7 +28,7 @@ use acpi_objects::Given;
 use acpi_resource_text::list_routes;
 use acpi_resources::{Item, Route, routes};
 use acpi_routing::Prt;
-use acpi_sources::{Fault, FaultCause, Inputs, Source};
+use acpi_sources::{Fault, FaultCause, Inputs, Source, Status};
 use acpi_tables::Madt;
 use acpi_words::{Notes, RoutingRequest};
 use aml_namespace::Namespace;
@@ -43,15 +44,14 @@ use std::io::Write;
 /// evaluation of an accepted method gives; a method that is refused has the line of its verdict. Of
 /// each link that the `_PRT` names the `_CRS` is asked once, over the names and the registers as
 /// they were left.
-pub fn list_routes_of<F: Source, N: Notes, W: Write>(
+pub(crate) fn list_routes_of<F: Source, N: Notes, W: Write>(
     alloc: Global,
     request: &RoutingRequest<'_>,
     files: &mut F,
     notes: &N,
     out: &mut W,
-) -> Result<u8, Stop>
-    ensures status { IfOk result (λ status. status ≤ 3) }
-    ensures printed { Writes (ListsRoutes F.answers request.now.asked.inputs
+) -> Result<Status, Stop>
+    ensures { Writes (ListsRoutes F.answers request.now.asked.inputs
         request.now.asked.object.now
         (option_map (λ name. name.now) request.now.asked.regs)
         (option_map (λ name. name.now) request.now.asked.kinds)
@@ -86,11 +86,10 @@ fn list_inputs<N: Notes, W: Write>(
     inputs: &Inputs,
     notes: &N,
     out: &mut W,
-) -> Result<u8, Stop>
+) -> Result<Status, Stop>
     requires set { TextSets registers.text.items (contents registers.file) }
     requires fresh { registers.file.events.items ≡ [] }
-    ensures status { IfOk result (λ status. status ≤ 3) }
-    ensures printed { Writes (RoutesTables (contents registers.file) (kinds_told signatures.now)
+    ensures { Writes (RoutesTables (contents registers.file) (kinds_told signatures.now)
         (option_map (λ m. m.now) madt.entry) request.now.asked.object.now (tables_of inputs.now))
         tt tt (W.contents out.old) (W.contents out.new) result }
 {
@@ -111,11 +110,10 @@ fn list_loaded<N: Notes, W: Write>(
     namespace: &Namespace<'_>,
     notes: &N,
     out: &mut W,
-) -> Result<u8, Stop>
+) -> Result<Status, Stop>
     requires set { TextSets registers.text.items (contents registers.file) }
     requires fresh { registers.file.events.items ≡ [] }
-    ensures status { IfOk result (λ status. status ≤ 3) }
-    ensures printed { Writes (RoutesLoaded (contents registers.file) (kinds_told signatures.now)
+    ensures { Writes (RoutesLoaded (contents registers.file) (kinds_told signatures.now)
         (option_map (λ m. m.now) madt.entry) request.now.asked.object.now (shown namespace.now))
         tt tt (W.contents out.old) (W.contents out.new) result }
 {
@@ -135,9 +133,8 @@ fn list_prt<N: Notes, W: Write>(
     prt: &Prt,
     notes: &N,
     out: &mut W,
-) -> Result<u8, Stop>
-    ensures status { IfOk result (λ status. status ≤ 3) }
-    ensures printed { Writes
+) -> Result<Status, Stop>
+    ensures { Writes
         (ListsPrt (option_map (λ m. m.now) madt.entry) checked.now id.0 prt.now.given
         (crs_of_links prt.now.links.items))
         tt tt (W.contents out.old) (W.contents out.new) result }
@@ -150,7 +147,7 @@ fn list_prt<N: Notes, W: Write>(
         Given::Refused => {
             let names = request.asked.inputs.files.as_slice();
             tell_reason(alloc, notes, checked, names, id);
-            tell_said(alloc, out, checked, id)
+            print_said(alloc, out, checked, id)
         }
     }
 }
@@ -173,9 +170,8 @@ fn list_value<N: Notes, W: Write>(
     links: &[(ObjectId, Vec<Item>)],
     notes: &N,
     out: &mut W,
-) -> Result<u8, Stop>
-    ensures status { IfOk result (λ status. status ≤ 3) }
-    ensures printed { Writes (ListsValue (option_map (λ m. m.now) madt.entry)
+) -> Result<Status, Stop>
+    ensures { Writes (ListsValue (option_map (λ m. m.now) madt.entry)
         (crs_of_links links.now) (view value.now))
         tt tt (W.contents out.old) (W.contents out.new) result }
 {
@@ -183,7 +179,7 @@ fn list_value<N: Notes, W: Write>(
         return Err(Stop::Fault(no_package(notes)));
     };
     let routes = followed(alloc, request, madt, checked, value, links, notes)?;
-    tell_routes(alloc, out, routes.as_slice())
+    print_routes(alloc, out, routes.as_slice())
 }
 
 // The routes of a value; people are told why there are none.
@@ -228,11 +224,10 @@ fn routes_in(
 }
 
 // Prints routes, and answers the status of that.
-fn tell_routes<W: Write>(alloc: Global, out: &mut W, routes: &[Route]) -> Result<u8, Stop>
-    ensures status { IfOk result (λ status. status ≤ 3) }
-    ensures printed { Writes (Tells (routes_text routes.now) 0) (tt {0}) (tt {0})
+fn print_routes<W: Write>(alloc: Global, out: &mut W, routes: &[Route]) -> Result<Status, Stop>
+    ensures { Writes (Tells (routes_text routes.now) exit.Done) (tt {0}) (tt {0})
         (W.contents out.old) (W.contents out.new) result }
 {
     list_routes(alloc, out, routes)?;
-    Ok(0)
+    Ok(Status::Done)
 }

@@ -14,7 +14,7 @@ use std::alloc::Global;
 ///
 /// Faults: E523 of a file that cannot be read or is too large; E501 with the number of the first
 /// bad line; E524.
-pub fn read_signatures<F: Source, N: Notes>(
+pub(crate) fn read_signatures<F: Source, N: Notes>(
     alloc: Global,
     name: Option<&str>,
     files: &mut F,

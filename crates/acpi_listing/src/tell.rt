@@ -14,7 +14,6 @@ use acpi_verdicts::{any_refused, error_text, explain, misfit_note, summary, unre
 use acpi_words::{Notes, bad_argument, words_error};
 use aml_causes::Cause;
 use aml_externals::is_dead_if;
-use aml_known::Known;
 use aml_meaning::Outcome;
 use aml_namespace::{LoadCause, LoadRefusal, Method, Namespace};
 use aml_path_text::push_path;
@@ -22,7 +21,7 @@ use aml_paths::ObjectId;
 use aml_signatures::Signatures;
 use aml_tree::{Refusal, TreeCause};
 use aml_values::Value;
-use aml_verify::{Checked, Verdict};
+use aml_verify::{Checked, Misfit, Verdict};
 use std::alloc::{AllocError, Global};
 use std::convert::AsStr;
 use std::str;
@@ -86,11 +85,7 @@ pub(crate) fn tell_registers<N: Notes>(alloc: Global, notes: &N, name: &str, fau
     let Where::Line(line) = fault.at else {
         return;
     };
-    let label = if name == "@" {
-        "the file of --regs"
-    } else {
-        name
-    };
+    let label = option_label(name, "the file of --regs");
     tell(notes, registers_note(alloc, label, line));
 }
 
@@ -99,12 +94,13 @@ pub(crate) fn tell_signatures<N: Notes>(alloc: Global, notes: &N, name: &str, fa
     let Where::Line(line) = fault.at else {
         return;
     };
-    let label = if name == "@" {
-        "the file of --kinds"
-    } else {
-        name
-    };
+    let label = option_label(name, "the file of --kinds");
     tell(notes, signatures_note(alloc, label, line));
+}
+
+// How the file of an option is called: on standard input by the option, else by its name.
+fn option_label<'a>(name: &'a str, option: &'a str) -> &'a str {
+    if name == "@" { option } else { name }
 }
 
 /// Of each method that is refused why it is, with the files by their names; whether there was memory
@@ -157,18 +153,13 @@ pub(crate) fn tell_error<N: Notes>(
     tell_made(notes, error_text(alloc, namespace, names, *error));
 }
 
-/// Of a method that is refused, and so is not evaluated: how it is evaluated all the same. What has
-/// no meaning at the place that is told has none then, either.
+/// Of a method that is refused, and so is not evaluated: how it is evaluated all the same.
 pub(crate) fn tell_plain<N: Notes>(notes: &N, checked: &Checked<'_>, id: ObjectId) {
-    let Some(Verdict::Refused(refusal, _)) = checked.verdict(id) else {
-        return;
-    };
-    notes.tell(match refusal.why {
-        Cause::Unresolved | Cause::OutsideProfile | Cause::Region => {
-            "eval --plain N evaluates it without a verdict, in at most N steps, up to that place if it comes there"
-        }
-        _ => "eval --plain N evaluates it without a verdict, in at most N steps",
-    });
+    if let Some(Verdict::Refused(_, _)) = checked.verdict(id) {
+        notes.tell(
+            "eval --plain N evaluates it without a verdict, in at most N steps, up to an AML error if it meets one",
+        );
+    }
 }
 
 /// Of a method whose body cannot be read, and so is not evaluated, why that is.
@@ -245,13 +236,18 @@ pub(crate) fn tell_untold<N: Notes>(
     }
 }
 
-// Whether a method that takes arguments is refused for a kind.
+// Whether a method is refused for what an argument may hold, as far as a cause tells.
+fn may_lack(why: Cause) -> bool {
+    matches!(why, Cause::WrongKind | Cause::Index | Cause::BoundTooLarge)
+}
+
+// Whether a method that takes arguments is refused for what one of them may hold.
 fn may_lack_kinds(checked: &Checked<'_>, id: ObjectId) -> bool {
     let Some(method) = checked.namespace().method(id) else {
         return false;
     };
     match checked.verdict(id) {
-        Some(Verdict::Refused(refusal, _)) => method.args > 0 && refusal.why == Cause::WrongKind,
+        Some(Verdict::Refused(refusal, _)) => method.args > 0 && may_lack(refusal.why),
         _ => false,
     }
 }
@@ -264,10 +260,7 @@ pub(crate) fn tell_madt<N: Notes>(
     bytes: &[u8],
     fault: TableFault,
 ) {
-    let label = match name {
-        Some(name) if name != "@" => name,
-        _ => "the file of --madt",
-    };
+    let label = option_label(name.unwrap_or("@"), "the file of --madt");
     tell(
         notes,
         table_note(alloc, label, bytes, fault, WantedTable::Madt),
@@ -372,7 +365,7 @@ pub(crate) fn tell_misfit<N: Notes>(
     word: &str,
     method: Method,
     arguments: &[Value],
-    misfit: Option<(usize, Known)>,
+    misfit: Option<Misfit>,
 ) {
     if arguments.len() != usize::from(method.args) {
         tell(notes, count_note(alloc, word, method.args, arguments.len()));
@@ -387,8 +380,8 @@ pub(crate) fn tell_misfit<N: Notes>(
             return;
         }
     }
-    if let Some((number, kind)) = misfit {
-        tell(notes, misfit_note(alloc, namespace.width(), number, kind));
+    if let Some(misfit) = misfit {
+        tell(notes, misfit_note(alloc, namespace.width(), misfit));
     }
 }
 

@@ -1,6 +1,6 @@
 // The command `verify`.
 
-ghost use Rattle.std.specs.Prelude.{◌≡◌, ◌≤◌, IfErr, IfOk, option_map};
+ghost use Rattle.std.specs.Prelude.{◌≡◌, IfErr, IfOk, option_map};
 ghost use Rattle.acpi_listing.specs.Commands.{AreVerdictsOn, VerifiesFiles, VerifiesLoaded, VerifiesTables, verdicts_status};
 ghost use Rattle.acpi_sources.specs.Faults.{nowhere};
 ghost use Rattle.acpi_sources.specs.Inputs.{tables_of};
@@ -14,7 +14,7 @@ use crate::load::load_counted;
 use crate::signed::read_signatures;
 use crate::stop::Stop;
 use crate::tell::{tell_paths, tell_refused, tell_summary, tell_untold};
-use acpi_sources::{Fault, Inputs, Source};
+use acpi_sources::{Fault, Inputs, Source, Status};
 use acpi_verdicts::{any_refused, list_verdicts};
 use acpi_words::{Notes, VerifyRequest};
 use aml_namespace::Namespace;
@@ -25,15 +25,14 @@ use std::io::Write;
 
 /// Prints the verdict on each method of a DSDT and its SSDTs; where that is asked for, people are
 /// told of each refused one why.
-pub fn verify_files<F: Source, N: Notes, W: Write>(
+pub(crate) fn verify_files<F: Source, N: Notes, W: Write>(
     alloc: Global,
     request: &VerifyRequest<'_>,
     files: &mut F,
     notes: &N,
     out: &mut W,
-) -> Result<u8, Stop>
-    ensures status { IfOk result (λ status. status ≤ 3) }
-    ensures printed { Writes (VerifiesFiles F.answers request.now.inputs
+) -> Result<Status, Stop>
+    ensures { Writes (VerifiesFiles F.answers request.now.inputs
         (option_map (λ name. name.now) request.now.kinds))
         files.old files.new (W.contents out.old) (W.contents out.new) result }
 {
@@ -50,9 +49,8 @@ fn verify_inputs<N: Notes, W: Write>(
     inputs: &Inputs,
     notes: &N,
     out: &mut W,
-) -> Result<u8, Stop>
-    ensures status { IfOk result (λ status. status ≤ 3) }
-    ensures printed { Writes (VerifiesTables (kinds_told signatures.now) (tables_of inputs.now))
+) -> Result<Status, Stop>
+    ensures { Writes (VerifiesTables (kinds_told signatures.now) (tables_of inputs.now))
         tt tt (W.contents out.old) (W.contents out.new) result }
 {
     let namespace = load_counted(alloc, inputs, &request.inputs, &[], notes)?;
@@ -67,14 +65,13 @@ fn verify_loaded<N: Notes, W: Write>(
     signatures: &Signatures,
     notes: &N,
     out: &mut W,
-) -> Result<u8, Stop>
-    ensures status { IfOk result (λ status. status ≤ 3) }
-    ensures printed { Writes (VerifiesLoaded (kinds_told signatures.now) (shown namespace.now))
+) -> Result<Status, Stop>
+    ensures { Writes (VerifiesLoaded (kinds_told signatures.now) (shown namespace.now))
         tt tt (W.contents out.old) (W.contents out.new) result }
 {
     let checked = verdicts_on(alloc, namespace, signatures)?;
     tell_reasons(alloc, request, signatures, &checked, notes);
-    tell_verdicts(alloc, out, &checked)
+    print_verdicts(alloc, out, &checked)
 }
 
 // Tells people why methods are refused, and how many for which cause, and which lines of `--kinds`
@@ -96,7 +93,7 @@ fn tell_reasons<N: Notes>(
 }
 
 /// The verdicts on the methods of a namespace.
-pub fn verdicts_on<'a>(
+pub(crate) fn verdicts_on<'a>(
     alloc: Global,
     namespace: &'a Namespace<'a>,
     signatures: &Signatures,
@@ -110,19 +107,25 @@ pub fn verdicts_on<'a>(
 }
 
 // Prints the verdicts, and answers their status.
-fn tell_verdicts<W: Write>(alloc: Global, out: &mut W, checked: &Checked<'_>) -> Result<u8, Stop>
-    ensures status { IfOk result (λ status. status ≤ 3) }
-    ensures printed { Writes (Tells (verdicts_text checked.now) (verdicts_status checked.now))
+fn print_verdicts<W: Write>(
+    alloc: Global,
+    out: &mut W,
+    checked: &Checked<'_>,
+) -> Result<Status, Stop>
+    ensures { Writes (Tells (verdicts_text checked.now) (verdicts_status checked.now))
         (tt {0}) (tt {0}) (W.contents out.old) (W.contents out.new) result }
 {
     list_verdicts(alloc, out, checked)?;
     Ok(status_of(checked))
 }
 
-// The status of verdicts: 3 where a method is refused.
-fn status_of(checked: &Checked<'_>) -> u8
-    ensures value { result ≡ verdicts_status checked.now }
-    ensures most { result ≤ 3 }
+// How a command ends by verdicts: as refused where a method is.
+fn status_of(checked: &Checked<'_>) -> Status
+    ensures { result ≡ verdicts_status checked.now }
 {
-    if any_refused(checked) { 3 } else { 0 }
+    if any_refused(checked) {
+        Status::Refused
+    } else {
+        Status::Done
+    }
 }

@@ -9,6 +9,7 @@ mod whole;
 
 use acpi_listing::run;
 use acpi_samples::Narrow;
+use acpi_sources::Status;
 use acpi_text::RunFault;
 use hex;
 use std::alloc::{AllocError, Global};
@@ -38,7 +39,7 @@ const TABLE_1: &str =
 #[derive(Drop)]
 struct Answer {
     text: Vec<u8>,
-    ended: Result<u8, RunFault>,
+    ended: Result<Status, RunFault>,
 }
 
 // What the program answers to an input, by a writer of that width and room.
@@ -90,9 +91,9 @@ fn is_cut_off_everywhere(alloc: Global, input: &str, whole: &[u8]) -> Result<boo
     Ok(true)
 }
 
-// Whether the program writes a text and ends with this status, and writes the same into a writer
+// Whether the program writes a text and ends so, and writes the same into a writer
 // that takes a byte at a time and, up to where it fails, into one that fails.
-fn is_written(alloc: Global, input: &str, status: u8) -> Result<bool, AllocError> {
+fn is_written(alloc: Global, input: &str, status: Status) -> Result<bool, AllocError> {
     let whole = told(alloc, input, 4096, 4096)?;
     let slow = told(alloc, input, 1, 4096)?;
     let is_same = slow.ended == whole.ended && slow.text.as_slice() == whole.text.as_slice();
@@ -102,8 +103,8 @@ fn is_written(alloc: Global, input: &str, status: u8) -> Result<bool, AllocError
     is_cut_off_everywhere(alloc, input, &whole.text)
 }
 
-// Words, two lines of tables or registers, and the status.
-type Row<'a> = (&'a str, &'a str, &'a str, u8);
+// Words, two lines of tables or registers, and how the command ends.
+type Row<'a> = (&'a str, &'a str, &'a str, Status);
 
 // Whether a command is written so.
 fn is_answered(alloc: Global, row: Row<'_>) -> Result<bool, Fail> {
@@ -119,28 +120,58 @@ const ROUTING: &str = "routing --object \\_SB_.PCI0._PRT --madt @ @";
 const ROUTING_ALONE: &str = "routing --object \\_SB_.PCI0._PRT @";
 
 const ROWS: &[Row<'static>] = &[
-    ("verify @", TABLE_1, "", 0),
-    ("tables @ @", TABLE_1, TABLE_1, 0),
-    ("eval --plain 9 --method \\M000 --args 41 @", TABLE_1, "", 0),
-    ("eval --plain 9 --method \\M001 @", TABLE_1, "", 1),
-    ("names @", TABLE_1, "", 0),
-    ("tables @ @", FIELD, CYCLE, 0),
-    ("names @", FIELD, "", 0),
-    ("verify @", FIELD, "", 0),
-    ("eval --method \\M001 --regs @ @", REGISTERS, FIELD, 0),
-    ("names @", CYCLE, "", 0),
-    ("verify @", CYCLE, "", 3),
-    ("eval --plain 128 --method \\AAAA @", CYCLE, "", 3),
-    ("tables @ @", MADT, LINK, 0),
-    ("names @", LINK, "", 0),
-    ("verify @", LINK, "", 0),
-    (LINK_OBJECT, LINK, "", 0),
-    (ROUTING, MADT, LINK, 0),
-    (ROUTING_ALONE, LINK, "", 0),
-    ("routing --object \\AAAA @", CYCLE, "", 3),
-    ("resources --object \\AAAA @", CYCLE, "", 3),
-    ("resources --object \\_SB_.PCI0._PRT @", LINK, "", 1),
-    ("routing --object \\_SB_.LNKA._CRS @", LINK, "", 1),
+    ("verify @", TABLE_1, "", Status::Done),
+    ("tables @ @", TABLE_1, TABLE_1, Status::Done),
+    (
+        "eval --plain 9 --method \\M000 --args 41 @",
+        TABLE_1,
+        "",
+        Status::Done,
+    ),
+    (
+        "eval --plain 9 --method \\M001 @",
+        TABLE_1,
+        "",
+        Status::Fault,
+    ),
+    ("names @", TABLE_1, "", Status::Done),
+    ("tables @ @", FIELD, CYCLE, Status::Done),
+    ("names @", FIELD, "", Status::Done),
+    ("verify @", FIELD, "", Status::Done),
+    (
+        "eval --method \\M001 --regs @ @",
+        REGISTERS,
+        FIELD,
+        Status::Done,
+    ),
+    ("names @", CYCLE, "", Status::Done),
+    ("verify @", CYCLE, "", Status::Refused),
+    (
+        "eval --plain 128 --method \\AAAA @",
+        CYCLE,
+        "",
+        Status::Refused,
+    ),
+    ("tables @ @", MADT, LINK, Status::Done),
+    ("names @", LINK, "", Status::Done),
+    ("verify @", LINK, "", Status::Done),
+    (LINK_OBJECT, LINK, "", Status::Done),
+    (ROUTING, MADT, LINK, Status::Done),
+    (ROUTING_ALONE, LINK, "", Status::Done),
+    ("routing --object \\AAAA @", CYCLE, "", Status::Refused),
+    ("resources --object \\AAAA @", CYCLE, "", Status::Refused),
+    (
+        "resources --object \\_SB_.PCI0._PRT @",
+        LINK,
+        "",
+        Status::Fault,
+    ),
+    (
+        "routing --object \\_SB_.LNKA._CRS @",
+        LINK,
+        "",
+        Status::Fault,
+    ),
 ];
 
 // What a command prints, into a writer that takes a byte at a time, and into one that fails at each
@@ -160,7 +191,7 @@ fn writers_of_a_torn_body(rt: HostRuntime) -> Result<(), Fail> {
     let alloc = rt.alloc();
     let torn = dsdt(alloc, 2, "14084d30303000a45c").ok_or("a table")?;
     for words in ["verify @", "eval --plain 9 --method \\M000 @"] {
-        let row = (words, torn.as_str(), "", 3);
+        let row = (words, torn.as_str(), "", Status::Refused);
         assert!(rt; is_answered(alloc, row)?, "at {words}");
     }
     Ok(())

@@ -23,13 +23,13 @@ greatest_note number given greatest =
 unfoldable pub registers_note : List ℕ → ℕ → List ℕ
 registers_note label line =
     joined (label ∷ codes ": line " ∷ decimal line ∷ codes
-    " is not SPACE ADDRESS BYTES, as io 60 1527: mem, io, pci, ec or cmos, hex without prefix, one space between and nothing behind, no CR either, and no byte past 2^64 - 1" ∷ [])
+    " is not SPACE ADDRESS BYTES, as io 60 1527: mem, io, pci, ec or cmos, hex without prefix, two digits a byte, one space between and nothing behind, no CR either, and no byte past 2^64 - 1" ∷ [])
 
 -- a line that is no signature, or has the path of a line before it
 unfoldable pub signatures_note : List ℕ → ℕ → List ℕ
 signatures_note label line =
     joined (label ∷ codes ": line " ∷ decimal line
-    ∷ codes " is not PATH KINDS, as \\_SB_.EC0_.WRIT int:15 buf:32, or has a path for the second time: int, int:MAX, buf:N, str:N or pkg, decimal below 2^64"
+    ∷ codes " is not PATH KINDS, as \\_SB_.EC0_.WRIT int:15 buf:32, or has a path for the second time: int, int:MAX, buf:N, str:N or pkg, decimal below 2^64, one space between and nothing behind, no CR either"
     ∷ [])
 
 -- a line of standard input that is no file

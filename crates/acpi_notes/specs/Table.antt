@@ -66,7 +66,7 @@ sum_note label sum = joined (label ∷ codes ": its bytes sum to " ∷ decimal s
 
 -- which table is wanted
 abbrev pub wanted_text : WantedTable → List ℕ
-wanted_text Definitions = codes "the first file is to be a DSDT, the others SSDTs"
+wanted_text Definitions = codes "the tables are to be one DSDT, in the first file, and SSDTs behind it"
 wanted_text Madt = codes "the file of --madt is to be a MADT, of signature APIC"
 
 unfoldable pub signature_note : List ℕ → List ℕ → List ℕ → List ℕ

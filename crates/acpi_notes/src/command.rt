@@ -44,7 +44,7 @@ pub fn registers_note(alloc: Global, label: &str, line: usize) -> Result<String,
     ensures { IfOk result (λ note. string_bytes note ≡ registers_note label.now line) }
 {
     format!(in alloc;
-        "{label}: line {line} is not SPACE ADDRESS BYTES, as io 60 1527: mem, io, pci, ec or cmos, hex without prefix, one space between and nothing behind, no CR either, and no byte past 2^64 - 1"
+        "{label}: line {line} is not SPACE ADDRESS BYTES, as io 60 1527: mem, io, pci, ec or cmos, hex without prefix, two digits a byte, one space between and nothing behind, no CR either, and no byte past 2^64 - 1"
     )
 }
 
@@ -55,7 +55,7 @@ pub fn signatures_note(alloc: Global, label: &str, line: usize) -> Result<String
     ensures { IfOk result (λ note. string_bytes note ≡ signatures_note label.now line) }
 {
     format!(in alloc;
-        "{label}: line {line} is not PATH KINDS, as \\_SB_.EC0_.WRIT int:15 buf:32, or has a path for the second time: int, int:MAX, buf:N, str:N or pkg, decimal below 2^64"
+        "{label}: line {line} is not PATH KINDS, as \\_SB_.EC0_.WRIT int:15 buf:32, or has a path for the second time: int, int:MAX, buf:N, str:N or pkg, decimal below 2^64, one space between and nothing behind, no CR either"
     )
 }
 

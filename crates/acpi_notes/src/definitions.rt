@@ -18,14 +18,14 @@ const MOST_STEPS: u64 = 10_000_000;
 
 /// A byte of a table, both numbered from 0.
 #[derive(Clone, Copy, Debug, PartialEq, Eq)]
-pub struct Place {
+pub(crate) struct Place {
     pub table: usize,
     pub at: usize,
 }
 
 /// What a refused definition met.
 #[derive(Debug, Drop)]
-pub enum Found {
+pub(crate) enum Found {
     /// The path is there already: of a definition before, or predefined.
     Twice { path: String, first: Option<Place> },
     /// What is named is not there, or holds no names.
@@ -540,7 +540,7 @@ fn have_one_segment(tables: &[Vec<u8>], refused: Place, found: &Found) -> bool
 
 /// What the definition met that a load refused, of the tables of that load; None where they have no
 /// such definition.
-pub fn find_again(
+pub(crate) fn find_again(
     alloc: Global,
     tables: &[Vec<u8>],
     refused: Place,

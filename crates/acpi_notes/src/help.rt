@@ -179,24 +179,20 @@ fn help_for(first: &str, asks: bool) -> Option<Help>
     ensures { result ≡ help_for first.now asks }
 {
     if first == "--version" || first == "-V" {
-        Some(Help::Version)
-    } else if !asks {
-        None
-    } else if first == "tables" {
-        Some(Help::Tables)
-    } else if first == "names" {
-        Some(Help::Names)
-    } else if first == "verify" {
-        Some(Help::Verify)
-    } else if first == "eval" {
-        Some(Help::Eval)
-    } else if first == "resources" {
-        Some(Help::Resources)
-    } else if first == "routing" {
-        Some(Help::Routing)
-    } else {
-        Some(Help::Commands)
+        return Some(Help::Version);
     }
+    if !asks {
+        return None;
+    }
+    Some(match first {
+        "tables" => Help::Tables,
+        "names" => Help::Names,
+        "verify" => Help::Verify,
+        "eval" => Help::Eval,
+        "resources" => Help::Resources,
+        "routing" => Help::Routing,
+        _ => Help::Commands,
+    })
 }
 
 fn asks_for_help(word: &str) -> bool

@@ -19,10 +19,9 @@ mod tree;
 pub use command::{
     argument_note, count_note, greatest_note, line_note, registers_note, signatures_note,
 };
-pub use definitions::{Found, Place, find_again};
 pub use help::{Help, help_of};
 pub use label::{file_label, label_of};
 pub use load::{Files, load_note};
-pub use near::{near_path, object_note};
+pub use near::object_note;
 pub use table::{WantedTable, table_note};
 pub use tree::{TreePlace, tree_note};

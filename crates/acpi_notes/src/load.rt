@@ -85,13 +85,26 @@ fn definition_note(
         at: refusal.at,
     };
     let mut note = String::from_str(alloc, label)?;
-    let behind = definition_part(alloc, files, refused)?;
+    let behind = definition_part(alloc, files, refused, missing_words(refusal.cause))?;
     note.push_str(behind.as_str())?;
     Ok(note)
 }
 
-/// What stands behind the file.
-fn definition_part(alloc: Global, files: Files<'_>, refused: Place) -> Result<String, AllocError> {
+/// What is wrong with a name that a definition wants.
+fn missing_words(cause: LoadCause) -> &'static str {
+    match cause {
+        LoadCause::AliasMissing => "which nothing before it defines",
+        _ => "which nothing before it defines, or which holds no names",
+    }
+}
+
+/// What stands behind the file; a name that is missing has these words.
+fn definition_part(
+    alloc: Global,
+    files: Files<'_>,
+    refused: Place,
+    missing: &str,
+) -> Result<String, AllocError> {
     let at = refused.at;
     match find_again(alloc, files.tables, refused)? {
         Some(Found::Twice { path, first }) => match first {
@@ -104,9 +117,7 @@ fn definition_part(alloc: Global, files: Files<'_>, refused: Place) -> Result<St
             }
         },
         Some(Found::Nothing { wanted }) => {
-            format!(in alloc;
-                ": the name at byte {at} wants {wanted}, which is not there or holds no names"
-            )
+            format!(in alloc; ": the name at byte {at} wants {wanted}, {missing}")
         }
         None => format!(in alloc; ": the definition at byte {at}"),
     }

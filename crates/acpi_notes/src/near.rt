@@ -11,7 +11,7 @@ use std::alloc::{AllocError, Global};
 
 /// The path as it is printed that a word may mean: with a `\` in front, in upper case, each segment
 /// of four characters; None where the word is that already, or nothing has that path.
-pub fn near_path(
+pub(crate) fn near_path(
     alloc: Global,
     namespace: &Namespace<'_>,
     word: &str,
@@ -119,7 +119,7 @@ pub fn object_note(
 fn no_method_note(alloc: Global, word: &str) -> Result<String, AllocError>
     ensures { IfOk result (λ note. string_bytes note ≡ no_method_note word.now) }
 {
-    format!(in alloc; "{word} is no method")
+    format!(in alloc; "{word} is no method: names shows what it is")
 }
 
 /// Of a path that nothing has.

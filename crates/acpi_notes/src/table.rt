@@ -5,7 +5,7 @@ ghost use Rattle.std.specs.List.{list_all};
 ghost use Rattle.acpi_notes.specs.Text.{shown_byte, shown_bytes};
 ghost use Rattle.acpi_notes.specs.Table.{byte_at, cause_note, entry_note, is_text, is_text_character, least_of, length_note, number_at, short_note, signature_note, stated, sum_note, summed, table_note, text_note, wanted_text};
 
-use acpi_tables::{TableCause, TableFault};
+use acpi_tables::{Header, Madt, Rsdp, TableCause, TableFault};
 use std::alloc::{AllocError, Global};
 
 /// The byte at a place, 0 past the end.
@@ -40,12 +40,16 @@ fn least_of(bytes: &[u8]) -> usize
     ensures { result ≡ least_of bytes.now }
 {
     if bytes.starts_with(b"RSD PTR ") {
-        return if bytes.len() < 20 { 20 } else { 36 };
+        return if bytes.len() < Rsdp::FIRST_SIZE {
+            Rsdp::FIRST_SIZE
+        } else {
+            Rsdp::SIZE
+        };
     }
-    if bytes.starts_with(b"APIC") && bytes.len() >= 36 {
-        return 44;
+    if bytes.starts_with(b"APIC") && bytes.len() >= Header::SIZE {
+        return Madt::SIZE;
     }
-    36
+    Header::SIZE
 }
 
 /// The sum modulo 256 of the bytes that a checksum at a place has to make 0.
@@ -115,7 +119,8 @@ impl WantedTable {
         ensures { result.now ≡ wanted_text self }
     {
         match self {
-            WantedTable::Definitions => "the first file is to be a DSDT, the others SSDTs",
+            WantedTable::Definitions =>
+                "the tables are to be one DSDT, in the first file, and SSDTs behind it",
             WantedTable::Madt => "the file of --madt is to be a MADT, of signature APIC",
         }
     }
@@ -130,10 +135,7 @@ fn is_text_character(byte: u8) -> bool
 fn are_text_characters(bytes: &[u8]) -> bool
     ensures { result ≡ list_all is_text_character bytes.now }
 {
-    match bytes {
-        [] => true,
-        [first, rest @ ..] => is_text_character(*first) && are_text_characters(rest),
-    }
+    bytes.iter().all(|byte| is_text_character(*byte))
 }
 
 /// Whether text stands where a table's header would, as in a dump that was not taken apart, or in
@@ -141,7 +143,7 @@ fn are_text_characters(bytes: &[u8]) -> bool
 fn is_text(bytes: &[u8]) -> bool
     ensures { result ≡ is_text bytes.now }
 {
-    bytes.len() >= 8 && are_text_characters(front(bytes, 36))
+    bytes.len() >= 8 && are_text_characters(front(bytes, Header::SIZE as u64))
 }
 
 /// Of the fault of a file's table: that the file is text; or how many bytes it has, and is said or

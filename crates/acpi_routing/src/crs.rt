@@ -30,7 +30,7 @@ use std::alloc::Global;
 /// # Errors
 ///
 /// `NoMemory`, where memory is wanted.
-pub fn crs_of(
+pub(crate) fn crs_of(
     alloc: Global,
     namespace: &Namespace<'_>,
     device: ObjectId,
@@ -63,7 +63,7 @@ fn value_under(namespace: &Namespace<'_>, path: &[u8]) -> Option<ObjectId>
 /// # Errors
 ///
 /// E401 to E403 of the bytes of the buffer; `NoMemory`, where memory is wanted.
-pub fn items_of_device<W: World>(
+pub(crate) fn items_of_device<W: World>(
     alloc: Global,
     checked: &Checked<'_>,
     device: ObjectId,

@@ -12,7 +12,7 @@ use std::collections::BTreeSet;
 
 /// The link devices that a `_PRT` names, each once, in the order in which they first appear: those
 /// that the third parts of its elements name. None where it is no package.
-pub fn devices_in(alloc: Global, prt: &Value) -> Result<Vec<ObjectId>, AllocError>
+pub(crate) fn devices_in(alloc: Global, prt: &Value) -> Result<Vec<ObjectId>, AllocError>
     ensures { IfOk result (λ devices. devices.items ≡ devices_in (view prt.now)) }
 {
     match prt {
@@ -22,7 +22,7 @@ pub fn devices_in(alloc: Global, prt: &Value) -> Result<Vec<ObjectId>, AllocErro
 }
 
 /// The link device that an element of a `_PRT` names, by the element's number.
-pub fn device_at(prt: &Value, number: usize) -> Option<ObjectId>
+pub(crate) fn device_at(prt: &Value, number: usize) -> Option<ObjectId>
     ensures { result ≡ device_in (view prt.now) number }
 {
     match prt {

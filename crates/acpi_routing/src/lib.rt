@@ -13,9 +13,6 @@ mod links;
 mod notes;
 mod prt;
 
-pub use crs::{crs_of, items_of_device};
-pub use devices::{device_at, devices_in};
 pub use fault::{LinkFault, LinkRefusal};
-pub use links::items_of_links;
 pub use notes::{entry_note, link_text, source_text};
 pub use prt::{Prt, prt_of};

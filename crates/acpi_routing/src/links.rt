@@ -26,7 +26,7 @@ use std::alloc::Global;
 ///
 /// Of the first device that has one: E401 to E403 of the bytes that its `_CRS` gives; or
 /// `NoMemory`, where memory is wanted.
-pub fn items_of_links<W: World>(
+pub(crate) fn items_of_links<W: World>(
     alloc: Global,
     checked: &Checked<'_>,
     devices: &[ObjectId],

@@ -22,6 +22,8 @@ use Rattle.acpi_sources.specs.declared.fault.Where.{Where}
 use Rattle.acpi_sources.specs.declared.fault.Where.TheVariants as place
 use Rattle.acpi_sources.specs.declared.source.SourceFault.{SourceFault}
 use Rattle.acpi_sources.specs.declared.source.SourceFault.TheVariants as source
+use Rattle.acpi_sources.specs.declared.status.Status.{Status}
+use Rattle.acpi_sources.specs.declared.status.Status.TheVariants as exit
 
 -- what is wrong, where that has a place
 abbrev pub fault_at : FaultCause → Where → Fault
@@ -109,12 +111,12 @@ route_fault routes.NoMemory = nowhere told.NoMemory
 route_fault (routes.Refused refusal) = in_element (told.Routes refusal.cause) refusal.element
 
 -- the status of what is wrong
-abbrev pub cause_status : FaultCause → ℕ
-cause_status told.CommandLine = 2
-cause_status _ = 1
+abbrev pub cause_status : FaultCause → Status
+cause_status told.CommandLine = exit.NoCommand
+cause_status _ = exit.Fault
 
 -- the status of a fault
-abbrev pub fault_status : Fault → ℕ
+abbrev pub fault_status : Fault → Status
 fault_status fault = cause_status fault.cause
 
 -- a value, or a fault: want of memory, or one of these

@@ -1,24 +1,35 @@
 -- Standard input: its bytes, its lines, and the files that stand on them in hex.
-use Rattle.std.specs.Prelude.{◌≡◌, ◌≤◌, ◌<◌, ◌⊎◌, ◌==◌, ℕ, List, [], ◌∷◌, length, ◌++◌, Bool, true, false, All, Option, Some, None, IsSome, Result, Ok, Err, codes, not, vec_items}
+use Rattle.std.specs.Prelude.{◌≡◌, ◌≤◌, ◌<◌, ◌⊎◌, ◌==◌, ℕ, List, [], ◌∷◌, length, ◌++◌, Bool, true, false, All, Option, Some, None, Result, Ok, Err, codes, not, vec_items}
 use Rattle.std.specs.Io.KnownBytes.{Consumes, IsAtEnd}
 use Rattle.hex.specs.Hex.{decode_of}
 use Rattle.hex.specs.declared.error.FromHexError.{FromHexError}
 use Rattle.acpi_sources.specs.Files.{limit}
 use Rattle.acpi_sources.specs.declared.disk.Unread.{Unread}
 use Rattle.acpi_sources.specs.declared.disk.Unread.TheVariants as unread
+use Rattle.acpi_sources.specs.declared.input.End.{End}
+use Rattle.acpi_sources.specs.declared.input.End.TheVariants as end
 use Rattle.acpi_sources.specs.declared.input.Input.{Input}
 use Rattle.acpi_sources.specs.declared.hex_lines.HexLines.{HexLines}
 use Rattle.acpi_sources.specs.declared.source.SourceFault.{SourceFault}
 use Rattle.acpi_sources.specs.declared.source.SourceFault.TheVariants.{File, NoMemory}
 
--- what was read of a stream: its next bytes. They are told to be whole where they are all and at
--- most 16 MiB; else a read failed, which is told, or they are more
+-- whether all bytes of a stream were read
+abbrev pub is_whole : End → Bool
+is_whole end.Whole = true
+is_whole (end.Failed error) = false
+is_whole end.TooLarge = false
+
+-- how reading a stream ends behind these bytes: they are all and at most 16 MiB, or they are more;
+-- or a read failed
+abbrev pub EndsAs : Option (List ℕ) → List ℕ → End → Type 0
+EndsAs rest bytes end.Whole = IsAtEnd rest × (length bytes ≤ limit)
+EndsAs rest bytes (end.Failed error) = Unit {0}
+EndsAs rest bytes end.TooLarge = limit < length bytes
+
+-- what was read of a stream: its next bytes, and how that ended
 pub record IsRead (old new : Option (List ℕ)) (read : Input) : Type 0 where
   pub next : Consumes old new (vec_items read.bytes)
-  pub whole : read.is_whole ≡ true → IsAtEnd new × (length (vec_items read.bytes) ≤ limit)
-  pub cut : read.is_whole ≡ false →
-      IsSome read.failure ⊎ (limit < length (vec_items read.bytes))
-  pub failed : IsSome read.failure → read.is_whole ≡ false
+  pub ends : EndsAs new (vec_items read.bytes) read.end
 
 -- all bytes of a stream, at most 16 MiB
 abbrev pub IsAllOf : Option (List ℕ) → Option (List ℕ) → List ℕ → Type 0

@@ -3,3 +3,4 @@ pub mod Reading
 pub mod Files
 pub mod Input
 pub mod Inputs
+pub mod Status

@@ -9,7 +9,7 @@ use acpi_text::Table;
 
 /// Which table a file is, by its first bytes.
 #[derive(Clone, Copy, Debug, PartialEq, Eq)]
-pub enum FileKind {
+pub(crate) enum FileKind {
     /// It begins with `RSD PTR `.
     Rsdp,
     /// It begins with `FACS`.

@@ -4,7 +4,7 @@ ghost use Rattle.std.specs.Prelude.{◌≡◌, IfErr, IfOk, vec_items};
 ghost use Rattle.acpi_sources.specs.Input.{IsAllOf, IsTooLarge, unread_fault};
 ghost use Rattle.acpi_sources.specs.declared.disk.Unread.TheVariants as unread;
 
-use crate::input::{INPUT_LIMIT, read_input};
+use crate::input::{End, INPUT_LIMIT, read_input};
 use crate::source::{Source, SourceFault};
 use std::alloc::{AllocError, Global};
 use std::io::Read;
@@ -51,7 +51,7 @@ fn read_file<R: Files + AllocGlobal>(rt: &R, name: &str) -> Result<Vec<u8>, Unre
 
 /// Why a stream was not read whole.
 #[derive(Debug, Drop, Error)]
-pub enum Unread {
+pub(crate) enum Unread {
     /// It cannot be opened or read.
     #[error("{0}")]
     Failed(io::Error),
@@ -82,18 +82,16 @@ impl From<Unread> for SourceFault {
 }
 
 /// All bytes of a stream, at most [`INPUT_LIMIT`].
-pub fn read_whole<R: Read>(alloc: Global, input: &mut R) -> Result<Vec<u8>, Unread>
+pub(crate) fn read_whole<R: Read>(alloc: Global, input: &mut R) -> Result<Vec<u8>, Unread>
     ensures whole { IfOk result
         (λ bytes. IsAllOf (R.remaining input.old) (R.remaining input.new) (vec_items bytes)) }
     ensures large { IfErr result (λ why. why ≡ unread.TooLarge →
         IsTooLarge (R.remaining input.old) (R.remaining input.new)) }
 {
     let read = read_input(alloc, input)?;
-    if read.is_whole {
-        return Ok(read.bytes);
-    }
-    match read.failure {
-        Some(error) => Err(Unread::Failed(error)),
-        None => Err(Unread::TooLarge),
+    match read.end {
+        End::Whole => Ok(read.bytes),
+        End::Failed(error) => Err(Unread::Failed(error)),
+        End::TooLarge => Err(Unread::TooLarge),
     }
 }

@@ -5,6 +5,7 @@ ghost use Rattle.acpi_sources.specs.Faults.{source_fault, load_fault, fault_stat
 ghost use Rattle.acpi_sources.specs.declared.fault.FaultCause.TheVariants as told;
 
 use crate::source::SourceFault;
+use crate::status::Status;
 use acpi_resources::{ResourceCause, ResourceFault, RouteCause, RouteFault};
 use acpi_tables::{TableCause, TableFault};
 use aml_namespace::{LoadCause, LoadFault, LoadRefusal};
@@ -116,13 +117,13 @@ impl Fault {
         }
     }
 
-    /// The status that the program ends with.
-    pub fn status(self) -> u8
+    /// How the program ends.
+    pub fn status(self) -> Status
         ensures { result ≡ fault_status self }
     {
         match self.cause {
-            FaultCause::CommandLine => 2,
-            _ => 1,
+            FaultCause::CommandLine => Status::NoCommand,
+            _ => Status::Fault,
         }
     }
 }

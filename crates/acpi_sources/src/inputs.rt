@@ -27,8 +27,8 @@ pub struct Inputs {
 impl Inputs {
     ghost use Rattle.acpi_sources.specs.Inputs.{OpensInputs};
 
-    /// Reads what is named, in this order: the files, as they stand, or with
-    /// the Ifs round their Externals opened.
+    /// Reads the files that are named, in their order; where that is wanted, with the Ifs round
+    /// their Externals opened.
     ///
     /// The first fault ends it: E523 of a file that cannot be read or is too large, E524.
     pub fn read<F: Source>(

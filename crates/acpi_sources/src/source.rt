@@ -76,7 +76,7 @@ fn read_prepared<F: Source>(
 
 /// Reads tables of at most [`INPUT_LIMIT`] bytes each, one after the other; where that is wanted,
 /// with the Ifs round their Externals opened.
-pub fn read_files<F: Source>(
+pub(crate) fn read_files<F: Source>(
     alloc: Global,
     names: &[&str],
     dead_externals: bool,

@@ -18,7 +18,7 @@ error_words cause.Divisor = codes "the second operand of Divide or Mod is zero"
 error_words cause.Index = codes "an index at or past the end, or an empty buffer made an integer"
 error_words cause.Missing = codes "a name names nothing"
 error_words cause.Outside = codes
-    "an operator or a form that has no meaning here, or a call of a method whose body cannot be read"
+    "an operator or a form that this program does not evaluate, or a call of a method whose body cannot be read: nothing need be wrong with the table"
 error_words cause.Region = codes
     "a region, a field, an access or an address space that cannot be read and written here, or a unit outside its region"
 error_words cause.NoValue =

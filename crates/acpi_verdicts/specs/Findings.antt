@@ -156,20 +156,20 @@ change_words change.OneLess = codes "one less"
 unfoldable pub otherwise_text : ℕ → Change → List ℕ
 otherwise_text number wanted =
     joined (codes ": found a Continue before or other changes of Local" ∷ decimal number
-    ∷ codes ", wanted it made " ∷ change_words wanted ∷ codes " once, at the top of the body"
+    ∷ codes ", wanted it made " ∷ change_words wanted ∷ codes " once, by a statement of the body itself, in no If or While"
     ∷ [])
 
 -- what a loop lacks that has no shape
 unfoldable pub lack_text : LoopLack → List ℕ
 lack_text lack.Test = codes
-    ": found a test of another form, wanted a local, or LLess or LGreater of a local and a literal"
+    ": found a test of another form, wanted a local, LLess (Local0, 5) or LGreater (Local0, 5), of any local and literal in this order"
 lack_text (lack.Limit number) =
     joined (codes ": found Local" ∷ decimal number
     ∷ codes " compared with no integer literal, wanted it compared with one" ∷ [])
 lack_text (lack.Unchanged number wanted) =
     joined (codes ": found no store into Local" ∷ decimal number
     ∷ codes " in the body, wanted it made " ∷ change_words wanted
-    ∷ codes " by one statement at the top of it" ∷ [])
+    ∷ codes " by one statement of the body itself, in no If or While" ∷ [])
 lack_text (lack.Otherwise number wanted) = otherwise_text number wanted
 
 -- what was found and what was wanted, behind a colon, where no object's path is told

@@ -24,7 +24,6 @@ wanted_form does.Break = codes ": wanted a While round it"
 wanted_form does.Continue = codes ": wanted a While round it"
 wanted_form does.Acquire = codes ": wanted another mutex than _GL_"
 wanted_form does.Release = codes ": wanted another mutex than _GL_"
-wanted_form does.Unwritten = codes ": this program does not evaluate it, and nothing need be wrong with the table"
 wanted_form other = []
 
 -- what stands as the source of a field of a buffer, and what is wanted of such a field

@@ -7,7 +7,7 @@ use Rattle.aml_causes.specs.declared.cause.Cause.TheVariants as cause
 abbrev pub cause_words : Cause → List ℕ
 cause_words cause.Unresolved =
     codes "a name names nothing: no loaded table defines it, or not where the name is looked up"
-cause_words cause.OutsideProfile = codes "an operator or a form that has no meaning here"
+cause_words cause.OutsideProfile = codes "an operator or a form that this program does not evaluate, and nothing need be wrong with the table"
 cause_words cause.WrongKind = codes "a value or an object of the wrong kind"
 cause_words cause.Unset =
     codes "a local, an argument or an element of a package may be unset where it is read"

@@ -60,7 +60,7 @@ fn error_words(cause: AmlCause) -> &'static str
         AmlCause::Index => "an index at or past the end, or an empty buffer made an integer",
         AmlCause::Missing => "a name names nothing",
         AmlCause::Outside => {
-            "an operator or a form that has no meaning here, or a call of a method whose body cannot be read"
+            "an operator or a form that this program does not evaluate, or a call of a method whose body cannot be read: nothing need be wrong with the table"
         }
         AmlCause::Region => {
             "a region, a field, an access or an address space that cannot be read and written here, or a unit outside its region"

@@ -229,7 +229,7 @@ fn lack_text(alloc: Global, lack: LoopLack) -> Result<String, AllocError>
 {
     match lack {
         LoopLack::Test => format!(in alloc;
-            ": found a test of another form, wanted a local, or LLess or LGreater of a local and a literal"
+            ": found a test of another form, wanted a local, LLess (Local0, 5) or LGreater (Local0, 5), of any local and literal in this order"
         ),
         LoopLack::Limit { local } => {
             format!(in alloc;
@@ -239,7 +239,7 @@ fn lack_text(alloc: Global, lack: LoopLack) -> Result<String, AllocError>
         LoopLack::Unchanged { local, wanted } => {
             let wanted = change_words(wanted);
             format!(in alloc;
-                ": found no store into Local{local} in the body, wanted it made {wanted} by one statement at the top of it"
+                ": found no store into Local{local} in the body, wanted it made {wanted} by one statement of the body itself, in no If or While"
             )
         }
         LoopLack::Otherwise { local, wanted } => otherwise_text(alloc, local, wanted),
@@ -253,7 +253,7 @@ fn otherwise_text(alloc: Global, local: u8, wanted: Change) -> Result<String, Al
 {
     let wanted = change_words(wanted);
     format!(in alloc;
-        ": found a Continue before or other changes of Local{local}, wanted it made {wanted} once, at the top of the body"
+        ": found a Continue before or other changes of Local{local}, wanted it made {wanted} once, by a statement of the body itself, in no If or While"
     )
 }
 

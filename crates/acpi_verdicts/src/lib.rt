@@ -24,4 +24,3 @@ pub use errors::error_text;
 pub use explained::{explain, unread_text};
 pub use listed::{any_refused, list_said, list_verdicts};
 pub use totals::summary;
-pub use words::cause_words;

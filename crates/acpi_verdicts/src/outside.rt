@@ -58,8 +58,6 @@ fn wanted_form(action: Action) -> &'static str
         }
         Action::Break | Action::Continue => ": wanted a While round it",
         Action::Acquire | Action::Release => ": wanted another mutex than _GL_",
-        Action::Unwritten =>
-            ": this program does not evaluate it, and nothing need be wrong with the table",
         _ => "",
     }
 }

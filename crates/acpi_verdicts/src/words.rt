@@ -8,14 +8,15 @@ use aml_causes::Cause;
 /// What it means that a method is refused for a cause; `docs/CAUSES.md` has more of each, with what
 /// can be done.
 #[must_use]
-pub fn cause_words(cause: Cause) -> &'static str
+pub(crate) fn cause_words(cause: Cause) -> &'static str
     ensures { result.now ≡ spec.cause_words cause }
 {
     match cause {
         Cause::Unresolved => {
             "a name names nothing: no loaded table defines it, or not where the name is looked up"
         }
-        Cause::OutsideProfile => "an operator or a form that has no meaning here",
+        Cause::OutsideProfile =>
+            "an operator or a form that this program does not evaluate, and nothing need be wrong with the table",
         Cause::WrongKind => "a value or an object of the wrong kind",
         Cause::Unset => {
             "a local, an argument or an element of a package may be unset where it is read"

@@ -10,12 +10,9 @@ ghost use Rattle.acpi_sources.specs.Faults.{nowhere, Tries};
 ghost use Rattle.acpi_sources.specs.declared.fault.FaultCause.TheVariants as cause;
 
 use acpi_sources::{Fault, FaultCause};
-use aml_values::{Bytes, Package, Value};
+use aml_values::{Bytes, MOST_BYTES, Package, Value};
 use hex::FromHexError;
 use std::alloc::{AllocError, Global};
-
-/// The most bytes of a buffer.
-const BUFFER_LIMIT: usize = 65_536;
 
 /// The values that a text lists by commas: integers below 2^64, decimal or hex behind `0x`; `buf:`
 /// and at most 65,536 bytes in hex; `str:` and ASCII characters but the zero; and `pkg`, the empty
@@ -110,7 +107,7 @@ fn read_bytes(alloc: Global, digits: &[u8]) -> Result<Vec<u8>, Fault>
         result }
 {
     match hex::decode(alloc, digits) {
-        Ok(bytes) if bytes.len() <= BUFFER_LIMIT => Ok(bytes),
+        Ok(bytes) if bytes.len() <= MOST_BYTES => Ok(bytes),
         Err(FromHexError::OutOfMemory) => Err(Fault::nowhere(FaultCause::NoMemory)),
         _ => Err(Fault::nowhere(FaultCause::BadArgs)),
     }

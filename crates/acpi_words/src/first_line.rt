@@ -3,7 +3,7 @@
 ghost use Rattle.std.specs.Prelude.{IfOk, map, vec_items};
 ghost use Rattle.std.specs.Prelude.{◌↔◌, IsTrue};
 ghost use Rattle.acpi_words.specs.FirstLine.{AreWords, FailsToStart, StartsWith};
-ghost use Rattle.acpi_sources.specs.Input.{IsTorn};
+ghost use Rattle.acpi_sources.specs.Input.{IsTorn, is_whole};
 ghost use Rattle.acpi_sources.specs.Faults.{Tries};
 
 use acpi_sources::{Fault, FaultCause, HexLines, Input, Lines};
@@ -22,9 +22,9 @@ pub fn read_first_line<'a>(
     input: &'a Input,
 ) -> Result<(Vec<&'a str>, HexLines<'a>), Fault>
     ensures { let bytes = vec_items input.now.bytes in
-        Tries (λ start. StartsWith bytes input.now.is_whole
+        Tries (λ start. StartsWith bytes (is_whole input.now.end)
         (map (λ word. word.now) (vec_items start.0)) start.1)
-        (FailsToStart bytes input.now.is_whole) result }
+        (FailsToStart bytes (is_whole input.now.end)) result }
 {
     let mut lines = Lines::new(&input.bytes);
     let Some(first) = lines.next_line() else {
@@ -40,16 +40,16 @@ pub fn read_first_line<'a>(
     let files = HexLines {
         alloc,
         lines,
-        is_whole: input.is_whole,
+        is_whole: input.is_whole(),
     };
     Ok((words, files))
 }
 
 // Whether the first line may go on behind what was read.
 fn is_torn(input: &Input, first: &[u8]) -> bool
-    ensures { IsTrue result ↔ IsTorn input.now.is_whole first.now (vec_items input.now.bytes) }
+    ensures { IsTrue result ↔ IsTorn (is_whole input.now.end) first.now (vec_items input.now.bytes) }
 {
-    !input.is_whole && first.len() == input.bytes.len()
+    !input.is_whole() && first.len() == input.bytes.len()
 }
 
 // The words of a line, split at single spaces. A line of spaces alone has a word for each, so the

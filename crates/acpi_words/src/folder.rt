@@ -5,8 +5,8 @@ ghost use Rattle.acpi_words.specs.Folders.{HasFolders, StandsFor, takes_value};
 
 use crate::arguments::read_digits;
 use std::alloc::AllocError;
-use std::fs;
 use std::rt::Files;
+use std::{fs, io};
 
 /// Which files of a folder a command takes.
 #[derive(Clone, Copy, Debug, PartialEq, Eq)]
@@ -106,8 +106,16 @@ fn is_file<R: Files>(rt: &R, name: &str) -> bool {
     }
 }
 
-/// Adds the files of a folder that are taken; where none is, the folder's name, and standard error
-/// tells that.
+/// What is told of an entry of a folder that is not taken.
+fn passed_over<R: Files>(rt: &R, path: &str) -> &'static str {
+    match fs::metadata(rt, path) {
+        Ok(metadata) if metadata.is_dir() => ": a folder, not entered",
+        Ok(_) => ": no table's file, passed over",
+        Err(_) => ": cannot be read, passed over",
+    }
+}
+
+/// Adds the files of a folder that are taken; where none is, the folder's name.
 fn push_files<R: Files + Eprint + AllocGlobal + Clone + Drop>(
     rt: &R,
     words: &mut Vec<String>,
@@ -121,7 +129,6 @@ fn push_files<R: Files + Eprint + AllocGlobal + Clone + Drop>(
 {
     let mut taken = files_in(rt, folder.as_str(), wanted)?;
     if taken.is_empty() {
-        tell(rt, folder.as_str(), none_of(wanted));
         words.push(folder)?;
         return Ok(());
     }
@@ -148,19 +155,21 @@ fn none_of(wanted: Wanted) -> &'static str {
 }
 
 /// The files of a folder that are taken, in any order. Of what is no table's file standard error
-/// tells.
+/// tells, and where none is taken, why.
 fn files_in<R: Files + Eprint + AllocGlobal + Clone + Drop>(
     rt: &R,
     folder: &str,
     wanted: Wanted,
 ) -> Result<Vec<Taken>, AllocError> {
     let mut taken = Vec::new(rt.alloc());
-    let Ok(entries) = fs::read_dir(rt, folder) else {
-        return Ok(taken);
+    let entries = match fs::read_dir(rt, folder) {
+        Ok(entries) => entries,
+        Err(error) => return none_read(rt, folder, &error),
     };
     for entry in entries {
-        let Ok(entry) = entry else {
-            break;
+        let entry = match entry {
+            Ok(entry) => entry,
+            Err(error) => return none_read(rt, folder, &error),
         };
         let path = String::from_str(rt.alloc(), entry.path().as_str())?;
         match said_by(entry.file_name()) {
@@ -169,10 +178,27 @@ fn files_in<R: Files + Eprint + AllocGlobal + Clone + Drop>(
                     taken.push(Taken { said, number, path })?;
                 }
             }
-            _ => tell(rt, path.as_str(), ": no table's file, passed over"),
+            _ => tell(rt, path.as_str(), passed_over(rt, path.as_str())),
         }
     }
+    if taken.is_empty() {
+        tell(rt, folder, none_of(wanted));
+    }
     Ok(taken)
+}
+
+/// No file of a folder that cannot be read to its end, so that none is judged without the others;
+/// standard error tells why.
+fn none_read<R: Eprint + AllocGlobal>(
+    rt: &R,
+    folder: &str,
+    error: &io::Error,
+) -> Result<Vec<Taken>, AllocError> {
+    let _ = rt.eprint("acpicheck: ");
+    let _ = rt.eprint(folder);
+    let _ = rt.eprint(": ");
+    let _ = rt.eprintln(error);
+    Ok(Vec::new(rt.alloc()))
 }
 
 /// Which table a file of that name is said to have, with its number: the name is a table's

@@ -6,7 +6,7 @@ ghost use Rattle.acpi_words.specs.LineNotes.{start_note};
 use crate::first_line::read_first_line;
 use crate::notes::Notes;
 use acpi_notes::{Help, line_note};
-use acpi_sources::{Fault, FaultCause, Input, Source};
+use acpi_sources::{End, Fault, FaultCause, Input, Source};
 use clap::Error;
 use std::alloc::Global;
 
@@ -52,10 +52,13 @@ impl<N: Notes> Notes for LineNotes<'_, N> {
     }
 
     fn tell_unread(&self, alloc: Global) {
-        if !self.input.is_whole {
-            self.notes.tell(
-                "standard input cannot be read to its end, or has more than 16777216 bytes",
-            );
+        let unread = match self.input.end {
+            End::Whole => None,
+            End::Failed(_) => Some("standard input cannot be read to its end"),
+            End::TooLarge => Some("standard input has more than 16777216 bytes"),
+        };
+        if let Some(note) = unread {
+            self.notes.tell(note);
             return;
         }
         let Ok((words, mut files)) = read_first_line(alloc, self.input) else {

@@ -2,7 +2,7 @@
 #![tactic(auto)]
 
 use acpi_listing::run_program;
-use acpi_sources::Disk;
+use acpi_sources::{Disk, Status};
 use acpi_words::command_words;
 use std::io;
 use std::io::BufWriter;
@@ -12,7 +12,7 @@ fn main(rt: HostRuntime) -> ExitCode {
     let words = command_words(&rt);
     let mut files = Disk::new(&rt);
     let Ok(mut out) = BufWriter::new(rt.alloc(), io::writer(&rt)) else {
-        return ExitCode::from(1);
+        return ExitCode::from(Status::Fault.code());
     };
     let status = run_program(
         rt.alloc(),
@@ -22,5 +22,5 @@ fn main(rt: HostRuntime) -> ExitCode {
         &mut out,
         &rt,
     );
-    ExitCode::from(status)
+    ExitCode::from(status.code())
 }

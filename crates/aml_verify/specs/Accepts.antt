@@ -6,6 +6,7 @@ use Rattle.aml_kinds.specs.Kinds.{Kind}
 use Rattle.aml_known.specs.declared.known.Known.{Known}
 use Rattle.aml_known.specs.declared.known.Known.TheVariants as known
 use Rattle.aml_values.specs.Values.{Value, Int, Buf, Str, Pkg, count}
+use Rattle.aml_verify.specs.declared.accepts.Misfit.{Misfit}
 use Rattle.aml_verify.specs.declared.verdict.Verdict.{Verdict}
 use Rattle.aml_verify.specs.declared.verdict.Verdict.TheVariants as verdict
 
@@ -36,14 +37,15 @@ are_of [] [] = true
 are_of (k ∷ ks) (v ∷ vs) = is_of k v && are_of ks vs
 are_of ks vs = false
 
--- the first value that is not of the kind at its place, by its number, with that kind
-abbrev pub misfit_from : ℕ → List Known → List Value → Option (ℕ × Known)
+-- the first value that is not of the kind at its place, where the first kind has this number
+abbrev pub misfit_from : ℕ → List Known → List Value → Option Misfit
 misfit_from number (k ∷ ks) (v ∷ vs) =
-    if is_of k v then misfit_from (suc number) ks vs else Some (number, k)
+    if is_of k v then misfit_from (suc number) ks vs
+    else Some (record { number = number; kind = k })
 misfit_from number ks vs = None
 
 -- the same of what is said of a method, by the kinds that its verdict has
-abbrev pub misfit : Option Verdict → List Value → Option (ℕ × Known)
+abbrev pub misfit : Option Verdict → List Value → Option Misfit
 misfit (Some (verdict.Accepted a)) values = misfit_from 0 a.args.items values
 misfit said values = None
 

@@ -11,37 +11,40 @@ use aml_values::{MOST_ELEMENTS, Value};
 pub(crate) fn are_of(kinds: &[Known], values: &[Value]) -> bool
     ensures { result ≡ are_of kinds.now (map view values.now) }
 {
-    match kinds {
-        [] => values.is_empty(),
-        [kind, other_kinds @ ..] => match values {
-            [] => false,
-            [value, others @ ..] => is_of(*kind, value) && are_of(other_kinds, others),
-        },
+    match (kinds, values) {
+        ([], []) => true,
+        ([kind, kinds @ ..], [value, values @ ..]) => {
+            is_of(*kind, value) && are_of(kinds, values)
+        }
+        _ => false,
     }
 }
 
-/// The number of the first value that is not of the kind at its place, with that kind, where the
-/// first kind has this number.
-pub(crate) fn misfit_from(
-    number: usize,
-    kinds: &[Known],
-    values: &[Value],
-) -> Option<(usize, Known)>
+/// An argument that is not of the kind that a method takes there.
+#[derive(Clone, Copy, Debug, PartialEq, Eq)]
+pub struct Misfit {
+    /// Its number, from 0.
+    pub number: usize,
+    pub kind: Known,
+}
+
+/// The first value that is not of the kind at its place, where the first kind has this number.
+pub(crate) fn misfit_from(number: usize, kinds: &[Known], values: &[Value]) -> Option<Misfit>
     requires { number + length kinds.now ≤ usize.MAX }
     ensures { result ≡ misfit_from number kinds.now (map view values.now) }
 {
-    match kinds {
-        [] => None,
-        [kind, other_kinds @ ..] => match values {
-            [] => None,
-            [value, others @ ..] => {
-                if is_of(*kind, value) {
-                    misfit_from(number + 1, other_kinds, others)
-                } else {
-                    Some((number, *kind))
-                }
+    match (kinds, values) {
+        ([kind, kinds @ ..], [value, values @ ..]) => {
+            if is_of(*kind, value) {
+                misfit_from(number + 1, kinds, values)
+            } else {
+                Some(Misfit {
+                    number,
+                    kind: *kind,
+                })
             }
-        },
+        }
+        _ => None,
     }
 }
 

@@ -16,11 +16,10 @@ ghost use Rattle.aml_verify.specs.Keeping.{Means, body_of};
 ghost use Rattle.aml_verify.specs.Said.{accepted_by, verdict_at};
 ghost use Rattle.aml_verify.specs.Verdicts.{IsChecked};
 
-use crate::accepts::{are_of, misfit_from};
+use crate::accepts::{Misfit, are_of, misfit_from};
 use crate::verdict::{Verdict, accepted_at};
 use aml_bodies::Kept;
 use aml_contents::Names;
-use aml_known::Known;
 use aml_namespace::{Link, Namespace};
 use aml_paths::ObjectId;
 use aml_shapes::ShapeTable;
@@ -148,10 +147,10 @@ impl<'a> Checked<'a> {
         }
     }
 
-    /// The number of the first of some values that is not of the kind of the argument at its place,
-    /// with that kind, where the method with a number is accepted.
+    /// The first of some values that is not of the kind of the argument at its place, where the
+    /// method with a number is accepted.
     #[must_use]
-    pub fn misfit(&self, method: ObjectId, values: &[Value]) -> Option<(usize, Known)>
+    pub fn misfit(&self, method: ObjectId, values: &[Value]) -> Option<Misfit>
         ensures { result
             ≡ misfit (verdict_at self.now.verdicts.items method.0) (map view values.now) }
     {

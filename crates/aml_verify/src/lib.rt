@@ -14,6 +14,7 @@ mod read;
 mod verdict;
 mod verifier;
 
+pub use accepts::Misfit;
 pub use checked::Checked;
 pub use verdict::Verdict;
 pub use verifier::{Verifier, verify};

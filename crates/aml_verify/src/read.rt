@@ -26,7 +26,7 @@ pub struct Read<'a> {
 
 impl Read<'_> {
     /// What is kept of a body that has a tree.
-    pub fn kept(&self, id: ObjectId) -> &Kept
+    pub(crate) fn kept(&self, id: ObjectId) -> &Kept
         requires { IsSome (kept_at self.now.kept.items id.0) }
         ensures { kept_at self.now.kept.items id.0 ≡ Some result.now }
     {

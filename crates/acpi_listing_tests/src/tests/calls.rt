@@ -2,7 +2,7 @@
 
 use super::TABLE_1;
 use acpi_listing::{run, run_words};
-use acpi_sources::{Source, SourceFault, read_any_table, read_input};
+use acpi_sources::{End, Source, SourceFault, Status, read_any_table, read_input};
 use acpi_tables::{TableCause, TableFault};
 use acpi_text::{RunFault, Table, list_evaluation, list_tables};
 use aml_meaning::{AmlCause, AmlError, Outcome};
@@ -36,7 +36,7 @@ impl Source for Shelf {
 }
 
 // How a command ends over the files of the shelf, and whether it writes this text.
-fn answer_of(alloc: Global, words: &[&str], text: &[u8]) -> (Result<u8, RunFault>, bool) {
+fn answer_of(alloc: Global, words: &[&str], text: &[u8]) -> (Result<Status, RunFault>, bool) {
     let mut out = Vec::new(alloc);
     let ended = run_words(alloc, words, &mut Shelf { alloc }, &mut out);
     (ended, out.as_slice() == text)
@@ -54,7 +54,7 @@ fn files_that_memory_cannot_hold(rt: HostRuntime) -> Result<(), Fail> {
     for (words, front) in rows {
         let text = format!(in alloc; "{front}fault E524 NoMemory\n")?;
         let answer = answer_of(alloc, words, text.as_bytes());
-        assert_eq!(rt; answer, (Ok(1), true));
+        assert_eq!(rt; answer, (Ok(Status::Fault), true));
     }
     Ok(())
 }
@@ -151,7 +151,10 @@ impl Read for Torn {
 // Whether all of a stream was read, and whether it gave these bytes.
 fn read_of<R: Read>(alloc: Global, stream: &mut R, bytes: &[u8]) -> Result<(bool, bool), Fail> {
     let input = read_input(alloc, stream)?;
-    Ok((input.is_whole, input.bytes.as_slice() == bytes))
+    Ok((
+        matches!(input.end, End::Whole),
+        input.bytes.as_slice() == bytes,
+    ))
 }
 
 #[test]
@@ -162,7 +165,10 @@ fn inputs_that_end_or_fail(rt: HostRuntime) -> Result<(), Fail> {
     let torn = read_of(alloc, &mut Torn { left: 5 }, b"xxxxx")?;
     assert_eq!(rt; torn, (false, true));
     let mut out = Vec::new(alloc);
-    assert_eq!(rt; run(alloc, &mut Torn { left: 5 }, &mut out), Ok(1));
+    assert_eq!(rt;
+        run(alloc, &mut Torn { left: 5 }, &mut out),
+        Ok(Status::Fault)
+    );
     assert_eq!(rt; out.as_slice(), b"fault E523 File\n".as_slice());
     Ok(())
 }

@@ -1,5 +1,6 @@
 // The line of each fault, by what is wrong and where.
 
+use acpi_resources::{ResourceCause, RouteCause};
 use acpi_sources::{Fault, FaultCause, Where, list_fault};
 use acpi_tables::TableCause;
 use aml_namespace::LoadCause;
@@ -37,10 +38,28 @@ const LINES: &[(FaultCause, Where, &str)] = &[
         "E301 Duplicate 1 38",
     ),
     (FaultCause::BadKinds, Where::Line(2), "E501 BadKinds 2"),
-    (FaultCause::File, Where::Line(1), "E523 File 1"),
-    (FaultCause::File, Where::Line(65_536), "E523 File 65536"),
-    (FaultCause::BadArgs, Where::Element(0), "E521 BadArgs 0"),
-    (FaultCause::BadArgs, Where::Element(17), "E521 BadArgs 17"),
+    (
+        FaultCause::BadRegs,
+        Where::Line(65_536),
+        "E511 BadRegs 65536",
+    ),
+    (
+        FaultCause::Resources(ResourceCause::BadItem),
+        Where::Byte(65_535),
+        "E401 BadItem 65535",
+    ),
+    (
+        FaultCause::Routes(RouteCause::BadEntry),
+        Where::Element(0),
+        "E411 BadEntry 0",
+    ),
+    (
+        FaultCause::Routes(RouteCause::NoLink),
+        Where::Element(17),
+        "E412 NoLink 17",
+    ),
+    (FaultCause::NotBuffer, NOWHERE, "E421 NotBuffer"),
+    (FaultCause::NotPackage, NOWHERE, "E422 NotPackage"),
 ];
 
 #[test]

@@ -2,7 +2,7 @@
 
 use super::seal;
 use acpi_listing::run_words;
-use acpi_sources::{Source, SourceFault};
+use acpi_sources::{Source, SourceFault, Status};
 use acpi_text::RunFault;
 use hex;
 use std::alloc::Global;
@@ -41,7 +41,7 @@ impl Source for Zeros {
 }
 
 // How `names` of a table with so many ends, and what it writes.
-fn listed(alloc: Global, count: usize) -> (Result<u8, RunFault>, Vec<u8>) {
+fn listed(alloc: Global, count: usize) -> (Result<Status, RunFault>, Vec<u8>) {
     let mut out = Vec::new(alloc);
     let mut files = Zeros { alloc, count };
     let ended = run_words(alloc, &["names", "zeros.bin"], &mut files, &mut out);
@@ -53,7 +53,7 @@ fn listed(alloc: Global, count: usize) -> (Result<u8, RunFault>, Vec<u8>) {
 #[test]
 fn as_many_names_as_there_may_be(rt: HostRuntime) -> Result<(), Fail> {
     let (ended, out) = listed(rt.alloc(), 65_526);
-    assert_eq!(rt; ended, Ok(0));
+    assert_eq!(rt; ended, Ok(Status::Done));
     assert!(rt; out.starts_with(PREDEFINED.as_bytes()));
     assert!(rt; out.ends_with(b"\\BOUF integer\n"));
     assert_eq!(rt; out.iter().filter(|b| **b == b'\n').count(), 65_535);
@@ -63,7 +63,7 @@ fn as_many_names_as_there_may_be(rt: HostRuntime) -> Result<(), Fail> {
 #[test]
 fn a_name_too_many(rt: HostRuntime) -> Result<(), Fail> {
     let (ended, out) = listed(rt.alloc(), 65_527);
-    assert_eq!(rt; ended, Ok(1));
+    assert_eq!(rt; ended, Ok(Status::Fault));
     assert_eq!(rt; out.as_slice(), b"fault E303 TooMany 0 393193\n".as_slice());
     Ok(())
 }

@@ -3,7 +3,7 @@
 use super::calls::{LINE_1, Shelf};
 use acpi_listing::run_program;
 use acpi_samples::Narrow;
-use acpi_sources::{Fault, FaultCause};
+use acpi_sources::{Fault, FaultCause, Status};
 use std::alloc::{AllocError, Global};
 use std::fmt::Display;
 use std::io;
@@ -36,7 +36,7 @@ fn ended(
     alloc: Global,
     words: Result<Vec<String>, Fault>,
     room: usize,
-) -> io::Result<(Vec<u8>, u8)> {
+) -> io::Result<(Vec<u8>, Status)> {
     let narrow = Narrow::new(alloc, 4096, room)?;
     let mut out = BufWriter::new(alloc, narrow)?;
     let mut files = Shelf { alloc };
@@ -50,8 +50,12 @@ fn ended(
 fn words_at_fault(rt: HostRuntime) -> Result<(), Fail> {
     let alloc = rt.alloc();
     let faults = [
-        (FaultCause::CommandLine, "fault E520 CommandLine\n", 2),
-        (FaultCause::NoMemory, "fault E524 NoMemory\n", 1),
+        (
+            FaultCause::CommandLine,
+            "fault E520 CommandLine\n",
+            Status::NoCommand,
+        ),
+        (FaultCause::NoMemory, "fault E524 NoMemory\n", Status::Fault),
     ];
     for (cause, text, status) in faults {
         let answer = ended(alloc, Err(Fault::nowhere(cause)), 4096)?;
@@ -69,7 +73,7 @@ fn writers_that_fail_at_the_end(rt: HostRuntime) -> Result<(), Fail> {
         let words = words_of(alloc, &["tables", "dsdt.bin"])?;
         let answer = ended(alloc, Ok(words), room)?;
         assert_eq!(rt; answer.0.as_slice(), &LINE_1.as_bytes()[..room]);
-        assert_eq!(rt; answer.1, 1);
+        assert_eq!(rt; answer.1, Status::Fault);
     }
     Ok(())
 }

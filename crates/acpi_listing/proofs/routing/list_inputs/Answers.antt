@@ -6,14 +6,14 @@ use Rattle.acpi_sources.specs.Inputs.{tables_of}
 use Rattle.acpi_listing.proofs.RoutesListed.{load_routed, no_load}
 use Rattle.acpi_listing.proofs.routing.list_inputs.Goals as goal
 
-pub returns-in_err-namespace-clause-printed : goal.returns-in_err-namespace-clause-printed
-returns-in_err-namespace-clause-printed g c =
+pub returns-in_err-namespace : goal.returns-in_err-namespace
+returns-in_err-namespace g c =
     no_load (contents c.args.registers.file) (kinds_told c.args.signatures.now) (option_map (λ m. m.now) c.args.madt)
     c.args.request.now.asked.object.now (tables_of c.args.inputs.now)
     _ _ c.from_residual.result c.from_residual.ensures.1 c.in_err-namespace.ensures
 
-pub returns-clause-printed : goal.returns-clause-printed
-returns-clause-printed g c =
+pub returns : goal.returns
+returns g c =
     load_routed (contents c.args.registers.file) (kinds_told c.args.signatures.now) (option_map (λ m. m.now) c.args.madt)
     c.args.request.now.asked.object.now (tables_of c.args.inputs.now)
-    (shown c.in_ok-namespace.namespace) _ _ c.list_loaded.result c.in_ok-namespace.ensures c.list_loaded.ensures.printed
+    (shown c.in_ok-namespace.namespace) _ _ c.list_loaded.result c.in_ok-namespace.ensures c.list_loaded.ensures

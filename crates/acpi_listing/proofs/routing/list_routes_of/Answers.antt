@@ -9,8 +9,8 @@ use Rattle.acpi_listing.specs.Steps.{Writes}
 use Rattle.acpi_listing.proofs.RoutesListed.{inputs_routed, no_controllers, no_inputs, no_kinds, no_madt, no_registers}
 use Rattle.acpi_listing.proofs.routing.list_routes_of.Goals as goal
 
-pub returns-in_err-registers-clause-printed : goal.returns-in_err-registers-clause-printed
-returns-in_err-registers-clause-printed g c =
+pub returns-in_err-registers : goal.returns-in_err-registers
+returns-in_err-registers g c =
     let asked = c.args.request.now.asked in
     let regs = option_map (λ name. name.now) asked.regs in
     let kinds = option_map (λ name. name.now) asked.kinds in
@@ -18,8 +18,8 @@ returns-in_err-registers-clause-printed g c =
     no_registers g.F.Source.answers c.args.files.now asked.inputs asked.object.now regs kinds controllers _ _ _ c.from_residual.result
     c.from_residual.ensures.1 c.in_err-registers.ensures.read
 
-pub returns-in_err-signatures-clause-printed : goal.returns-in_err-signatures-clause-printed
-returns-in_err-signatures-clause-printed g c =
+pub returns-in_err-signatures : goal.returns-in_err-signatures
+returns-in_err-signatures g c =
     let asked = c.args.request.now.asked in
     let regs = option_map (λ name. name.now) asked.regs in
     let kinds = option_map (λ name. name.now) asked.kinds in
@@ -27,8 +27,8 @@ returns-in_err-signatures-clause-printed g c =
     no_kinds g.F.Source.answers c.args.files.now asked.inputs asked.object.now regs kinds controllers _ c.in_ok-registers.registers c.in_ok-registers.ensures.read
     _ _ _ c.from_residual-in_err-signatures.result c.from_residual-in_err-signatures.ensures.1 c.in_err-signatures.ensures
 
-pub returns-in_err-controllers-clause-printed : goal.returns-in_err-controllers-clause-printed
-returns-in_err-controllers-clause-printed g c =
+pub returns-in_err-controllers : goal.returns-in_err-controllers
+returns-in_err-controllers g c =
     let asked = c.args.request.now.asked in
     let regs = option_map (λ name. name.now) asked.regs in
     let kinds = option_map (λ name. name.now) asked.kinds in
@@ -37,8 +37,8 @@ returns-in_err-controllers-clause-printed g c =
     _ c.in_ok-signatures.signatures c.in_ok-signatures.ensures
     _ _ _ c.from_residual-in_err-controllers.result c.from_residual-in_err-controllers.ensures.1 c.in_err-controllers.ensures
 
-pub returns-in_err-madt-clause-printed : goal.returns-in_err-madt-clause-printed
-returns-in_err-madt-clause-printed g c =
+pub returns-in_err-madt : goal.returns-in_err-madt
+returns-in_err-madt g c =
     let asked = c.args.request.now.asked in
     let regs = option_map (λ name. name.now) asked.regs in
     let kinds = option_map (λ name. name.now) asked.kinds in
@@ -47,8 +47,8 @@ returns-in_err-madt-clause-printed g c =
     _ c.in_ok-signatures.signatures c.in_ok-signatures.ensures _ (lent c.in_ok-controllers.controllers) c.in_ok-controllers.ensures
     _ _ c.from_residual-in_err-madt.result c.from_residual-in_err-madt.ensures.1 c.in_err-madt.ensures
 
-pub returns-in_err-inputs-clause-printed : goal.returns-in_err-inputs-clause-printed
-returns-in_err-inputs-clause-printed g c =
+pub returns-in_err-inputs : goal.returns-in_err-inputs
+returns-in_err-inputs g c =
     let asked = c.args.request.now.asked in
     let regs = option_map (λ name. name.now) asked.regs in
     let kinds = option_map (λ name. name.now) asked.kinds in
@@ -58,8 +58,8 @@ returns-in_err-inputs-clause-printed g c =
     c.in_ok-madt.madt c.in_ok-madt.ensures
     _ _ _ c.from_residual-in_err-inputs.result c.from_residual-in_err-inputs.ensures.1 c.in_err-inputs.ensures
 
-pub returns-clause-printed : goal.returns-clause-printed
-returns-clause-printed g c =
+pub returns : goal.returns
+returns g c =
     let asked = c.args.request.now.asked in
     let regs = option_map (λ name. name.now) asked.regs in
     let kinds = option_map (λ name. name.now) asked.kinds in
@@ -70,7 +70,7 @@ returns-clause-printed g c =
     let lists = λ (madt : Option Madt).
     Writes (RoutesTables (contents registers.file) told madt asked.object.now (tables_of c.in_ok-inputs.inputs)) (tt {0}) (tt {0})
     (g.W.Write.contents c.args.out.now) (g.W.Write.contents c.list_inputs.new.out) c.list_inputs.result in
-    let listed = subst lists c.as_ref.ensures.value c.list_inputs.ensures.printed in
+    let listed = subst lists c.as_ref.ensures.value c.list_inputs.ensures in
     inputs_routed g.F.Source.answers c.args.files.now asked.inputs asked.object.now regs kinds controllers _ c.in_ok-registers.registers c.in_ok-registers.ensures.read
     _ c.in_ok-signatures.signatures c.in_ok-signatures.ensures _ (lent c.in_ok-controllers.controllers) c.in_ok-controllers.ensures
     c.in_ok-madt.madt c.in_ok-madt.ensures

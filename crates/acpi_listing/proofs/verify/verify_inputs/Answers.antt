@@ -4,11 +4,11 @@ use Rattle.acpi_sources.specs.Inputs.{tables_of}
 use Rattle.acpi_listing.proofs.Judgements.{load_judged, no_judged_load}
 use Rattle.acpi_listing.proofs.verify.verify_inputs.Goals as goal
 
-pub returns-in_err-namespace-clause-printed : goal.returns-in_err-namespace-clause-printed
-returns-in_err-namespace-clause-printed g c =
+pub returns-in_err-namespace : goal.returns-in_err-namespace
+returns-in_err-namespace g c =
     no_judged_load (kinds_told c.args.signatures.now) (tables_of c.args.inputs.now) _ _ c.from_residual.result c.from_residual.ensures.1 c.in_err-namespace.ensures
 
-pub returns-clause-printed : goal.returns-clause-printed
-returns-clause-printed g c =
+pub returns : goal.returns
+returns g c =
     load_judged (kinds_told c.args.signatures.now) (tables_of c.args.inputs.now) (shown c.in_ok-namespace.namespace) _ _ c.verify_loaded.result
-    c.in_ok-namespace.ensures c.verify_loaded.ensures.printed
+    c.in_ok-namespace.ensures c.verify_loaded.ensures
