@@ -12,6 +12,7 @@ A case is a folder crates/acpicheck/cases/NAME:
 | words | the words, one a line, each with Python's escapes for bytes, as \\xff; no file: no words |
 | input | standard input; no file: an empty one |
 | NAME.hex | hex text, spaces and line ends left out, whose bytes stand in the file NAME where the program runs |
+| NAME.link | where the link NAME leads that stands there |
 | a folder | a folder of that name there, with such files |
 | output | what standard output must be; no file: nothing |
 | status | the status that the program must end with; no file: 0 |
@@ -64,6 +65,8 @@ def lay_out(case, room):
         elif name.endswith(".hex"):
             with open(f"{room}/{name.removesuffix('.hex')}", "wb") as it:
                 it.write(bytes.fromhex(part(case, name).decode("ascii")))
+        elif name.endswith(".link"):
+            os.symlink(part(case, name).decode().strip(), f"{room}/{name.removesuffix('.link')}")
 
 
 def limit_of(memory):

@@ -99,19 +99,21 @@ fn is_folder<R: Files>(rt: &R, name: &str) -> bool {
     }
 }
 
-fn is_file<R: Files>(rt: &R, name: &str) -> bool {
+/// Whether a name may be that of a file: also where the system does not tell, so that the command
+/// reads it, and ends where it cannot.
+fn may_be_file<R: Files>(rt: &R, name: &str) -> bool {
     match fs::metadata(rt, name) {
         Ok(metadata) => metadata.is_file(),
-        Err(_) => false,
+        Err(_) => true,
     }
 }
 
 /// What is told of an entry of a folder that is not taken.
 fn passed_over<R: Files>(rt: &R, path: &str) -> &'static str {
-    match fs::metadata(rt, path) {
-        Ok(metadata) if metadata.is_dir() => ": a folder, not entered",
-        Ok(_) => ": no table's file, passed over",
-        Err(_) => ": cannot be read, passed over",
+    if is_folder(rt, path) {
+        ": a folder, not entered"
+    } else {
+        ": no table's file, passed over"
     }
 }
 
@@ -173,7 +175,7 @@ fn files_in<R: Files + Eprint + AllocGlobal + Clone + Drop>(
         };
         let path = String::from_str(rt.alloc(), entry.path().as_str())?;
         match said_by(entry.file_name()) {
-            Some((said, number)) if is_file(rt, path.as_str()) => {
+            Some((said, number)) if may_be_file(rt, path.as_str()) => {
                 if said != Said::Other || wanted == Wanted::Tables {
                     taken.push(Taken { said, number, path })?;
                 }

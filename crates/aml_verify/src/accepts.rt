@@ -11,12 +11,12 @@ use aml_values::{MOST_ELEMENTS, Value};
 pub(crate) fn are_of(kinds: &[Known], values: &[Value]) -> bool
     ensures { result ≡ are_of kinds.now (map view values.now) }
 {
-    match (kinds, values) {
-        ([], []) => true,
-        ([kind, kinds @ ..], [value, values @ ..]) => {
-            is_of(*kind, value) && are_of(kinds, values)
-        }
-        _ => false,
+    match kinds {
+        [] => values.is_empty(),
+        [kind, other_kinds @ ..] => match values {
+            [] => false,
+            [value, others @ ..] => is_of(*kind, value) && are_of(other_kinds, others),
+        },
     }
 }
 
@@ -33,18 +33,21 @@ pub(crate) fn misfit_from(number: usize, kinds: &[Known], values: &[Value]) -> O
     requires { number + length kinds.now ≤ usize.MAX }
     ensures { result ≡ misfit_from number kinds.now (map view values.now) }
 {
-    match (kinds, values) {
-        ([kind, kinds @ ..], [value, values @ ..]) => {
-            if is_of(*kind, value) {
-                misfit_from(number + 1, kinds, values)
-            } else {
-                Some(Misfit {
-                    number,
-                    kind: *kind,
-                })
+    match kinds {
+        [] => None,
+        [kind, other_kinds @ ..] => match values {
+            [] => None,
+            [value, others @ ..] => {
+                if is_of(*kind, value) {
+                    misfit_from(number + 1, other_kinds, others)
+                } else {
+                    Some(Misfit {
+                        number,
+                        kind: *kind,
+                    })
+                }
             }
-        }
-        _ => None,
+        },
     }
 }
 
