@@ -10,9 +10,9 @@ its own were not proved, and which it lacks only since it calls one that is refu
 its own refused is refused. One that inherited its refusal, or whose function was not reached, goes into another check
 without those that it calls, and in the end alone.
 
-It fails where an edit is still proved, where an old text does not stand just once, where it does not compile (the front
-end alone reads all of them first), where it fell only by a name that went, which a proof file cites, and where the prover
-met only a limit of its own, and gave no verdict.
+It fails where an edit is still proved, where an old text does not stand just once, where it does not compile (what the
+front end refused with others it reads again alone), where it fell only by a name that went, which a proof file cites,
+and where the prover met only a limit of its own, and gave no verdict.
 
 What was refused is kept, in the folder acpicheck-edits of $XDG_CACHE_HOME or else in /var/tmp, by a checksum of all that
 it stands on: the toolchain, the crate and those below, the edit and these scripts. With the word `after` the lines of
@@ -61,27 +61,22 @@ class Trial:
         self.found[edit.name] = (kind, text)
         self.left.remove(edit)
 
-    def leave_out_what_does_not_compile(self):
-        """Reads all edits by the front end, those of different lines together, and settles those that it refuses alone too."""
-        left = list(self.left)
-        while left:
-            lines, batch = set(), []
-            for edit in left:
-                if not lines & set(edit.lines):
-                    lines |= set(edit.lines)
-                    batch.append(edit)
-            left = [it for it in left if it not in batch]
-            while batch:
-                said = self.room.check(batch, [""])
-                if said.status == 0:
-                    break
-                suspects = self.suspects(batch, said) or batch
-                for edit in suspects:
-                    alone = said if len(batch) == 1 else self.room.check([edit], [""])
-                    if alone.status != 0:
-                        told = [it[2] for it in alone.compile_errors()] or alone.lines[-1:]
-                        self.settle(edit, UNSURE, f"it does not compile: {told[0][:200]}")
-                batch = [it for it in batch if it not in suspects]
+    def leave_out_what_does_not_compile(self, batch, said):
+        """Settles those of a batch, of which the front end refused some, that it refuses alone too; whether there are any."""
+        left = len(self.left)
+        while batch and said.status != 0:
+            suspects = self.suspects(batch, said) or batch
+            for edit in suspects:
+                alone = self.room.check([edit], [""])
+                if alone.status != 0:
+                    self.settle_as_no_code(edit, alone)
+            batch = [it for it in batch if it not in suspects]
+            said = self.room.check(batch, [""])
+        return len(self.left) < left
+
+    def settle_as_no_code(self, edit, said):
+        told = [it[2] for it in said.compile_errors()] or said.lines[-1:]
+        self.settle(edit, UNSURE, f"it does not compile: {told[0][:200]}")
 
     def suspects(self, batch, said):
         """The edits in whose lines, or else in whose functions, the front end found fault."""
@@ -108,6 +103,8 @@ class Trial:
         said = self.room.check(batch, self.modules(batch))
         self.batches.append(len(batch))
         if not said.ended:
+            if said.compile_errors() and self.leave_out_what_does_not_compile(batch, said):
+                return
             # it says nothing sure: smaller ones
             for edit in batch:
                 self.tries[edit.name] = MOST if len(batch) < 3 else self.tries[edit.name] + 1
@@ -136,13 +133,16 @@ class Trial:
         self.batches.append(1)
         modules = self.modules([edit])
         if modules:
-            kind, text = self.room.check([edit], modules).of_edit(self.sources, edit)
+            said = self.room.check([edit], modules)
+            kind, text = said.of_edit(self.sources, edit)
             if kind == REFUSED:
                 self.settle(edit, REFUSED, text)
                 return
         said = self.room.check([edit])
         kind, text = said.of_edit(self.sources, edit)
-        if said.status == 0 and said.ended:
+        if not said.ended and said.compile_errors():
+            self.settle_as_no_code(edit, said)
+        elif said.status == 0 and said.ended:
             self.settle(edit, PROVED, "STILL PROVED: the contract is too weak, or it means the same")
         elif said.status == 3 and any(map(edit_checks.LIMIT.search, said.lines)):
             self.settle(edit, UNSURE, "a limit of the prover, which gave no verdict, shows nothing of the contract")
@@ -166,7 +166,6 @@ class Trial:
         return UNSURE, f"it fell only by a name that went, which shows nothing of the contract: {(told or said.lines[-1:])[0][:200]}"
 
     def run(self):
-        self.leave_out_what_does_not_compile()
         while batch := self.next_batch():
             if len(batch) == 1:
                 self.tries[batch[0].name] = MOST
