@@ -46,7 +46,7 @@ const LINES: &[(FaultCause, Where, &str)] = &[
     (
         FaultCause::Resources(ResourceCause::BadItem),
         Where::Byte(65_535),
-        "E401 BadItem 65535",
+        "E402 BadItem 65535",
     ),
     (
         FaultCause::Routes(RouteCause::BadEntry),
