@@ -156,7 +156,7 @@ change_words change.OneLess = codes "one less"
 unfoldable pub otherwise_text : ℕ → Change → List ℕ
 otherwise_text number wanted =
     joined (codes ": found a Continue before or other changes of Local" ∷ decimal number
-    ∷ codes ", wanted it made " ∷ change_words wanted ∷ codes " once, by a statement of the body itself, in no If or While"
+    ∷ codes ", wanted it made " ∷ change_words wanted ∷ codes " once, in no If or While"
     ∷ [])
 
 -- what a loop lacks that has no shape

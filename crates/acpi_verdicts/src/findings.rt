@@ -253,7 +253,7 @@ fn otherwise_text(alloc: Global, local: u8, wanted: Change) -> Result<String, Al
 {
     let wanted = change_words(wanted);
     format!(in alloc;
-        ": found a Continue before or other changes of Local{local}, wanted it made {wanted} once, by a statement of the body itself, in no If or While"
+        ": found a Continue before or other changes of Local{local}, wanted it made {wanted} once, in no If or While"
     )
 }
 
