@@ -23,6 +23,10 @@ def rank_of(name):
     return None if not found or number >= 2**64 else (RANKS.get(found[1].lower(), 2), number)
 
 
+# What is told of an entry that is not taken.
+PASSED, FOLDER = "no table's file, passed over", "a folder, not entered"
+
+
 def folder_input(rng):
     """Names with their bytes; None is a folder's."""
     tables = iter(generate.Tables(rng, 0.0).set_of_tables() + [generate.other_table(rng) for _ in range(6)])
@@ -39,7 +43,7 @@ def wanted_of(command, files):
     """The answer of a command over a folder, and the lines of standard error in any order."""
     known = {name: rank_of(name) for name, data in files.items() if data is not None}
     passed = [name for name in files if known.get(name) is None]
-    notes = [f"acpicheck: tables/{name}: no table's file, passed over" for name in passed]
+    notes = [f"acpicheck: tables/{name}: {PASSED if files[name] is not None else FOLDER}" for name in passed]
     limit = 3 if command == "tables" else 2
     taken = sorted((*rank, f"tables/{name}") for name, rank in known.items() if rank and rank[0] < limit)
     data = [files[path.removeprefix("tables/")] for _, _, path in taken]
@@ -72,7 +76,7 @@ def compare_folders(program, counts, rng, cases):
         (answer, notes), (status, lines, told_lines) = wanted_of(command, files), run.result()
         counts.cases += 1
         counts.read["no table" if answer is None else command] += 1
-        passed = [line for line in told_lines if line.endswith("passed over")]
+        passed = [line for line in told_lines if line.endswith((PASSED, FOLDER))]
         is_right = sorted(passed) == sorted(notes)
         if answer is None:
             none = "no table's file" if command == "tables" else "no file of a DSDT or an SSDT"
