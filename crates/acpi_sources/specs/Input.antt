@@ -14,7 +14,7 @@ use Rattle.acpi_sources.specs.declared.source.SourceFault.{SourceFault}
 use Rattle.acpi_sources.specs.declared.source.SourceFault.TheVariants.{File, NoMemory}
 
 -- whether all bytes of a stream were read
-abbrev pub is_whole : End → Bool
+unfoldable pub is_whole : End → Bool
 is_whole end.Whole = true
 is_whole (end.Failed error) = false
 is_whole end.TooLarge = false

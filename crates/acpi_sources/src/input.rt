@@ -30,6 +30,7 @@ pub struct Input {
 
 impl Input {
     /// Whether the bytes are all that the stream had.
+    #[tactic(auto, unfolding(crate::specs::Input::is_whole))]
     pub fn is_whole(&self) -> bool
         ensures { result ≡ is_whole self.now.end }
     {
