@@ -80,9 +80,9 @@ files_more answers old mid next now xs i d u held between after below left file 
 
 -- all files were listed
 pub files_all : {F X : Type 0} (answers : Answers F) (old new : F) (now : X → List ℕ) (xs : List X) (i : ℕ) (held holds : Option (List ℕ))
-    → length xs ≤ i → LeftFrom answers old now xs i new held holds → Writes (ListsFiles answers 0 (map now xs)) old new held holds (Ok 0)
+    → length xs ≤ i → LeftFrom answers old now xs i new held holds → Writes (ListsFiles answers 0 (map now xs)) old new held holds (Ok exit.Done)
 files_all answers old new now xs i held holds all left =
-    left new holds (Ok 0) (subst (λ rest. Writes (ListsFiles answers i (map now rest)) new new holds holds (Ok 0)) (sym (drop_all i xs all))
+    left new holds (Ok exit.Done) (subst (λ rest. Writes (ListsFiles answers i (map now rest)) new new holds holds (Ok exit.Done)) (sym (drop_all i xs all))
     (ended new holds exit.Done exit.Done refl))
 
 -- a file stopped the listing

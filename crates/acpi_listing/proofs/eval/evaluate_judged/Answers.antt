@@ -1,4 +1,4 @@
-use Rattle.std.proofs.Common.{◌≡◌, ◌∙◌, ℕ, Some, Result, Ok, Err, ap, map, false, refl, subst, sym, true}
+use Rattle.std.proofs.Common.{◌≡◌, ◌∙◌, Some, Result, Ok, Err, ap, map, false, refl, subst, sym, true}
 use Rattle.acpi_listing.specs.Commands.{IsDone}
 use Rattle.acpi_sources.specs.Faults.{nowhere}
 use Rattle.acpi_sources.specs.declared.fault.FaultCause.TheVariants as cause

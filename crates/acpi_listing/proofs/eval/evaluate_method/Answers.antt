@@ -1,4 +1,4 @@
-use Rattle.std.proofs.Common.{◌≡◌, ℕ, Result, Err, ap, map, refl, true}
+use Rattle.std.proofs.Common.{◌≡◌, Result, Err, ap, map, refl, true}
 use Rattle.acpi_listing.specs.Commands.{Takes}
 use Rattle.acpi_sources.specs.Faults.{nowhere}
 use Rattle.acpi_sources.specs.declared.fault.FaultCause.TheVariants as cause

@@ -25,5 +25,5 @@ returns-in_err-list_names g c =
 pub returns : goal.returns
 returns g c =
     let ns = shown c.in_ok-namespace.namespace in
-    names_listed g.F.Source.answers _ _ c.args.names.now c.in_ok-inputs.inputs ns _ _ (Ok 0)
+    names_listed g.F.Source.answers _ _ c.args.names.now c.in_ok-inputs.inputs ns _ _ (Ok exit.Done)
     c.in_ok-inputs.ensures c.in_ok-namespace.ensures (told c.read.new.files _ _ (names_text ns) exit.Done exit.Done refl c.in_ok-list_names.ensures)
