@@ -104,7 +104,7 @@ class Wrong(script.Trial):
         self.last = {}
 
     def run(self):
-        self.leave_out_what_does_not_compile()
+        self.leave_out_what_does_not_compile(list(self.left), self.room.check(self.left, [""]))
         print(f"{len(self.left)} wrong bodies compile, {len(self.found)} do not", flush=True)
         while batch := self.next_batch():
             self.try_together(batch)
