@@ -35,8 +35,9 @@ const MOST_WITHIN: u8 = 63;
 /// The outcome is that of the meaning of the tree that the grammar ties to those bytes, where
 /// mutexes are not watched: its value or none, its error at its table and place, or out of steps;
 /// and so are what names hold afterwards and the events that the world gained. Want of memory comes
-/// where the world refuses a call, or where the meaning says that memory is wanted: names and events
-/// are then those of the meaning with fewer steps. Arguments behind the seventh are not looked at.
+/// where the world refuses a call, or where the meaning says that memory is wanted: names and
+/// events are then those of the meaning with fewer steps. Arguments behind the seventh are not
+/// looked at.
 pub fn evaluate_direct<W: World>(
     alloc: Global,
     namespace: &Namespace<'_>,

@@ -1,7 +1,6 @@
 // Where in a literal of data a size is computed (ACPI 6.5, 19.6, Buffer and Package).
 
-ghost use Rattle.std.specs.Prelude.{◌≡◌, ◌≤◌, ◌<◌, ℕ, length, Option, IfNone, IfSome, IsOk, IfOk};
-ghost use Rattle.aml_lex.specs.Reading.{string_data_at};
+ghost use Rattle.std.specs.Prelude.{◌≡◌, ◌≤◌, ◌<◌, ℕ, length, Option, IfNone, IfSome};
 ghost use Rattle.aml_literals.specs.There.{PartsThere, computed_in};
 ghost use Rattle.aml_operators.specs.Literal.{literal_of};
 ghost use Rattle.aml_operators.specs.Tree.{stop_of, trees};
@@ -10,11 +9,10 @@ ghost use Rattle.aml_meaning.specs.Actions.{action};
 ghost use Rattle.aml_meaning.specs.declared.action.Action.TheVariants as does;
 ghost use Rattle.aml_direct.specs.Data.{ElementLies, ElementsLie, SizeLies};
 
-use aml_lex::string_data;
 use aml_literals::literal_number;
 use aml_meaning::{Action, action_of};
 use aml_operators::Op;
-use aml_places::{name_end, package};
+use aml_places::{name_end, package, text_end};
 use aml_tree::op_at;
 
 /// The place behind the integer literal that stands at a place as a size; none where what stands
@@ -32,19 +30,6 @@ fn past_literal(bytes: &[u8], at: usize) -> Option<usize>
     match action_of(op) {
         Action::Literal(_) => Some(literal_number(op, bytes, next).1),
         _ => None,
-    }
-}
-
-/// The place behind the 00 of the text at a place.
-fn text_end(bytes: &[u8], at: usize) -> usize
-    requires { IsOk (string_data_at bytes.now at) }
-    ensures is { IfOk (string_data_at bytes.now at) (λ r. r.1 ≡ result) }
-    ensures ahead { at < result }
-    ensures within { result ≤ length bytes.now }
-{
-    match string_data(bytes, at) {
-        Ok((_, stop)) => stop,
-        Err(_) => unreachable!(),
     }
 }
 

@@ -12,10 +12,10 @@ ghost use Rattle.aml_direct.specs.Past.{PieceLies, StandArguments};
 ghost use Rattle.aml_quick.specs.Settings.{count_of};
 
 use aml_counts::count;
-use aml_lex::{pkg_length, string_data};
+use aml_lex::pkg_length;
 use aml_namespace::Link;
 use aml_operators::{Code, Letter, Naming, Piece, Spot, naming_of, row_of};
-use aml_places::{name_end, package, past_else};
+use aml_places::{name_end, package, past_else, text_end};
 use aml_scene::own::link_of;
 use aml_scene::scene::Scene;
 use aml_tree::op_at;
@@ -123,10 +123,7 @@ fn past_piece(scene: &Scene<'_>, piece: Piece, bytes: &[u8], at: usize) -> usize
             Ok((_, stop)) => stop,
             Err(_) => unreachable!(),
         },
-        Piece::Text => match string_data(bytes, at) {
-            Ok((_, stop)) => stop,
-            Err(_) => unreachable!(),
-        },
+        Piece::Text => text_end(bytes, at),
         Piece::Connection => {
             if bytes[at] == 0x11 {
                 past(scene, Spot::Connection, bytes, at)

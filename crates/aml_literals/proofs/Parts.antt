@@ -26,7 +26,8 @@ use Rattle.aml_contents.specs.BodyData.{body_data, computed_size, first_computed
 use Rattle.aml_contents.specs.FirstContents.{filled}
 use Rattle.aml_literals.specs.There.{DataThere, IsCount, PackageThere, PartsThere, SizeThere, package_letters}
 use Rattle.aml_literals.proofs.Literals.{little_is}
-use Rattle.aml_literals.proofs.Terms.{end_read, text_read}
+use Rattle.aml_places.proofs.Inversion.{end_read}
+use Rattle.aml_places.proofs.Past.{text_read}
 
 -- what is said of an answer holds of what was read
 pub of_read : {X F : Type 0} (r : Result X F) (x : X) (P : X → Type 0) → r ≡ Ok x → IfOk r P → P x

@@ -12,7 +12,6 @@ ghost use Rattle.aml_meaning.specs.Actions.{action};
 ghost use Rattle.aml_meaning.specs.declared.action.Action.TheVariants as does;
 ghost use Rattle.aml_literals.specs.There.{DataThere, ElementThere, ElementsThere, IsCount, PackageThere, RestThere, first_element};
 
-use crate::ends::{name_end, package, text_end};
 use crate::numbers::{literal_at, literal_number, number};
 use aml_contents::{filled, package_of};
 use aml_lex::bytes_between;
@@ -20,6 +19,7 @@ use aml_meaning::{Action, action_of};
 use aml_namespace::Namespace;
 use aml_operators::Op;
 use aml_paths::{NamePlace, NoMemory, ObjectId, Scope};
+use aml_places::{name_end, package, text_end};
 use aml_tree::op_at;
 use aml_values::{Element, Value};
 use std::alloc::Global;

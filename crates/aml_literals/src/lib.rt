@@ -2,12 +2,10 @@
 //! and 19.6): no tree is made. The answer is the definition's for whatever parts the grammar has
 //! there.
 //!
-//! Rooms: `numbers`, integer literals; `ends`, where a part ends; `data`, buffers, strings and
-//! packages.
+//! Rooms: `numbers`, integer literals; `data`, buffers, strings and packages.
 #![tactic(auto)]
 
 mod data;
-mod ends;
 mod numbers;
 
 pub use data::data_value;

@@ -5,4 +5,4 @@
 
 mod places;
 
-pub use places::{has_else, name_end, package, past_else, target_at};
+pub use places::{has_else, name_end, package, past_else, target_at, text_end};

@@ -1,12 +1,12 @@
 // Where parts end that are known to stand at a place (ACPI 6.5, 20.2.2 to 20.2.5).
 
 ghost use Rattle.std.specs.Prelude.{◌≡◌, ◌≤◌, ◌<◌, IfOk, IsOk, Ok, length, slice_get};
-ghost use Rattle.aml_lex.specs.Reading.{name_string_at, package_end_at};
+ghost use Rattle.aml_lex.specs.Reading.{name_string_at, package_end_at, string_data_at};
 ghost use Rattle.aml_operators.specs.declared.row.Spot.TheVariants as spot;
 ghost use Rattle.aml_places.specs.Forms.{ElseThere, Form, LiesSome};
 ghost use Rattle.aml_places.specs.Lies.{LieElse, LiesTarget, is_else_byte};
 
-use aml_lex::{leads_segment, name_string, package_end};
+use aml_lex::{leads_segment, name_string, package_end, string_data};
 use aml_operators::Op;
 use aml_tree::op_at;
 
@@ -20,6 +20,19 @@ pub fn package(bytes: &[u8], at: usize) -> (usize, usize)
 {
     match package_end(bytes, at) {
         Ok(read) => read,
+        Err(_) => unreachable!(),
+    }
+}
+
+/// The place behind the 00 of the text at a place.
+pub fn text_end(bytes: &[u8], at: usize) -> usize
+    requires { IsOk (string_data_at bytes.now at) }
+    ensures is { IfOk (string_data_at bytes.now at) (λ r. r.1 ≡ result) }
+    ensures ahead { at < result }
+    ensures within { result ≤ length bytes.now }
+{
+    match string_data(bytes, at) {
+        Ok((_, end)) => end,
         Err(_) => unreachable!(),
     }
 }

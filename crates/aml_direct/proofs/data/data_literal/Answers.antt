@@ -3,7 +3,8 @@ use Rattle.aml_operators.specs.Tree.{trees}
 use Rattle.std.proofs.lemmas.Result.{err_from_is_err_and}
 use Rattle.aml_meaning.proofs.Runs.{runs_give, runs_no_memory, runs_stop_with, runs_with_memory}
 use Rattle.aml_quick.specs.Settings.{count_of}
-use Rattle.aml_direct.proofs.Simple.{data_row, parts_there}
+use Rattle.aml_quick.proofs.Forms.{parts_there}
+use Rattle.aml_direct.proofs.Simple.{data_row}
 use Rattle.aml_direct.proofs.Sizes.{none_anywhere}
 use Rattle.aml_direct.proofs.data.data_literal.Goals as goal
 

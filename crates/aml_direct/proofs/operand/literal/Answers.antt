@@ -1,7 +1,7 @@
 use Rattle.std.proofs.Common.{sym}
 use Rattle.aml_meaning.proofs.Runs.{runs_give}
 use Rattle.aml_quick.specs.Settings.{count_of}
-use Rattle.aml_direct.proofs.Simple.{literal_row, parts_there}
+use Rattle.aml_quick.proofs.Forms.{literal_row, parts_there}
 use Rattle.aml_direct.proofs.operand.literal.Goals as goal
 
 pub literal_number-number-requires-clause-literal : goal.literal_number-number-requires-clause-literal

@@ -1,9 +1,9 @@
 use Rattle.std.proofs.Common.{◌≡◌, ◌+◌, ◌-◌, ◌≤◌, ◌<◌, [], ◌∷◌, length, length-take, length-drop, take, drop, sym, ap, ◌∙◌, arith}
 use Rattle.std.proofs.lemmas.Grind.{common_steps}
 use Rattle.std.specs.Prelude.{IsOk}
-use Rattle.aml_lex.specs.Reading.{pkg_length_at, string_data_at}
+use Rattle.aml_lex.specs.Reading.{pkg_length_at}
 use Rattle.aml_operators.specs.declared.row.Letter.TheVariants.{One, Sized, Package, Branch, Terms, Fields, Bytes}
-use Rattle.aml_places.proofs.Past.{behind_branch, behind_piece, behind_size, bits_piece, bits_piece_ends, bits_there, branch_stands, connection_begins, connection_buffer, connection_name, argued, first_argument, first_piece, first_size, in_branch, in_length, in_package, last_argument, name_alone_ends, name_piece, name_piece_ends, name_stands, next_arguments, not_err, number_piece_ends, package_stands, passed, piece_ends, size_ends, text_piece, text_piece_ends, text_there}
+use Rattle.aml_places.proofs.Past.{behind_branch, behind_piece, behind_size, bits_piece, bits_piece_ends, bits_there, branch_stands, connection_begins, connection_buffer, connection_name, argued, first_argument, first_piece, first_size, in_branch, in_length, in_package, last_argument, name_alone_ends, name_piece, name_piece_ends, name_stands, next_arguments, not_err, number_piece_ends, package_stands, passed, piece_ends, size_ends, text_piece, text_piece_ends}
 use Rattle.aml_quick.specs.Settings.{count_of}
 use Rattle.aml_direct.proofs.past.+past.Goals as goal
 
@@ -210,21 +210,11 @@ past_piece-returns-in-Ok-clause-is t c = λ u lies.
     let h = rw c.in-Bits.is at lies in
     bits_piece_ends (count_of c.args.scene.now) c.args.bytes.now c.args.at (c.in-Ok.field-0-0, c.in-Ok.stop) u (sym c.pkg_length.ensures.gives ∙ c.in-Ok.is) h
 
-pub past_piece-string_data-requires : goal.past_piece-string_data-requires
-past_piece-string_data-requires t c =
-    let h = rw c.in-Text.is at c.requires in
-    text_there (count_of c.args.scene.now) c.args.bytes.now c.args.at h.it h.lies
+pub past_piece-text_end-requires : goal.past_piece-text_end-requires
+past_piece-text_end-requires t c = let h = rw c.in-Text.is at c.requires in text_piece (count_of c.args.scene.now) c.args.bytes.now c.args.at h.it h.lies
 
-pub past_piece-unreachable-requires-in-Err-string_data : goal.past_piece-unreachable-requires-in-Err-string_data
-past_piece-unreachable-requires-in-Err-string_data t c =
-    let h = rw c.in-Text.is at c.requires in
-    let ok : IsOk (string_data_at c.args.bytes.now c.args.at) = text_piece (count_of c.args.scene.now) c.args.bytes.now c.args.at h.it h.lies in
-    not_err (string_data_at c.args.bytes.now c.args.at) c.in-Err-string_data.field-0 ok c.in-Err-string_data.ensures.gives
-
-pub past_piece-returns-in-Ok-string_data-clause-is : goal.past_piece-returns-in-Ok-string_data-clause-is
-past_piece-returns-in-Ok-string_data-clause-is t c = λ u lies.
-    let h = rw c.in-Text.is at lies in
-    text_piece_ends (count_of c.args.scene.now) c.args.bytes.now c.args.at (c.in-Ok-string_data.field-0-0.now, c.in-Ok-string_data.stop) u c.in-Ok-string_data.ensures.gives h
+pub past_piece-returns-in-Text-clause-is : goal.past_piece-returns-in-Text-clause-is
+past_piece-returns-in-Text-clause-is t c = λ u lies. let h = rw c.in-Text.is at lies in text_piece_ends (count_of c.args.scene.now) c.args.bytes.now c.args.at c.text_end.result u c.text_end.ensures.is h
 
 pub past_piece-bounds-bytes-at : goal.past_piece-bounds-bytes-at
 past_piece-bounds-bytes-at t c =

@@ -1,5 +1,0 @@
-use Rattle.aml_literals.proofs.Terms.{name_within}
-use Rattle.aml_literals.proofs.ends.name_end.Goals as goal
-
-pub name_string-requires : goal.name_string-requires
-name_string-requires c = name_within c.args.bytes.now c.args.at c.requires

@@ -1,5 +1,0 @@
-use Rattle.aml_literals.proofs.Terms.{package_within}
-use Rattle.aml_literals.proofs.ends.package.Goals as goal
-
-pub package_end-requires : goal.package_end-requires
-package_end-requires c = package_within c.args.bytes.now c.args.at c.requires
