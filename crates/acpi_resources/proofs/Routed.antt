@@ -11,6 +11,7 @@ use Rattle.acpi_resources.specs.RouteFaults.{RouteFails, RoutesAs}
 use Rattle.acpi_resources.specs.Routes.{leads, mapped, route_of, routed, routes_from, source_interrupt}
 use Rattle.acpi_resources.specs.Interrupts.{Links, flat, interrupt_of_device, items_of_device, link_interrupt}
 use Rattle.acpi_resources.specs.Mappings.{mapping_of}
+use Rattle.acpi_resources.specs.declared.mapping.EntryFault.{EntryFault}
 use Rattle.acpi_resources.specs.declared.mapping.Mapping.{Mapping}
 use Rattle.acpi_resources.specs.declared.mapping.Source.{Source}
 use Rattle.acpi_resources.specs.declared.mapping.Source.TheVariants as source
@@ -85,9 +86,9 @@ module _ (f g : ℕ → Option GlobalInterrupt) (same : (device : ℕ) → f dev
   same_source (source.Link None) = refl
   same_source (source.Global number) = refl
 
-  same_mapped : (number : ℕ) (m : Option Mapping) → mapped f number m ≡ mapped g number m
-  same_mapped number (Some mapping) = ap (routed number mapping) (same_source mapping.source)
-  same_mapped number None = refl
+  same_mapped : (number : ℕ) (m : Result Mapping EntryFault) → mapped f number m ≡ mapped g number m
+  same_mapped number (Ok mapping) = ap (routed number mapping) (same_source mapping.source)
+  same_mapped number (Err fault) = refl
 
   pub same_routes : (number : ℕ) (es : Elements) → routes_from f number es ≡ routes_from g number es
   same_routes number none = refl

@@ -1,7 +1,10 @@
 -- What the elements of a _PRT say (ACPI 6.5, 6.2.13, table 6.15).
-use Rattle.std.specs.Prelude.{ℕ, ◌^◌, ◌==◌, Option, Some, None, nat_lt, if◌then◌else◌}
+use Rattle.std.specs.Prelude.{ℕ, ◌^◌, ◌==◌, Option, Some, None, Result, Ok, Err, nat_lt, if◌then◌else◌}
 use Rattle.std.specs.Option.{option_and_then}
+use Rattle.aml_paths.specs.declared.scope.ObjectId.{ObjectId}
 use Rattle.aml_values.specs.Values.{Element, Elements, Holds, Int, Named, Pkg, more, none}
+use Rattle.acpi_resources.specs.declared.mapping.EntryFault.{EntryFault}
+use Rattle.acpi_resources.specs.declared.mapping.EntryFault.TheVariants as wrong
 use Rattle.acpi_resources.specs.declared.mapping.Mapping.{Mapping}
 use Rattle.acpi_resources.specs.declared.mapping.Source.{Source}
 use Rattle.acpi_resources.specs.declared.mapping.Source.TheVariants.{Link, Global}
@@ -19,34 +22,60 @@ pin_of n = if n == 0 then Some A
     else (if n == 2 then Some C
     else (if n == 3 then Some D else None)))
 
+-- the pin that an element is
+abbrev pub pin_of_part : Element → Option Pin
+pin_of_part part = option_and_then pin_of (integer_of part)
+
+-- a name is a source whatever integer the index is
+abbrev pub named : Option ObjectId → Option ℕ → Result Source EntryFault
+named object (Some index) = Ok (Link object)
+named object None = Err wrong.Index
+
 -- without a link the index is the number of a global interrupt, which has 32 bits
-abbrev pub index_of : ℕ → Option Source
-index_of index = if nat_lt index (2 ^ 32) then Some (Global index) else None
+abbrev pub numbered : Option ℕ → Result Source EntryFault
+numbered (Some index) =
+    if nat_lt index (2 ^ 32) then Ok (Global index) else Err wrong.GreatIndex
+numbered None = Err wrong.Index
 
--- a source is a name, whatever the index is, or 0, with which the index tells
-abbrev pub source_of : Element → ℕ → Option Source
-source_of (Named object) index = Some (Link object)
-source_of (Holds (Int n)) index = if n == 0 then index_of index else None
-source_of _ index = None
+-- a source is a name, or 0, with which the index tells
+abbrev pub source_of : Element → Element → Result Source EntryFault
+source_of (Named object) index = named object (integer_of index)
+source_of (Holds (Int n)) index =
+    if n == 0 then numbered (integer_of index) else Err wrong.Source
+source_of _ index = Err wrong.Source
 
-abbrev pub mapping_with : Option ℕ → Option Pin → Option Source → Option Mapping
-mapping_with (Some address) (Some pin) (Some source) =
-    Some (record { address = address; pin = pin; source = source })
-mapping_with _ _ _ = None
+-- what the parts say, each in its turn
+abbrev pub with_source : ℕ → Pin → Result Source EntryFault → Result Mapping EntryFault
+with_source address pin (Ok source) =
+    Ok (record { address = address; pin = pin; source = source })
+with_source address pin (Err fault) = Err fault
 
--- what an address, a pin, a source and an index say
-abbrev pub mapping_of_four : Element → Element → Element → Element → Option Mapping
+abbrev pub with_pin : ℕ → Option Pin → Result Source EntryFault → Result Mapping EntryFault
+with_pin address (Some pin) source = with_source address pin source
+with_pin address None source = Err wrong.Pin
+
+abbrev pub with_address : Option ℕ → Option Pin → Result Source EntryFault →
+    Result Mapping EntryFault
+with_address (Some address) pin source = with_pin address pin source
+with_address None pin source = Err wrong.Address
+
+-- what an address, a pin, a source and an index say; the first that is none of these is told
+abbrev pub mapping_of_four : Element → Element → Element → Element → Result Mapping EntryFault
 mapping_of_four address pin source index =
-    mapping_with (integer_of address) (option_and_then pin_of (integer_of pin))
-    (option_and_then (source_of source) (integer_of index))
+    with_address (integer_of address) (pin_of_part pin) (source_of source index)
 
 -- what the parts of an element say, which are just these four
-abbrev pub mapping_of_parts : Elements → Option Mapping
+abbrev pub mapping_of_parts : Elements → Result Mapping EntryFault
 mapping_of_parts (more address (more pin (more source (more index none)))) =
     mapping_of_four address pin source index
-mapping_of_parts _ = None
+mapping_of_parts _ = Err wrong.Parts
 
 -- what an element says, if it says anything
-abbrev pub mapping_of : Element → Option Mapping
+abbrev pub mapping_of : Element → Result Mapping EntryFault
 mapping_of (Holds (Pkg parts)) = mapping_of_parts parts
-mapping_of _ = None
+mapping_of _ = Err wrong.Parts
+
+-- what keeps an element from saying anything
+abbrev pub fault_of : Result Mapping EntryFault → Option EntryFault
+fault_of (Ok mapping) = None
+fault_of (Err fault) = Some fault

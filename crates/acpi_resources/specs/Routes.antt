@@ -3,6 +3,7 @@ use Rattle.std.specs.Prelude.{ℕ, ◌+◌, List, [], ◌∷◌, Option, Some, N
 use Rattle.aml_values.specs.Values.{Element, Elements, Pkg, Value, more, none}
 use Rattle.acpi_resources.specs.Mappings.{mapping_of}
 use Rattle.acpi_resources.specs.RouteFaults.{route_refusal}
+use Rattle.acpi_resources.specs.declared.mapping.EntryFault.{EntryFault}
 use Rattle.acpi_resources.specs.declared.mapping.Mapping.{Mapping}
 use Rattle.acpi_resources.specs.declared.mapping.Source.{Source}
 use Rattle.acpi_resources.specs.declared.mapping.Source.TheVariants.{Link, Global}
@@ -27,10 +28,11 @@ routed number mapping (Some interrupt) =
     Ok (record { address = mapping.address; pin = mapping.pin; interrupt = interrupt })
 routed number mapping None = Err (route_refusal NoLink number)
 
-abbrev pub mapped : (ℕ → Option GlobalInterrupt) → ℕ → Option Mapping → Result Route RouteRefusal
-mapped of_device number (Some mapping) =
+abbrev pub mapped : (ℕ → Option GlobalInterrupt) → ℕ → Result Mapping EntryFault →
+    Result Route RouteRefusal
+mapped of_device number (Ok mapping) =
     routed number mapping (source_interrupt of_device mapping.source)
-mapped of_device number None = Err (route_refusal BadEntry number)
+mapped of_device number (Err fault) = Err (route_refusal BadEntry number)
 
 -- the route of an element by its number: first it has to say something, then what it says has to
 -- have an interrupt

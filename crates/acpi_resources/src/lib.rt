@@ -28,6 +28,7 @@ pub use fault::{ResourceCause, ResourceFault, ResourceRefusal};
 pub use item::{AddressWidth, Item};
 pub use law::{items_are_spelled, refusals_are_first};
 pub use link::has_irq;
+pub use mapping::{EntryFault, entry_fault};
 pub use numbers::Numbers;
 pub use reader::items;
 pub use route::{GlobalInterrupt, Pin, Route};

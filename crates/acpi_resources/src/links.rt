@@ -47,9 +47,6 @@ impl Links {
     pub(crate) fn interrupt(&self, device: ObjectId) -> Option<GlobalInterrupt>
         ensures { result ≡ flat (get nat_cmp self.now.interrupts device.0) }
     {
-        match self.interrupts.get(&device.0) {
-            Some(interrupt) => *interrupt,
-            None => None,
-        }
+        *self.interrupts.get(&device.0)?
     }
 }

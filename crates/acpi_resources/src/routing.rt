@@ -74,7 +74,7 @@ fn route_of(each: &Element, number: usize, links: &Links) -> Result<Route, Route
     ensures { let of_device = λ (device : ℕ). flat (get nat_cmp links.now.interrupts device) in
         RoutesAs (λ route. route) result (route_of of_device number (element each.now)) }
 {
-    let Some(mapping) = mapping_of(each) else {
+    let Ok(mapping) = mapping_of(each) else {
         return Err(refuse_element(RouteCause::BadEntry, number));
     };
     let Some(interrupt) = source_interrupt(mapping.source, links) else {

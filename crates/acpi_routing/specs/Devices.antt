@@ -1,9 +1,12 @@
 -- The link devices that a _PRT names (ACPI 6.5, 6.2.13).
-use Rattle.std.specs.Prelude.{◌≡◌, ◌==◌, ◌&&◌, ◌++◌, ℕ, zero, suc, List, [], ◌∷◌, Bool, Option, Some, None, not, if◌then◌else◌}
+use Rattle.std.specs.Prelude.{◌≡◌, ◌==◌, ◌&&◌, ◌++◌, ℕ, zero, suc, List, [], ◌∷◌, Bool, Option, Some, None, not, unwrap_or, if◌then◌else◌}
 use Rattle.std.specs.BTreeSet.{BTreeSet, contains}
 use Rattle.std.specs.List.{filter, list_any}
 use Rattle.std.specs.Option.{option_and_then}
 use Rattle.std.specs.Ordering.{nat_cmp}
+use Rattle.acpi_resources.specs.Mappings.{fault_of, mapping_of}
+use Rattle.acpi_resources.specs.declared.mapping.EntryFault.{EntryFault}
+use Rattle.acpi_resources.specs.declared.mapping.EntryFault.TheVariants as wrong
 use Rattle.aml_paths.specs.declared.scope.ObjectId.{ObjectId}
 use Rattle.aml_values.specs.Values.{Element, Elements, Holds, Named, Pkg, Value, more, none}
 
@@ -51,6 +54,16 @@ devices_in v = []
 abbrev pub device_in : Value → ℕ → Option ObjectId
 device_in (Pkg es) number = option_and_then device_of (element_in es number)
 device_in v number = None
+
+-- what keeps an element from saying where an interrupt comes from, if anything does; where there is
+-- no element there is no package
+abbrev pub fault_of_one : Option Element → EntryFault
+fault_of_one (Some e) = unwrap_or (fault_of (mapping_of e)) wrong.Parts
+fault_of_one None = wrong.Parts
+
+abbrev pub fault_in : Value → ℕ → EntryFault
+fault_in (Pkg es) number = fault_of_one (element_in es number)
+fault_in v number = wrong.Parts
 
 -- whether a device is among others
 abbrev pub is_among : ℕ → List ObjectId → Bool

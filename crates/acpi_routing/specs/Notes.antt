@@ -5,8 +5,10 @@ use Rattle.acpi_resources.specs.Causes.{resource_cause_text}
 use Rattle.acpi_resources.specs.Interrupts.{Links}
 use Rattle.acpi_resources.specs.declared.fault.ResourceRefusal.{ResourceRefusal}
 use Rattle.acpi_resources.specs.declared.item.Item.{Item}
+use Rattle.acpi_resources.specs.declared.mapping.EntryFault.{EntryFault}
+use Rattle.acpi_resources.specs.declared.mapping.EntryFault.TheVariants as wrong
 use Rattle.acpi_routing.specs.Crs.{crs_of}
-use Rattle.acpi_routing.specs.Devices.{device_in}
+use Rattle.acpi_routing.specs.Devices.{device_in, fault_in}
 use Rattle.acpi_routing.specs.declared.fault.LinkRefusal.{LinkRefusal}
 use Rattle.acpi_routing.specs.declared.notes.Reason.{Reason}
 use Rattle.acpi_routing.specs.declared.notes.Reason.TheVariants as reason
@@ -21,12 +23,23 @@ use Rattle.aml_paths.specs.declared.scope.ObjectId.{ObjectId}
 use Rattle.aml_values.specs.Values.{Value}
 use Rattle.aml_verify.specs.declared.checked.Checked.{Checked}
 
+-- what keeps an element from saying where an interrupt comes from
+unfoldable pub entry_words : EntryFault → List ℕ
+entry_words wrong.Parts = codes "is no package of four: an address, a pin, a source and an index"
+entry_words wrong.Address = codes "has an address that is no integer"
+entry_words wrong.Pin = codes "has a pin that is no integer from 0 to 3"
+entry_words wrong.Source = codes "has a source that is neither a name nor 0"
+entry_words wrong.Index = codes "has an index that is no integer"
+entry_words wrong.GreatIndex = codes "has an index that is not below 2^32, behind source 0"
+
+-- what is said of the element with a number
+unfoldable pub element_note : ℕ → List ℕ → List ℕ
+element_note number words =
+    joined (codes "element " ∷ decimal number ∷ codes " of the _PRT " ∷ words ∷ [])
+
 -- an element that says nothing
-unfoldable pub entry_note : ℕ → List ℕ
-entry_note number =
-    joined (codes "element " ∷ decimal number
-    ∷ codes " of the _PRT is no package of an address, a pin from 0 to 3, a source (a name, or 0) and an index below 2^32"
-    ∷ [])
+abbrev pub entry_note : Value → ℕ → List ℕ
+entry_note prt number = element_note number (entry_words (fault_in prt number))
 
 -- what stands behind the path of a link whose bytes are no list
 unfoldable pub link_part : ResourceRefusal → List ℕ

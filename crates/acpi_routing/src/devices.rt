@@ -2,9 +2,10 @@
 
 ghost use Rattle.std.specs.Prelude.{◌≡◌, ◌∷◌, ◌++◌, [], IfOk, OnOk};
 ghost use Rattle.std.specs.Option.{option_and_then, option_map};
-ghost use Rattle.acpi_routing.specs.Devices.{IsSetOf, device_in, device_named, device_of, devices_among, devices_in, element_in, once, with_device};
+ghost use Rattle.acpi_routing.specs.Devices.{IsSetOf, device_in, device_named, device_of, devices_among, devices_in, element_in, fault_in, fault_of_one, once, with_device};
 ghost use Rattle.aml_values.specs.Views.{element, elements_of, view};
 
+use acpi_resources::{EntryFault, entry_fault};
 use aml_paths::ObjectId;
 use aml_values::{Element, Value};
 use std::alloc::{AllocError, Global};
@@ -28,6 +29,17 @@ pub(crate) fn device_at(prt: &Value, number: usize) -> Option<ObjectId>
     match prt {
         Value::Pkg(package) => device_of_one(package.elements().get(number)),
         _ => None,
+    }
+}
+
+/// What keeps an element of a `_PRT` from saying where an interrupt comes from, by the element's
+/// number.
+pub(crate) fn entry_fault_at(prt: &Value, number: usize) -> EntryFault
+    ensures { result ≡ fault_in (view prt.now) number }
+{
+    match prt {
+        Value::Pkg(package) => fault_of_one(package.elements().get(number)),
+        _ => EntryFault::Parts,
     }
 }
 
@@ -80,6 +92,16 @@ fn device_of_one(each: Option<&Element>) -> Option<ObjectId>
     match each {
         Some(each) => device_of(each),
         None => None,
+    }
+}
+
+// What keeps an element from saying where an interrupt comes from, if anything does.
+fn fault_of_one(each: Option<&Element>) -> EntryFault
+    ensures { result ≡ fault_of_one (option_map element (option_map (λ e. e.now) each.entry)) }
+{
+    match each {
+        Some(each) => entry_fault(each).unwrap_or(EntryFault::Parts),
+        None => EntryFault::Parts,
     }
 }
 

@@ -3,15 +3,15 @@
 ghost use Rattle.std.specs.Prelude.{◌≡◌, ◌++◌, IfOk, OnOk, map, string_bytes};
 ghost use Rattle.std.specs.Option.{option_map};
 ghost use Rattle.acpi_resources.specs.Interrupts.{crs_of_links};
-ghost use Rattle.acpi_routing.specs.Notes.{entry_note, is_listed, link_part, link_text, named_text, reason_by, reason_of, reason_text, reason_words, source_part, source_text};
+ghost use Rattle.acpi_routing.specs.Notes.{element_note, entry_note, entry_words, is_listed, link_part, link_text, named_text, reason_by, reason_of, reason_text, reason_words, source_part, source_text};
 ghost use Rattle.acpi_verdicts.specs.Explained.{chain_text};
 ghost use Rattle.aml_namespace.specs.Shows.{shown};
 ghost use Rattle.aml_values.specs.Views.{view};
 
 use crate::crs::crs_of;
-use crate::devices::device_at;
+use crate::devices::{device_at, entry_fault_at};
 use crate::fault::LinkRefusal;
-use acpi_resources::{Item, ResourceRefusal};
+use acpi_resources::{EntryFault, Item, ResourceRefusal};
 use acpi_text::RunFault;
 use acpi_verdicts::explain;
 use aml_namespace::Namespace;
@@ -34,14 +34,34 @@ enum Reason {
     NoInterrupt,
 }
 
-/// Of an element of a `_PRT` that says nothing, by its number.
-#[tactic(auto, unfolding(crate::specs::Notes::entry_note))]
-pub fn entry_note(alloc: Global, number: usize) -> Result<String, AllocError>
-    ensures { IfOk result (λ note. string_bytes note ≡ entry_note number) }
+/// Of an element of a `_PRT` that says nothing, by its number: what keeps it from that.
+pub fn entry_note(alloc: Global, prt: &Value, number: usize) -> Result<String, AllocError>
+    ensures { IfOk result (λ note. string_bytes note ≡ entry_note (view prt.now) number) }
 {
-    format!(in alloc;
-        "element {number} of the _PRT is no package of an address, a pin from 0 to 3, a source (a name, or 0) and an index below 2^32"
-    )
+    element_note(alloc, number, entry_words(entry_fault_at(prt, number)))
+}
+
+// What is said of the element with a number.
+#[tactic(auto, unfolding(crate::specs::Notes::element_note))]
+fn element_note(alloc: Global, number: usize, words: &str) -> Result<String, AllocError>
+    ensures { IfOk result (λ note. string_bytes note ≡ element_note number words.now) }
+{
+    format!(in alloc; "element {number} of the _PRT {words}")
+}
+
+// What keeps an element of a `_PRT` from saying where an interrupt comes from, in words.
+#[tactic(auto, unfolding(crate::specs::Notes::entry_words))]
+fn entry_words(fault: EntryFault) -> &'static str
+    ensures { result.now ≡ entry_words fault }
+{
+    match fault {
+        EntryFault::Parts => "is no package of four: an address, a pin, a source and an index",
+        EntryFault::Address => "has an address that is no integer",
+        EntryFault::Pin => "has a pin that is no integer from 0 to 3",
+        EntryFault::Source => "has a source that is neither a name nor 0",
+        EntryFault::Index => "has an index that is no integer",
+        EntryFault::GreatIndex => "has an index that is not below 2^32, behind source 0",
+    }
 }
 
 /// Of a link whose `_CRS` gives bytes that are no list of resource descriptors, in a line.
