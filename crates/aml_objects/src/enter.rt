@@ -1,6 +1,6 @@
 // What a definition's name makes: one path more (ACPI 6.5, 5.3).
 
-ghost use Rattle.std.specs.Prelude.{◌≡◌, ◌≤◌, ◌+◌, length, OnOk, IfOk, IfSome};
+ghost use Rattle.std.specs.Prelude.{◌≡◌, ◌≤◌, ◌+◌, length, OnErr, OnOk, IfOk, IfSome};
 ghost use Rattle.aml_lex.specs.Names.{name_of};
 ghost use Rattle.aml_objects.specs.Enter.{aliased, entered, named_object, opened, scope_named};
 ghost use Rattle.aml_objects.specs.Kept.{Answers, Makes, entries_seen, here_of};
@@ -13,6 +13,9 @@ use aml_lex::NameRef;
 use aml_paths::ObjectId;
 
 /// Adds a path under the name that stands at a place.
+///
+/// Faults, at that place: E301 where the path is there; E302 where its parent holds no names, or is
+/// missing; E303 where there is no room. Or want of memory.
 pub fn enter(
     here: Here<'_>,
     objects: &mut Objects,
@@ -26,6 +29,7 @@ pub fn enter(
         (entered (here_of here.entry) entries at (name_of name.now) entry) }
     ensures grows { OnOk result
         (length (entries_seen objects.new) ≡ length (entries_seen objects.old) + 1) }
+    ensures kept { OnErr result (entries_seen objects.new ≡ entries_seen objects.old) }
 {
     match objects.place_for(here.scope, name) {
         Ok((parent, segment)) => Ok(objects.push(parent, segment, entry)?),
@@ -43,6 +47,8 @@ fn named_object(here: Here<'_>, objects: &Objects, name: &NameRef<'_>) -> Option
 }
 
 /// Adds another path of an object that is there.
+///
+/// Faults: those of [`enter`], and behind them E304 at `source_at` where the source names nothing.
 pub fn enter_alias(
     here: Here<'_>,
     objects: &mut Objects,
@@ -58,6 +64,7 @@ pub fn enter_alias(
         (name_of name.now)) }
     ensures grows { OnOk result
         (length (entries_seen objects.new) ≡ length (entries_seen objects.old) + 1) }
+    ensures kept { OnErr result (entries_seen objects.new ≡ entries_seen objects.old) }
 {
     let (parent, segment) = match objects.place_for(here.scope, name) {
         Ok(place) => place,
@@ -70,6 +77,8 @@ pub fn enter_alias(
 }
 
 /// The number of the path that a Scope opens by a name.
+///
+/// Fault: E302, at that place, where the name opens none.
 pub fn open(
     here: Here<'_>,
     objects: &Objects,

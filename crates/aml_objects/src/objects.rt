@@ -57,7 +57,8 @@ impl Objects {
         self.entries.get(number).copied()
     }
 
-    /// What stands under the path with this number, which counts the paths but the root's.
+    /// What stands under the path with this number, which counts the paths but the root's; None
+    /// behind the last.
     #[tactic(auto, using(crate::proofs::Kept::kept_entry))]
     pub fn numbered(&self, number: usize) -> Option<Entry>
         ensures { result ≡ entry_numbered (entries_seen self.now) number }
@@ -65,7 +66,7 @@ impl Objects {
         self.entry(number)
     }
 
-    /// The object with this number.
+    /// The object with this number; None where it is the place of an alias, and behind the last.
     #[tactic(auto, using(crate::proofs::Kept::kept_object))]
     pub fn object(&self, number: usize) -> Option<Object>
         ensures { result ≡ object_at (entries_seen self.now) number }
@@ -118,7 +119,7 @@ impl Objects {
         self.paths.resolve(scope, name)
     }
 
-    /// The number of the path that a text prints.
+    /// The number of the path that a text prints; None where none prints so.
     #[tactic(auto, using(crate::proofs::Kept::kept_paths))]
     pub fn printed(&self, text: &[u8]) -> Option<usize>
         ensures { let entries = entries_seen self.now in
@@ -135,7 +136,8 @@ impl Objects {
         &self.paths
     }
 
-    /// The segments of the path with this number, which counts the paths but the root's.
+    /// The segments of the path with this number, which counts the paths but the root's; None behind
+    /// the last.
     pub fn path(&self, alloc: Global, number: usize) -> Result<Option<Vec<NameSeg>>, NoMemory>
         ensures { IfOk result
             (λ path. option_map path_kept path ≡ path_numbered (entries_seen self.now) number) }

@@ -1,7 +1,7 @@
 // What objects name, found once all tables are loaded (ACPI 6.5, 19.6, Field and its kin,
 // CreateField and its kin).
 
-ghost use Rattle.std.specs.Prelude.{◌≡◌, map, OnOk};
+ghost use Rattle.std.specs.Prelude.{◌≡◌, map, OnErr, OnOk};
 ghost use Rattle.aml_objects.specs.Settled.{found, found_entry, found_object, found_through, named_at, settled};
 
 use crate::object::{CreatedField, Entry, Field, Object, Reference, Through};
@@ -13,7 +13,8 @@ use std::alloc::{AllocError, Global};
 impl Objects {
     ghost use Rattle.aml_objects.specs.Kept.{entries_seen};
 
-    /// The object that the name at a place names, from the scope in which it stands.
+    /// The object that the name at a place names, from the scope in which it stands; None where it
+    /// names nothing.
     pub fn named_at(&self, tables: &[&[u8]], name: NamePlace) -> Option<ObjectId>
         ensures { result ≡ named_at (map (λ t. t.now) tables.now) (entries_seen self.now) name }
     {
@@ -82,8 +83,9 @@ impl Objects {
 
     /// Finds what the objects name, once all tables are loaded.
     pub fn settle(&mut self, alloc: Global, tables: &[&[u8]]) -> Result<(), AllocError>
-        ensures { let made = entries_seen self.old in
+        ensures ok { let made = entries_seen self.old in
             OnOk result (entries_seen self.new ≡ settled (map (λ t. t.now) tables.now) made) }
+        ensures err { OnErr result (entries_seen self.new ≡ entries_seen self.old) }
     {
         let mut entries = Vec::with_capacity(alloc, self.entries.len())?;
         for entry in &self.entries {

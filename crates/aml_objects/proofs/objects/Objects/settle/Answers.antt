@@ -9,8 +9,8 @@ use Rattle.aml_objects.proofs.Kept.{as_many, zip_map}
 use Rattle.aml_objects.proofs.objects.Objects.settle.Goals as goal
 
 -- each entry has been found
-pub returns : goal.returns
-returns c =
+pub returns-clause-ok : goal.returns-clause-ok
+returns-clause-ok c =
     let self = c.args.self.now in
     let paths = drop 1 (paths_seen self.paths) in
     let entries = self.entries.items in
