@@ -99,6 +99,8 @@ impl<'a> Checked<'a> {
             IfSome result (Means (shown self.now.namespace.now) method.0 at) }
         ensures all { (one : Kept) → kept_at self.now.kept.items method.0 ≡ Some one →
             (stop : ℕ) → IsLinked one.links at stop → IsSome result }
+        ensures kept { (one : Kept) → kept_at self.now.kept.items method.0 ≡ Some one →
+            (means : ℕ → Link) → AreLinks means one.links → IfSome result (λ l. l ≡ means at) }
         ensures none { kept_at self.now.kept.items method.0 ≡ None → IsNone result }
     {
         match self.kept(method) {
