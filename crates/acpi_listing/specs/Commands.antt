@@ -253,7 +253,8 @@ EvaluatesBody bytes ns (id, m) arguments steps (Ok ts) =
     Tells (evaluation_text ns.entries ended) (outcome_status ended.0)))
 
 -- `eval` of a method's body, with so many steps: the body is read, and evaluated
-abbrev pub EvaluatesMethod : (ℕ → ℕ → ℕ) → Shown → List Value → ℕ → ℕ × Method → Step (Unit {0}) Status
+abbrev pub EvaluatesMethod : (ℕ → ℕ → ℕ) → Shown → List Value → ℕ → ℕ × Method →
+    Step (Unit {0}) Status
 EvaluatesMethod bytes ns arguments steps found =
     Then (Obtains (ReadsBody ns found.0 found.1)) (EvaluatesBody bytes ns found arguments steps)
 
@@ -362,7 +363,8 @@ octets_of v = None
 
 -- the items of bytes have their lines; where there are no bytes, the object gave no buffer
 abbrev pub ListsItems : Option (List ℕ) → Step (Unit {0}) Status
-ListsItems (Some octets) = Then (Obtains (ReadsItems octets)) (λ items. Tells (items_text items) exit.Done)
+ListsItems (Some octets) =
+    Then (Obtains (ReadsItems octets)) (λ items. Tells (items_text items) exit.Done)
 ListsItems None = Obtains (λ r. r ≡ Err (nowhere cause.NotBuffer))
 
 -- `resources` by what the object gives; a method that is not accepted has its line
@@ -439,7 +441,8 @@ Follows madt links prt =
 -- the routes of a package have their lines; any other value is no _PRT
 abbrev pub ListsValue : Option Madt → Links → Value → Step (Unit {0}) Status
 ListsValue madt links (Pkg elements) =
-    Then (Obtains (Follows madt links (Pkg elements))) (λ routes. Tells (routes_text routes) exit.Done)
+    Then (Obtains (Follows madt links (Pkg elements)))
+    (λ routes. Tells (routes_text routes) exit.Done)
 ListsValue madt links v = Obtains (λ r. r ≡ Err (nowhere cause.NotPackage))
 
 -- `routing` by what the object gives, and the items of the links that it names; a method that is
@@ -447,7 +450,8 @@ ListsValue madt links v = Obtains (λ r. r ≡ Err (nowhere cause.NotPackage))
 abbrev pub ListsPrt : Option Madt → Checked → ℕ → Given → Links → Step (Unit {0}) Status
 ListsPrt madt checked id (given.Value v) links = ListsValue madt links (view v)
 ListsPrt madt checked id given.Nothing links = Obtains (λ r. r ≡ Err (nowhere cause.NotPackage))
-ListsPrt madt checked id given.Refused links = Tells (said_text checked (record { 0 = id })) exit.Refused
+ListsPrt madt checked id given.Refused links =
+    Tells (said_text checked (record { 0 = id })) exit.Refused
 
 -- `routing` of a namespace, over registers of these bytes, where these kinds are told, with a MADT
 -- or none: the object of that path, the verdicts on all methods, what the object gives and then its
@@ -512,8 +516,8 @@ Reports f held holds r =
 
 -- what a command wrote, how it ended, and what stands in the writer: its text, behind that a
 -- fault's line where it ended with a fault
-abbrev pub IsTold : List ℕ → Result Status Stop → Option (List ℕ) → Option (List ℕ) → Result Status RunFault →
-    Type 0
+abbrev pub IsTold : List ℕ → Result Status Stop → Option (List ℕ) → Option (List ℕ) →
+    Result Status RunFault → Type 0
 IsTold text (Ok status) held holds r = (r ≡ Ok status) × Appends held holds text
 IsTold text (Err (Faulty f)) held holds r =
     IfOk r (λ status. status ≡ fault_status f) × Lists r held holds (text ++ fault_line f)

@@ -2,7 +2,7 @@
 use Rattle.std.specs.Prelude.{◌≡◌, ◌+◌, ℕ, List, [], ◌∷◌, Some, Result, Ok, Err}
 use Rattle.acpi_sources.specs.Faults.{in_table}
 use Rattle.acpi_sources.specs.Files.{Answers, Opens}
-use Rattle.acpi_sources.specs.Reading.{file_kind, file_checks, Says}
+use Rattle.acpi_sources.specs.Reading.{IsReadable, file_kind, file_checks, Says}
 use Rattle.acpi_sources.specs.declared.fault.Fault.{Fault}
 use Rattle.acpi_sources.specs.declared.fault.FaultCause.TheVariants as cause
 use Rattle.acpi_tables.specs.Fault.{first_fault}
@@ -17,9 +17,14 @@ use Rattle.acpi_sources.specs.declared.status.Status.TheVariants as exit
 abbrev pub Reads : {F : Type 0} → Answers F → List ℕ → Step F (List ℕ)
 Reads answers name = Quietly (λ old r new. Opens answers old name r new)
 
+-- bytes are such a table, which this says
+abbrev pub IsTableOf : List ℕ → Table → Type 0
+IsTableOf bytes table =
+    IsReadable (file_kind bytes) bytes × Says (file_kind bytes) bytes table
+
 -- the table of a file, or the first fault of the file with that number
 abbrev pub ReadsTable : ℕ → List ℕ → Result Table Fault → Type 0
-ReadsTable number bytes (Ok table) = Says (file_kind bytes) bytes table
+ReadsTable number bytes (Ok table) = IsTableOf bytes table
 ReadsTable number bytes (Err f) =
     (t : TableFault) × (first_fault (file_checks (file_kind bytes) bytes) ≡ Some t) ×
     (f ≡ in_table (cause.Table t.cause) number t.at)

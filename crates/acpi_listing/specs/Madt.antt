@@ -1,7 +1,7 @@
 -- The interrupt controllers that a file tells of (ACPI 6.5, 5.2.12), or none.
 use Rattle.std.specs.Prelude.{◌≡◌, ℕ, List, Option, Some, None, Result, Ok, Err, Vec, option_map, vec_items}
 use Rattle.acpi_tables.specs.Fault.{first_fault}
-use Rattle.acpi_tables.specs.Madt.{HasMadt, madt_checks}
+use Rattle.acpi_tables.specs.Madt.{HasMadt, IsMadt, madt_checks}
 use Rattle.acpi_tables.specs.declared.fault.TableFault.{TableFault}
 use Rattle.acpi_tables.specs.declared.madt.Madt.{Madt}
 use Rattle.acpi_sources.specs.Faults.{at_byte}
@@ -35,7 +35,7 @@ ReadsControllers answers name = Quietly (λ old r new. OpensControllers answers 
 -- the MADT that bytes are, where there are some, or their first fault
 abbrev pub ReadsMadt : Option (List ℕ) → Result (Option Madt) Fault → Type 0
 ReadsMadt None r = r ≡ Ok None
-ReadsMadt (Some bytes) (Ok (Some madt)) = HasMadt bytes madt
+ReadsMadt (Some bytes) (Ok (Some madt)) = IsMadt bytes × HasMadt bytes madt
 ReadsMadt (Some bytes) (Ok None) = ⊥
 ReadsMadt (Some bytes) (Err f) =
     (t : TableFault) × (first_fault (madt_checks bytes) ≡ Some t) ×

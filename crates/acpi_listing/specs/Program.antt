@@ -8,8 +8,8 @@ use Rattle.acpi_sources.specs.declared.fault.Fault.{Fault}
 use Rattle.acpi_sources.specs.declared.status.Status.{Status}
 use Rattle.acpi_sources.specs.declared.status.Status.TheVariants as exit
 
--- a command by words where there are some, and standard input is left alone; else by standard input,
--- and no file is asked for
+-- a command by words where there are some, and standard input is left alone; else by standard
+-- input, and no file is asked for
 abbrev pub RunsByWords : {F : Type 0} → Answers F → F → F → List (List ℕ) → Option (List ℕ) →
     Option (List ℕ) → Option (List ℕ) → Option (List ℕ) → Result Status RunFault → Type 0
 RunsByWords answers old new [] from to held holds r =

@@ -21,7 +21,8 @@ use std::io::{Read, Write};
 
 /// Runs the command that the words ask for, and answers how it ended.
 ///
-/// A fault's line is written last.
+/// A fault's line is written last. Err is a failed write, or want of memory for a line: the writer
+/// then holds a beginning of what is printed.
 pub fn run_words<S: AsStr, F: Source, W: Write>(
     alloc: Global,
     words: &[S],

@@ -103,8 +103,8 @@ fn option_label<'a>(name: &'a str, option: &'a str) -> &'a str {
     if name == "@" { option } else { name }
 }
 
-/// Of each method that is refused why it is, with the files by their names; whether there was memory
-/// for all.
+/// Of each method that is refused why it is, with the files by their names; whether there was
+/// memory for all.
 pub(crate) fn tell_refused<N: Notes>(
     alloc: Global,
     notes: &N,
@@ -307,7 +307,7 @@ pub(crate) fn tell_route<N: Notes>(
         return;
     };
     if fault.cause == FaultCause::Routes(RouteCause::BadEntry) {
-        tell(notes, entry_note(alloc, element));
+        tell(notes, entry_note(alloc, prt, element));
     } else if let Ok(text) = source_text(alloc, checked, names, prt, links, element) {
         tell_lines(notes, &text);
     }
