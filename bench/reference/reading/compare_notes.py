@@ -63,7 +63,7 @@ def printed_form(word):
 def wanted_of_path(there, word):
     """What is told of a path, of what stands at each that there is: nothing of a method's."""
     if word in there:
-        return [] if there[word].startswith("method ") else [f"acpicheck: {word} is no method: names shows what it is"]
+        return [] if there[word].startswith("method ") else [f"acpicheck: {word} is no method of a table: names shows what it is"]
     form = printed_form(word)
     if form != word and form in there:
         return [f"acpicheck: nothing has the path {word}; {form} is there"]

@@ -34,5 +34,6 @@ signatures_note label line =
 
 -- a line of standard input that is no file
 unfoldable pub line_note : ℕ → List ℕ
-line_note number = joined (codes "file " ∷ decimal number
-    ∷ codes " of standard input: a line of hex text is wanted there, two digits a byte" ∷ [])
+line_note number = joined (codes "line " ∷ decimal number
+    ∷ codes " of standard input, from 0 behind the words: hex text is wanted there, two digits a byte"
+    ∷ [])

@@ -33,7 +33,7 @@ near_path entries word =
     else option_map (λ id. printed_form word) (printed_object entries (printed_form word))
 
 unfoldable pub no_method_note : List ℕ → List ℕ
-no_method_note word = joined (word ∷ codes " is no method: names shows what it is" ∷ [])
+no_method_note word = joined (word ∷ codes " is no method of a table: names shows what it is" ∷ [])
 
 -- of a path that nothing has: the one that may be meant
 unfoldable pub near_note : List ℕ → List ℕ → List ℕ

@@ -60,9 +60,16 @@ length_note label length stated =
     joined (label ∷ codes ": its length says " ∷ decimal stated ∷ codes ", and it has "
     ∷ decimal length ∷ codes " bytes" ∷ [])
 
-unfoldable pub sum_note : List ℕ → ℕ → List ℕ
-sum_note label sum = joined (label ∷ codes ": its bytes sum to " ∷ decimal sum
-    ∷ codes " modulo 256, and 0 is wanted" ∷ [])
+-- the same of an RSDP, behind which other bytes may stand
+unfoldable pub extent_note : List ℕ → ℕ → ℕ → List ℕ
+extent_note label length stated =
+    joined (label ∷ codes ": its length says " ∷ decimal stated
+    ∷ codes ", wanted 36 or more, and no more than its " ∷ decimal length ∷ codes " bytes" ∷ [])
+
+unfoldable pub sum_note : List ℕ → ℕ → ℕ → List ℕ
+sum_note label at sum =
+    joined (label ∷ codes ": the bytes that the checksum at byte " ∷ decimal at
+    ∷ codes " is for sum to " ∷ decimal sum ∷ codes " modulo 256, and 0 is wanted" ∷ [])
 
 -- which table is wanted
 abbrev pub wanted_text : WantedTable → List ℕ
@@ -81,8 +88,10 @@ entry_note label at kind =
 -- of a file that is to have such a table, by what is wrong and where
 abbrev pub cause_note : List ℕ → List ℕ → WantedTable → TableCause → ℕ → List ℕ
 cause_note label bytes wanted Short at = short_note label (length bytes) (least_of bytes)
-cause_note label bytes wanted BadLength at = length_note label (length bytes) (stated bytes at)
-cause_note label bytes wanted BadSum at = sum_note label (summed bytes at)
+cause_note label bytes wanted BadLength at =
+    if at == 20 then extent_note label (length bytes) (stated bytes at)
+    else length_note label (length bytes) (stated bytes at)
+cause_note label bytes wanted BadSum at = sum_note label at (summed bytes at)
 cause_note label bytes wanted BadSignature at =
     signature_note label (shown_bytes (take (min (length bytes) 4) bytes)) (wanted_text wanted)
 cause_note label bytes wanted BadEntry at = entry_note label at (byte_at bytes at)

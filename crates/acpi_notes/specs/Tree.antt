@@ -60,6 +60,15 @@ opcode_note label at byte =
     joined (label ∷ codes ": the opcode at byte " ∷ decimal at ∷ codes ", 0x" ∷ hex byte
     ∷ codes ", is unknown" ∷ [])
 
+-- an Else, which has to stand behind the If that it belongs to
+unfoldable pub else_note : List ℕ → ℕ → List ℕ
+else_note label at =
+    joined (label ∷ codes ": at byte " ∷ decimal at
+    ∷ codes " stands 0xa1 (Else), and no If before it" ∷ [])
+
+abbrev pub single_note : List ℕ → ℕ → ℕ → List ℕ
+single_note label at byte = if byte == 0xA1 then else_note label at else opcode_note label at byte
+
 -- whether an operator or a name stands at a place
 abbrev pub is_known : List ℕ → ℕ → Bool
 is_known bytes at = is_some (op_there bytes at) || is_some (name_there bytes at)
@@ -77,7 +86,7 @@ abbrev pub unknown_note : List ℕ → List ℕ → ℕ → List ℕ
 unknown_note label bytes at =
     if is_known bytes at then known_note label at (byte_at bytes at) (word_at bytes at)
     else option_map_or (pair_note label at) (second_byte bytes at)
-    (opcode_note label at (byte_at bytes at))
+    (single_note label at (byte_at bytes at))
 
 unfoldable pub tree_note : List ℕ → List ℕ → ℕ → TreeCause → List ℕ
 tree_note label bytes at (Lexical part) = lexical_note label bytes at part

@@ -65,6 +65,6 @@ pub fn line_note(alloc: Global, number: usize) -> Result<String, AllocError>
     ensures { IfOk result (λ note. string_bytes note ≡ line_note number) }
 {
     format!(in alloc;
-        "file {number} of standard input: a line of hex text is wanted there, two digits a byte"
+        "line {number} of standard input, from 0 behind the words: hex text is wanted there, two digits a byte"
     )
 }

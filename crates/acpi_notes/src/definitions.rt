@@ -319,8 +319,8 @@ impl Paths {
         }
     }
 
-    /// Makes another path of an object, which is missed only where the path may be made. The root is
-    /// no object.
+    /// Makes another path of an object, which is missed only where the path may be made. The root
+    /// is no object.
     fn alias(&mut self, scope: usize, source: &Named<'_>, named: &Named<'_>) -> Result<(), End> {
         let found = match self.resolved(scope, &source.name) {
             Some(path) if path > 0 => self.known.get(path).copied(),
@@ -506,8 +506,8 @@ fn ends_in(path: &[u8], segment: Option<NameSeg>) -> bool
     }
 }
 
-/// Whether a path ends in the last segment of the name that stands at its first place, which is that
-/// of the refused name where it has one.
+/// Whether a path ends in the last segment of the name that stands at its first place, which is
+/// that of the refused name where it has one.
 fn is_first(tables: &[Vec<u8>], path: &[u8], refused: Option<NameSeg>, first: Place) -> bool
     ensures { result ≡ true → IsFirst (map vec_items tables.now) path.now
         (option_map (λ segment. segment.bytes) refused) (Some first) }

@@ -20,8 +20,8 @@ pub fn file_label(alloc: Global, name: &str, number: usize) -> Result<String, Al
     String::from_str(alloc, name)
 }
 
-/// How the file with a number is called, of files by their names: by its own; or by its number where
-/// that is `@`, or none has the number.
+/// How the file with a number is called, of files by their names: by its own; or by its number
+/// where that is `@`, or none has the number.
 pub fn label_of(alloc: Global, names: &[&str], number: usize) -> Result<String, AllocError>
     ensures { IfOk result (λ label. string_bytes label
         ≡ label_of (map (λ name. name.now) names.now) number) }

@@ -116,6 +116,9 @@ fn definition_part(
                 found_note(alloc, at, path.as_str(), before.as_str(), first)
             }
         },
+        Some(Found::Nothing { wanted }) if wanted.as_str() == "\\" => {
+            format!(in alloc; ": the name at byte {at} is the root's, which no definition makes")
+        }
         Some(Found::Nothing { wanted }) => {
             format!(in alloc; ": the name at byte {at} wants {wanted}, {missing}")
         }

@@ -119,7 +119,7 @@ pub fn object_note(
 fn no_method_note(alloc: Global, word: &str) -> Result<String, AllocError>
     ensures { IfOk result (λ note. string_bytes note ≡ no_method_note word.now) }
 {
-    format!(in alloc; "{word} is no method: names shows what it is")
+    format!(in alloc; "{word} is no method of a table: names shows what it is")
 }
 
 /// Of a path that nothing has.

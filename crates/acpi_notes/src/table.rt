@@ -3,7 +3,7 @@
 ghost use Rattle.std.specs.Prelude.{◌≡◌, ◌+◌, ◌*◌, ◌%◌, ◌≤◌, IfOk, length, min, string_bytes, sum, take};
 ghost use Rattle.std.specs.List.{list_all};
 ghost use Rattle.acpi_notes.specs.Text.{shown_byte, shown_bytes};
-ghost use Rattle.acpi_notes.specs.Table.{byte_at, cause_note, entry_note, is_text, is_text_character, least_of, length_note, number_at, short_note, signature_note, stated, sum_note, summed, table_note, text_note, wanted_text};
+ghost use Rattle.acpi_notes.specs.Table.{byte_at, cause_note, entry_note, extent_note, is_text, is_text_character, least_of, length_note, number_at, short_note, signature_note, stated, sum_note, summed, table_note, text_note, wanted_text};
 
 use acpi_tables::{Header, Madt, Rsdp, TableCause, TableFault};
 use std::alloc::{AllocError, Global};
@@ -179,8 +179,11 @@ fn cause_note(
     let length = bytes.len();
     match fault.cause {
         TableCause::Short => short_note(alloc, label, length, least_of(bytes)),
+        TableCause::BadLength if fault.at == 20 => {
+            extent_note(alloc, label, length, stated(bytes, fault.at))
+        }
         TableCause::BadLength => length_note(alloc, label, length, stated(bytes, fault.at)),
-        TableCause::BadSum => sum_note(alloc, label, summed(bytes, fault.at)),
+        TableCause::BadSum => sum_note(alloc, label, fault.at, summed(bytes, fault.at)),
         TableCause::BadSignature => {
             let signature = shown_text(alloc, front(bytes, 4))?;
             signature_note(alloc, label, signature.as_str(), wanted.text())
@@ -212,11 +215,22 @@ fn length_note(alloc: Global, label: &str, length: usize, stated: u64) -> Result
     format!(in alloc; "{label}: its length says {stated}, and it has {length} bytes")
 }
 
-#[tactic(auto, unfolding(crate::specs::Table::sum_note))]
-fn sum_note(alloc: Global, label: &str, sum: u8) -> Result<String, AllocError>
-    ensures { IfOk result (λ note. string_bytes note ≡ sum_note label.now sum) }
+#[tactic(auto, unfolding(crate::specs::Table::extent_note))]
+fn extent_note(alloc: Global, label: &str, length: usize, stated: u64) -> Result<String, AllocError>
+    ensures { IfOk result (λ note. string_bytes note ≡ extent_note label.now length stated) }
 {
-    format!(in alloc; "{label}: its bytes sum to {sum} modulo 256, and 0 is wanted")
+    format!(in alloc;
+        "{label}: its length says {stated}, wanted 36 or more, and no more than its {length} bytes"
+    )
+}
+
+#[tactic(auto, unfolding(crate::specs::Table::sum_note))]
+fn sum_note(alloc: Global, label: &str, at: usize, sum: u8) -> Result<String, AllocError>
+    ensures { IfOk result (λ note. string_bytes note ≡ sum_note label.now at sum) }
+{
+    format!(in alloc;
+        "{label}: the bytes that the checksum at byte {at} is for sum to {sum} modulo 256, and 0 is wanted"
+    )
 }
 
 #[tactic(auto, unfolding(crate::specs::Table::signature_note))]

@@ -2,13 +2,16 @@
 
 ghost use Rattle.std.specs.Prelude.{◌≡◌, IfOk, string_bytes};
 ghost use Rattle.acpi_notes.specs.Table.{byte_at};
-ghost use Rattle.acpi_notes.specs.Tree.{is_known, known_note, lexical_note, module_note, opcode_note, pair_note, second_byte, tree_note, unknown_note, word_at};
+ghost use Rattle.acpi_notes.specs.Tree.{else_note, is_known, known_note, lexical_note, module_note, opcode_note, pair_note, second_byte, single_note, tree_note, unknown_note, word_at};
 
 use crate::table::byte_at;
 use aml_lex::{LexCause, name_there};
 use aml_place_text::operator_name;
 use aml_tree::{TreeCause, op_at};
 use std::alloc::{AllocError, Global};
+
+/// The opcode of an Else.
+const ELSE: u8 = 0xA1;
 
 /// Where AML cannot be read: a byte of a file.
 #[derive(Clone, Copy, Debug)]
@@ -62,7 +65,7 @@ fn unknown_note(alloc: Global, place: TreePlace<'_>) -> Result<String, AllocErro
     }
     match second_byte(place.bytes, at) {
         Some(second) => pair_note(alloc, label, at, second),
-        None => opcode_note(alloc, label, at, byte),
+        None => single_note(alloc, label, at, byte),
     }
 }
 
@@ -104,6 +107,23 @@ fn pair_note(alloc: Global, label: &str, at: usize, second: u8) -> Result<String
     ensures { IfOk result (λ note. string_bytes note ≡ pair_note label.now at second) }
 {
     format!(in alloc; "{label}: the opcode at byte {at}, 0x5b 0x{second:x}, is unknown")
+}
+
+// Of an opcode of one byte that may stand nowhere alone: an Else, or none that an operator has.
+fn single_note(alloc: Global, label: &str, at: usize, byte: u8) -> Result<String, AllocError>
+    ensures { IfOk result (λ note. string_bytes note ≡ single_note label.now at byte) }
+{
+    if byte == ELSE {
+        return else_note(alloc, label, at);
+    }
+    opcode_note(alloc, label, at, byte)
+}
+
+#[tactic(auto, unfolding(crate::specs::Tree::else_note))]
+fn else_note(alloc: Global, label: &str, at: usize) -> Result<String, AllocError>
+    ensures { IfOk result (λ note. string_bytes note ≡ else_note label.now at) }
+{
+    format!(in alloc; "{label}: at byte {at} stands 0xa1 (Else), and no If before it")
 }
 
 #[tactic(auto, unfolding(crate::specs::Tree::opcode_note))]

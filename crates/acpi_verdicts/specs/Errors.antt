@@ -15,7 +15,7 @@ abbrev pub error_words : AmlCause → List ℕ
 error_words cause.Unset = codes "an unset local, argument or element of a package is read"
 error_words cause.Kind = codes "a value or an object of the wrong kind"
 error_words cause.Divisor = codes "the second operand of Divide or Mod is zero"
-error_words cause.Index = codes "an index at or past the end, or an empty buffer made an integer"
+error_words cause.Index = codes "an index at or past the end, an empty buffer made an integer, or a field outside its buffer"
 error_words cause.Missing = codes "a name names nothing"
 error_words cause.Outside = codes
     "an operator or a form that this program does not evaluate, or a call of a method whose body cannot be read: nothing need be wrong with the table"

@@ -16,8 +16,8 @@ use Rattle.aml_verify.specs.declared.verdict.Verdict.TheVariants as verdict
 abbrev pub unreadable : List ℕ
 unreadable = codes "unreadable body"
 
--- why a method is refused, in a few words; nothing where it is accepted, or where nothing is said of
--- it
+-- why a method is refused, in a few words; nothing where it is accepted, or where nothing is said
+-- of it
 abbrev pub why_text : Option Verdict → List ℕ
 why_text None = []
 why_text (Some (verdict.Accepted accepted)) = []

@@ -72,7 +72,8 @@ fn region_of(object: Option<Object>) -> Option<NamePlace>
     }
 }
 
-// Whether what was found is of a field of a region: so many bits are found of fields of buffers too.
+// Whether what was found is of a field of a region: so many bits are found of fields of buffers
+// too.
 fn is_of_region(finding: Finding) -> bool
     ensures { result ≡ spec.is_of_region finding }
 {

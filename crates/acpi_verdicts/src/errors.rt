@@ -57,7 +57,8 @@ fn error_words(cause: AmlCause) -> &'static str
         AmlCause::Unset => "an unset local, argument or element of a package is read",
         AmlCause::Kind => "a value or an object of the wrong kind",
         AmlCause::Divisor => "the second operand of Divide or Mod is zero",
-        AmlCause::Index => "an index at or past the end, or an empty buffer made an integer",
+        AmlCause::Index =>
+            "an index at or past the end, an empty buffer made an integer, or a field outside its buffer",
         AmlCause::Missing => "a name names nothing",
         AmlCause::Outside => {
             "an operator or a form that this program does not evaluate, or a call of a method whose body cannot be read: nothing need be wrong with the table"

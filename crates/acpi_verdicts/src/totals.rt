@@ -38,9 +38,9 @@ const CAUSES: [Cause; 18] = [
 ];
 
 /// How many methods there are, and how many of them are accepted and refused; behind that, two
-/// spaces further in, for how many each cause is told, of those causes that are, and how many bodies
-/// cannot be read: `methods: 3, accepted: 1, refused: 2` and `  V9 Region: 2`. Each line ends in a
-/// line feed.
+/// spaces further in, for how many each cause is told, of those causes that are, and how many
+/// bodies cannot be read: `methods: 3, accepted: 1, refused: 2` and `  V9 Region: 2`. Each line
+/// ends in a line feed. A method of which nothing is said yet counts as accepted.
 ///
 /// # Errors
 ///

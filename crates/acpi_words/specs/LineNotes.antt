@@ -8,4 +8,4 @@ abbrev pub start_note : FaultCause → List ℕ
 start_note cause.CommandLine = codes "the first line of standard input is no UTF-8"
 start_note cause.NoMemory = codes "no memory for the words"
 start_note _ =
-    codes "no words, nor a first line of standard input that has them: see acpicheck --help"
+    codes "no words, nor a first line of standard input, of 16777216 bytes at most, that has them: see acpicheck --help"

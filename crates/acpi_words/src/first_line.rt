@@ -47,7 +47,8 @@ pub fn read_first_line<'a>(
 
 // Whether the first line may go on behind what was read.
 fn is_torn(input: &Input, first: &[u8]) -> bool
-    ensures { IsTrue result ↔ IsTorn (is_whole input.now.end) first.now (vec_items input.now.bytes) }
+    ensures { IsTrue result ↔
+        IsTorn (is_whole input.now.end) first.now (vec_items input.now.bytes) }
 {
     !input.is_whole() && first.len() == input.bytes.len()
 }

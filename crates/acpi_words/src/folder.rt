@@ -204,8 +204,8 @@ fn none_read<R: Eprint + AllocGlobal>(
 }
 
 /// Which table a file of that name is said to have, with its number: the name is a table's
-/// signature, and behind it digits, an ending of a table's file, or both, in either case. None where
-/// it is no name of a table's file.
+/// signature, and behind it digits, an ending of a table's file, or both, in either case. None
+/// where it is no name of a table's file.
 fn said_by(name: &str) -> Option<(Said, u64)> {
     let (stem, ending) = name.split_once('.').unwrap_or((name, "dat"));
     let (signature, digits) = stem.split_at_checked(4)?;

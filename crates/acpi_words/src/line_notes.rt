@@ -34,7 +34,8 @@ pub fn start_note(fault: Fault) -> &'static str
     match fault.cause {
         FaultCause::CommandLine => "the first line of standard input is no UTF-8",
         FaultCause::NoMemory => "no memory for the words",
-        _ => "no words, nor a first line of standard input that has them: see acpicheck --help",
+        _ =>
+            "no words, nor a first line of standard input, of 16777216 bytes at most, that has them: see acpicheck --help",
     }
 }
 
