@@ -1,8 +1,8 @@
 //! The texts of resource descriptors and of routes of interrupts, as they are printed.
 //!
 //! Rooms: `resources` prints a line for each item of a list, which `lines` makes with the `numbers`
-//! of its interrupts; `route_lines` prints a line for each route; `words` has the words of both, and
-//! `notes` what people are told of bytes that are no list.
+//! of its interrupts; `route_lines` prints a line for each route; `words` has the words of both,
+//! and `notes` what people are told of bytes that are no list.
 #![tactic(auto)]
 
 mod lines;

@@ -32,6 +32,8 @@ pub trait Source {
 }
 
 /// Reads a file of at most [`INPUT_LIMIT`] bytes.
+///
+/// Faults: E523 where it cannot be read or is larger, E524 where memory is wanted.
 pub fn read_within_limit<F: Source>(files: &mut F, name: &str) -> Result<Vec<u8>, Fault>
     ensures { Opens F.answers files.old name.now (bytes_of result) files.new }
 {

@@ -96,7 +96,7 @@ impl Iterator for Entries<'_> {
 
 /// The structure at the front of the bytes, if one stands there.
 #[tactic(auto, using(crate::proofs::Structures::fronts))]
-pub fn first_structure(bytes: &[u8]) -> Option<&[u8]>
+pub(crate) fn first_structure(bytes: &[u8]) -> Option<&[u8]>
     ensures cases { MatchOption result (structures bytes.now ≡ [])
         (λ s. structures bytes.now ≡ s.now ∷ structures (drop (length s.now) bytes.now)) }
     ensures sized { IfSome result (λ s. 2 ≤ length s.now) }

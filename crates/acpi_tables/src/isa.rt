@@ -16,7 +16,7 @@ pub struct Isa {
 }
 
 /// Whether the structure is an override of this ISA source.
-pub fn is_override_of(entry: &Entry, source: u8) -> bool
+pub(crate) fn is_override_of(entry: &Entry, source: u8) -> bool
     ensures { result ≡ overrides source entry.now }
 {
     match entry {
@@ -30,7 +30,7 @@ pub fn is_override_of(entry: &Entry, source: u8) -> bool
 }
 
 /// Where an override sends the source; with none the source keeps its number, edge and active high.
-pub fn routed(source: u8, entry: Option<Entry>) -> Isa
+pub(crate) fn routed(source: u8, entry: Option<Entry>) -> Isa
     ensures { result ≡ route source entry }
 {
     match entry {

@@ -5,8 +5,8 @@
 //!
 //! Rooms: `header` has the header that most tables begin with, `rsdp`, `xsdt`, `fadt` and `madt` a
 //! table each, `entry` the structures of a MADT, `isa` where an ISA interrupt goes; `table` reads a
-//! table that is asked for by its signature, `fault` says why one cannot be read, `bytes` sums bytes, `law` has the
-//! law of structures.
+//! table that is asked for by its signature, `fault` says why one cannot be read, `bytes` sums
+//! bytes, `law` has the law of structures.
 #![tactic(auto)]
 
 mod bytes;

@@ -120,13 +120,14 @@ fn read_extension(bytes: &[u8]) -> Result<RsdpExtension, TableFault>
         });
     }
     let length = LittleEndian::read_u32(&bytes[20..]);
-    if length < 36 || length as usize > bytes.len() {
+    let size = length as usize;
+    if size < Rsdp::SIZE || size > bytes.len() {
         return Err(TableFault {
             cause: TableCause::BadLength,
             at: 20,
         });
     }
-    if byte_sum(&bytes[..length as usize]) != 0 {
+    if byte_sum(&bytes[..size]) != 0 {
         return Err(TableFault {
             cause: TableCause::BadSum,
             at: 32,

@@ -9,7 +9,7 @@ use std::fmt::Write;
 /// The text of some bytes: printable ASCII characters but `"` and `\` stand for themselves, every
 /// other byte is `\x` and two hex digits.
 #[tactic(auto, unfolding(crate::specs::Text::escaped))]
-pub fn escaped_text(alloc: Global, bytes: &[u8]) -> Result<String, AllocError>
+pub(crate) fn escaped_text(alloc: Global, bytes: &[u8]) -> Result<String, AllocError>
     ensures { IfOk result (λ text. string_bytes text ≡ escaped bytes.now) }
 {
     let mut text = String::new(alloc);

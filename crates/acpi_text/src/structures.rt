@@ -6,8 +6,9 @@ ghost use Rattle.acpi_text.specs.Structures.{structure_line};
 use acpi_tables::Entry;
 use std::alloc::{AllocError, Global};
 
+/// The line of a structure of a MADT, by its type.
 #[tactic(auto, unfolding(crate::specs::Structures::structure_line))]
-pub fn structure_line_of(alloc: Global, entry: Entry) -> Result<String, AllocError>
+pub(crate) fn structure_line_of(alloc: Global, entry: Entry) -> Result<String, AllocError>
     ensures { IfOk result (λ line. string_bytes line ≡ structure_line entry) }
 {
     match entry {

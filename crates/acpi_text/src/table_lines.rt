@@ -12,7 +12,7 @@ use std::fmt::Write;
 
 /// `table SIG length N revision N oem "TEXT" "TEXT" 0xREV`.
 #[tactic(auto, unfolding(crate::specs::Tables::header_line))]
-pub fn header(alloc: Global, header: &Header<'_>) -> Result<String, AllocError>
+pub(crate) fn header(alloc: Global, header: &Header<'_>) -> Result<String, AllocError>
     ensures { IfOk result (λ line. string_bytes line ≡ header_line header.now) }
 {
     let words = [
@@ -63,7 +63,7 @@ fn push_word(line: &mut String, lead: &str, word: &str) -> Result<(), AllocError
 
 /// `rsdp revision N rsdt 0xA`, from revision 2 on also ` xsdt 0xA`.
 #[tactic(auto, unfolding(crate::specs::Tables::pointer_line))]
-pub fn pointer(alloc: Global, rsdp: &Rsdp<'_>) -> Result<String, AllocError>
+pub(crate) fn pointer(alloc: Global, rsdp: &Rsdp<'_>) -> Result<String, AllocError>
     ensures { IfOk result (λ line. string_bytes line ≡ pointer_line rsdp.now) }
 {
     let revision = rsdp.revision;
@@ -79,7 +79,7 @@ pub fn pointer(alloc: Global, rsdp: &Rsdp<'_>) -> Result<String, AllocError>
 
 /// `entry 0xA`, of an XSDT.
 #[tactic(auto, unfolding(crate::specs::Tables::address_line))]
-pub fn address(alloc: Global, address: u64) -> Result<String, AllocError>
+pub(crate) fn address(alloc: Global, address: u64) -> Result<String, AllocError>
     ensures { IfOk result (λ line. string_bytes line ≡ address_line address) }
 {
     format!(in alloc; "  entry 0x{address:x}\n")
@@ -87,7 +87,7 @@ pub fn address(alloc: Global, address: u64) -> Result<String, AllocError>
 
 /// The lines of a FADT's fields.
 #[tactic(auto, unfolding(crate::specs::Tables::fixed_lines))]
-pub fn fixed(alloc: Global, fadt: &Fadt<'_>) -> Result<String, AllocError>
+pub(crate) fn fixed(alloc: Global, fadt: &Fadt<'_>) -> Result<String, AllocError>
     ensures { IfOk result (λ lines. string_bytes lines ≡ fixed_lines fadt.now) }
 {
     let reduced = yes_field(fadt.hardware_reduced());
@@ -107,7 +107,7 @@ pub fn fixed(alloc: Global, fadt: &Fadt<'_>) -> Result<String, AllocError>
 
 /// The lines of a MADT's own fields.
 #[tactic(auto, unfolding(crate::specs::Tables::interrupt_lines))]
-pub fn interrupts(alloc: Global, madt: &Madt<'_>) -> Result<String, AllocError>
+pub(crate) fn interrupts(alloc: Global, madt: &Madt<'_>) -> Result<String, AllocError>
     ensures { IfOk result (λ lines. string_bytes lines ≡ interrupt_lines madt.now) }
 {
     let pcat = yes(madt.pcat_compatible());

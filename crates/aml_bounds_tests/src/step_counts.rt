@@ -16,7 +16,11 @@ struct Everywhere {
 }
 
 impl Costs for Everywhere {
-    ghost knows = { λ s. record { turns = λ at. s.turns; named = λ at. s.named; stored = λ at. s.stored } };
+    ghost knows = { λ s. record {
+      turns = λ at. s.turns;
+      named = λ at. s.named;
+      stored = λ at. s.stored;
+    } };
 
     fn turns(&self, _at: usize) -> TurnCount {
         self.turns

@@ -62,7 +62,8 @@ pub(crate) trait Units<W: World> {
         ensures none { IfOk result (λ answer. IfNone answer (left.new ≡ 0)) }
         ensures fits { IfOk result
             (λ answer. IfSome answer (λ n. n < 2 ^ bits_of (plan self.now).layout.width)) }
-        ensures refusal { CountsRefusal result (W.log world.old).refusals (W.log world.new).refusals };
+        ensures refusal { CountsRefusal result
+            (W.log world.old).refusals (W.log world.new).refusals };
 
     /// Gives one unit a value, false where more events are wanted than are left.
     fn write_unit(
@@ -81,5 +82,6 @@ pub(crate) trait Units<W: World> {
             (state frame names left.new (W.log world.new)) }
         ensures takes { Takes result (plan self.now).write_events left.old left.new }
         ensures none { result ≡ Ok false → left.new ≡ 0 }
-        ensures refusal { CountsRefusal result (W.log world.old).refusals (W.log world.new).refusals };
+        ensures refusal { CountsRefusal result
+            (W.log world.old).refusals (W.log world.new).refusals };
 }

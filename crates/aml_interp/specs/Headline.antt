@@ -74,9 +74,9 @@ module _ (ns : Shown) (a : judged.Accepted) where
 abbrev pub verdict_of : Checked → Accepted → judged.Accepted
 verdict_of c a = accepted_of (numbered c.shapes) a
 
--- memory was wanted in a method that evaluates integers alone, with arguments and names of its kinds
--- and answers that fit: the world refused a call meanwhile, or its count of them stands at its last
--- value
+-- memory was wanted in a method that evaluates integers alone, with arguments and names of its
+-- kinds and answers that fit: the world refused a call meanwhile, or its count of them stands at
+-- its last value
 abbrev pub IsRefused : Checked → ℕ → List Value → Names → Log → Log → Type 0
 IsRefused c k values names log log_left =
     (told : Told) (a : Accepted) → IsAccepted told c k a →
@@ -116,8 +116,8 @@ pub record Headline : Type 0 where
       Tells answer
       (λ n. evaluated (setting_in (shown c.namespace.now) around.bodies k m (trees ts)) (trees ts)
       values log_left.events (before names n log)) a.bound names_left log_left.events
-  -- so an outcome that is answered is done, its value as the verdict says, and names hold what is of
-  -- their kinds
+  -- so an outcome that is answered is done, its value as the verdict says, and names hold what is
+  -- of their kinds
   pub answer :
       (told : Told) (c : Checked) (k : ℕ) (a : Accepted) → IsAccepted told c k a →
       (values : List Value) (names : Names) →

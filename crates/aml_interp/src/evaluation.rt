@@ -26,8 +26,8 @@ use std::alloc::Global;
 /// verdict says.
 ///
 /// Its value or none is the definition's, and so are what names hold afterwards and the events that
-/// the world gained, unless the definition broke a rule of mutexes (A10 to A12). No AML error has an
-/// answer here, nor has want of steps: none is met, of mutexes or other, where values are what
+/// the world gained, unless the definition broke a rule of mutexes (A10 to A12). No AML error has
+/// an answer here, nor has want of steps: none is met, of mutexes or other, where values are what
 /// values of their kinds may be, as `accepted_methods_are_done` says. So which mutexes are held is
 /// not asked, and no list of them is kept.
 ///

@@ -179,7 +179,8 @@ pub record IntegersAlone : Type 0 where
       (d : ℕ) (m : Callee) (t : Tree) → integers all.methods m all.kinds only t ≡ true →
       (script : List Event) → LeavesIntegers all.kinds script →
       (watched : Bool) (s : State) → IsIntegral all.kinds watched s →
-      StaysIntegral all.kinds watched IsIntegerIfAny ((mean (setting_within all d m) t).run script s)
+      StaysIntegral all.kinds watched IsIntegerIfAny
+      ((mean (setting_within all d m) t).run script s)
   pub operands :
       (all : Judging) (known : ℕ → Option Accepted) (only : ℕ → Bool) →
       AreIntegerOnly all known only →

@@ -15,8 +15,8 @@ use Rattle.aml_meaning.specs.Calls.{framed}
 use Rattle.aml_meaning.specs.Meaning.{Setting}
 use Rattle.aml_meaning.specs.Definitions.{mean_method}
 
--- before a method begins whose mutexes are watched, or not: what names hold, so many steps, and what
--- the world keeps
+-- before a method begins whose mutexes are watched, or not: what names hold, so many steps, and
+-- what the world keeps
 abbrev pub begun : Bool → Names → ℕ → Log → State
 begun watched names n log = record {
   frame = entered watched 0 [];

@@ -348,6 +348,7 @@ impl Paths {
     }
 
     /// Adds the path that is one segment below the path with this number, and answers its number.
+    /// Where memory is wanted, the paths stay.
     pub fn add(&mut self, at: usize, segment: NameSeg) -> Result<usize, AllocError>
         requires there { at < length (paths_seen self.old) }
         requires new { number_below (paths_seen self.old) at (segment.bytes ∷ []) ≡ None }

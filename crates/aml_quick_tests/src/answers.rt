@@ -120,7 +120,8 @@ const ROWS: &[Row] = &[
     (b"\x67\x72\x67\x01\x00", Asked::Put, 9, Some((8, 5, 5))),
     (b"\x60\x60", Asked::Put, 0, None),
     (b"\x68\x68", Asked::Put, 9, None),
-    // the byte of INT0 by Arg0, and by Add (One, One) with the steps that it takes and with one less
+    // the byte of INT0 by Arg0, and by Add (One, One) with the steps that it takes and with one
+    // less
     (b"INT0\x68\x00", Asked::Written, 9, Some((41, 6, 8))),
     (
         b"INT0\x72\x01\x01\x00\x00",

@@ -26,8 +26,8 @@ AnswerReads bytes events =
 -- no Sleep among events left other contents of names
 abbrev pub LeaveNames : List Event → Type 0
 LeaveNames events =
-    (i milliseconds : ℕ) (left : Contents) → slice_get events i ≡ Some (Slept milliseconds (Some left))
-    → ⊥
+    (i milliseconds : ℕ) (left : Contents) →
+    slice_get events i ≡ Some (Slept milliseconds (Some left)) → ⊥
 
 -- events are answered as registers of these bytes answer them
 abbrev pub AreAnswered : (ℕ → ℕ → ℕ) → List Event → Type 0

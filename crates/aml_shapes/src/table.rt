@@ -118,7 +118,8 @@ impl Shapes for ShapeTable {
     }
 
     fn joined(&self, shape: ShapeNumber) -> Result<Option<ElementKnown>, NoMemory>
-        ensures joined { IfOk result (λ place. option_map (element_kind_of (numbered self.now)) place
+        ensures joined { IfOk result (λ place.
+            option_map (element_kind_of (numbered self.now)) place
             ≡ rules.joined_places (numbered self.now shape.0)) }
         ensures there { OnErr result (length self.now ≤ shape.0) }
     {

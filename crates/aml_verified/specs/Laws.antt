@@ -68,7 +68,8 @@ meant methods m values =
     let here = setting_for methods (call_within methods most_within) m in
     framed here.table values (mean_method here m.body)
 
--- and where it evaluates integers alone, with mutexes that are not watched, memory is wanted nowhere
+-- and where it evaluates integers alone, with mutexes that are not watched, memory is wanted
+-- nowhere
 pub record AcceptedIntegersSpare : Type 0 where
   pub wants :
       (told : Told) (c : Checked) (all : Judging) (k : ℕ) (callee : Callee) (a : Accepted) →
