@@ -5,7 +5,7 @@ use Rattle.std.specs.Io.KnownBytes.{Appends}
 use Rattle.std.proofs.lemmas.List.{drop_all}
 use Rattle.acpi_sources.specs.Files.{Answers, Opens}
 use Rattle.acpi_sources.proofs.FilesRead.{names_from}
-use Rattle.acpi_listing.specs.Files.{IsTableOf, ReadsTable, ListsFile, ListsFiles}
+use Rattle.acpi_listing.specs.Files.{HoldsTable, ReadsTable, ListsFile, ListsFiles}
 use Rattle.acpi_tables.specs.Fault.{first_fault}
 use Rattle.acpi_tables.specs.declared.fault.TableFault.{TableFault}
 use Rattle.acpi_listing.specs.Steps.{Step, Obtains, Prints, Then, Writes}
@@ -24,11 +24,11 @@ use Rattle.acpi_sources.specs.declared.status.Status.TheVariants as exit
 
 -- a file whose table was read is what its printing is
 pub file_read : {F : Type 0} (answers : Answers F) (number : ℕ) (name bytes lent : List ℕ) (table : Table) (old new : F) (held holds : Option (List ℕ)) (r : Result (Unit {0}) Stop)
-    → lent ≡ bytes → Opens answers old name (Ok bytes) new → IsTableOf lent table
+    → lent ≡ bytes → Opens answers old name (Ok bytes) new → HoldsTable lent table
     → Writes (Prints (table_text table)) new new held holds r → Writes (ListsFile answers number name) old new held holds r
 file_read answers number name bytes lent table old new held holds r same opens says prints =
     quiet (λ o x n. Opens answers o name x n) (λ b. Then (Obtains (ReadsTable number b)) (λ t. Prints (table_text t))) old new new held holds bytes r opens
-    (given (ReadsTable number bytes) (λ t. Prints (table_text t)) new new held holds table r (subst (λ b. IsTableOf b table) same says) prints)
+    (given (ReadsTable number bytes) (λ t. Prints (table_text t)) new new held holds table r (subst (λ b. HoldsTable b table) same says) prints)
 
 -- the rest of a file's listing, behind its reading
 abbrev behind_bytes : {F : Type 0} → ℕ → List ℕ → Step F (Unit {0})
@@ -47,14 +47,14 @@ file_faulty answers number name bytes lent t old new held f same opens first is 
     (t, subst (λ b. first_fault (file_checks (file_kind b) b) ≡ Some t) same first, is))
 
 pub file_listed : {F : Type 0} (answers : Answers F) (number : ℕ) (name bytes lent : List ℕ) (table : Table) (old new : F) (held holds : Option (List ℕ)) (u : Unit {0})
-    → lent ≡ bytes → Opens answers old name (Ok bytes) new → IsTableOf lent table → Appends held holds (table_text table ++ [])
+    → lent ≡ bytes → Opens answers old name (Ok bytes) new → HoldsTable lent table → Appends held holds (table_text table ++ [])
     → Writes (ListsFile answers number name) old new held holds (Ok u)
 file_listed answers number name bytes lent table old new held holds u same opens says wrote =
     file_read answers number name bytes lent table old new held holds (Ok u) same opens says
     (printed new held holds (table_text table) u (subst (Appends held holds) (append-nil (table_text table)) wrote))
 
 pub file_cut : {F : Type 0} (answers : Answers F) (number : ℕ) (name bytes lent : List ℕ) (table : Table) (old new : F) (held holds : Option (List ℕ)) (f : RunFault) (r : Result (Unit {0}) Stop)
-    → IsErrAnd r (λ s. s ≡ Run f) → lent ≡ bytes → Opens answers old name (Ok bytes) new → IsTableOf lent table
+    → IsErrAnd r (λ s. s ≡ Run f) → lent ≡ bytes → Opens answers old name (Ok bytes) new → HoldsTable lent table
     → ((front : List ℕ) × (rest : List ℕ) × (table_text table ++ [] ≡ front ++ rest) × Appends held holds front)
     → Writes (ListsFile answers number name) old new held holds r
 file_cut answers number name bytes lent table old new held holds f (Ok u) is same opens says part = absurd is

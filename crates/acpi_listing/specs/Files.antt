@@ -18,13 +18,13 @@ abbrev pub Reads : {F : Type 0} → Answers F → List ℕ → Step F (List ℕ)
 Reads answers name = Quietly (λ old r new. Opens answers old name r new)
 
 -- bytes are such a table, which this says
-abbrev pub IsTableOf : List ℕ → Table → Type 0
-IsTableOf bytes table =
+abbrev pub HoldsTable : List ℕ → Table → Type 0
+HoldsTable bytes table =
     IsReadable (file_kind bytes) bytes × Says (file_kind bytes) bytes table
 
 -- the table of a file, or the first fault of the file with that number
 abbrev pub ReadsTable : ℕ → List ℕ → Result Table Fault → Type 0
-ReadsTable number bytes (Ok table) = IsTableOf bytes table
+ReadsTable number bytes (Ok table) = HoldsTable bytes table
 ReadsTable number bytes (Err f) =
     (t : TableFault) × (first_fault (file_checks (file_kind bytes) bytes) ≡ Some t) ×
     (f ≡ in_table (cause.Table t.cause) number t.at)
