@@ -85,7 +85,7 @@ fn definition_note(
         at: refusal.at,
     };
     let mut note = String::from_str(alloc, label)?;
-    let behind = definition_part(alloc, files, refused, missing_words(refusal.cause))?;
+    let behind = definition_part(alloc, files, refused, refusal.cause)?;
     note.push_str(behind.as_str())?;
     Ok(note)
 }
@@ -98,12 +98,12 @@ fn missing_words(cause: LoadCause) -> &'static str {
     }
 }
 
-/// What stands behind the file; a name that is missing has these words.
+/// What stands behind the file, by what is wrong with the definition.
 fn definition_part(
     alloc: Global,
     files: Files<'_>,
     refused: Place,
-    missing: &str,
+    cause: LoadCause,
 ) -> Result<String, AllocError> {
     let at = refused.at;
     match find_again(alloc, files.tables, refused)? {
@@ -116,14 +116,25 @@ fn definition_part(
                 found_note(alloc, at, path.as_str(), before.as_str(), first)
             }
         },
-        Some(Found::Nothing { wanted }) if wanted.as_str() == "\\" => {
-            format!(in alloc; ": the name at byte {at} is the root's, which no definition makes")
-        }
-        Some(Found::Nothing { wanted }) => {
-            format!(in alloc; ": the name at byte {at} wants {wanted}, {missing}")
-        }
+        Some(Found::Nothing { wanted }) => missing_part(alloc, at, wanted.as_str(), cause),
         None => format!(in alloc; ": the definition at byte {at}"),
     }
+}
+
+/// Of a name whose path is missing, behind the file. The root is there, but no definition makes it.
+fn missing_part(
+    alloc: Global,
+    at: usize,
+    wanted: &str,
+    cause: LoadCause,
+) -> Result<String, AllocError> {
+    if cause == LoadCause::ScopeMissing && wanted == "\\" {
+        return format!(in alloc;
+            ": the name at byte {at} is the root's, which no definition makes"
+        );
+    }
+    let missing = missing_words(cause);
+    format!(in alloc; ": the name at byte {at} wants {wanted}, {missing}")
 }
 
 /// Of a path that is defined twice, behind the file: both places.
