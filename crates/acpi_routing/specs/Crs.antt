@@ -1,5 +1,5 @@
 -- The resource descriptors of a link device (ACPI 6.5, 6.2.2).
-use Rattle.std.specs.Prelude.{◌≡◌, ◌++◌, ℕ, List, [], Bool, Option, Some, None, Result, Ok, Err, codes, option_map, if◌then◌else◌}
+use Rattle.std.specs.Prelude.{◌≡◌, ◌++◌, ℕ, List, Option, Some, None, Result, Ok, Err, codes, if◌then◌else◌}
 use Rattle.std.specs.Option.{option_and_then}
 use Rattle.acpi_objects.specs.Gives.{GivesBy, gives_value}
 use Rattle.acpi_objects.specs.declared.given.Given.{Given}

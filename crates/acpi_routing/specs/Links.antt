@@ -1,5 +1,5 @@
 -- The resource descriptors of link devices, one after the other.
-use Rattle.std.specs.Prelude.{◌≡◌, ◌⊎◌, ◌++◌, ℕ, List, [], ◌∷◌, Option, Some, None, Result, Ok, Err}
+use Rattle.std.specs.Prelude.{◌≡◌, ◌⊎◌, ◌++◌, List, [], ◌∷◌, Option, Some, None, Result, Ok, Err}
 use Rattle.acpi_resources.specs.Interrupts.{Links}
 use Rattle.acpi_resources.specs.declared.item.Item.{Item}
 use Rattle.acpi_routing.specs.Crs.{HasItems}

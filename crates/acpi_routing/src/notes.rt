@@ -1,9 +1,10 @@
 // What people are told of a `_PRT` that cannot be followed.
 
-ghost use Rattle.std.specs.Prelude.{◌≡◌, ◌++◌, IfOk, OnOk, map, string_bytes};
+ghost use Rattle.std.specs.Prelude.{◌≡◌, ◌++◌, IfErr, IfOk, OnOk, map, string_bytes};
 ghost use Rattle.std.specs.Option.{option_map};
 ghost use Rattle.acpi_resources.specs.Interrupts.{crs_of_links};
 ghost use Rattle.acpi_routing.specs.Notes.{element_note, entry_note, entry_words, is_listed, link_part, link_text, named_text, reason_by, reason_of, reason_text, reason_words, source_part, source_text};
+ghost use Rattle.acpi_text.specs.declared.writing.RunFault.TheVariants as told;
 ghost use Rattle.acpi_verdicts.specs.Explained.{chain_text};
 ghost use Rattle.aml_namespace.specs.Shows.{shown};
 ghost use Rattle.aml_values.specs.Views.{view};
@@ -70,7 +71,8 @@ pub fn link_text(
     namespace: &Namespace<'_>,
     refused: LinkRefusal,
 ) -> Result<Vec<u8>, RunFault>
-    ensures { IfOk result (λ text. text.items ≡ link_text (shown namespace.now) refused) }
+    ensures text { IfOk result (λ text. text.items ≡ link_text (shown namespace.now) refused) }
+    ensures fault { IfErr result (λ fault. fault ≡ told.NoMemory) }
 {
     let mut text = Vec::new(alloc);
     push_path(alloc, &mut text, namespace, refused.device)?;
@@ -100,8 +102,9 @@ pub fn source_text(
     links: &[(ObjectId, Vec<Item>)],
     number: usize,
 ) -> Result<Vec<u8>, RunFault>
-    ensures { IfOk result (λ text. text.items ≡ source_text (map (λ name. name.now) names.now)
+    ensures text { IfOk result (λ text. text.items ≡ source_text (map (λ name. name.now) names.now)
         checked.now (view prt.now) (crs_of_links links.now) number) }
+    ensures fault { IfErr result (λ fault. fault ≡ told.NoMemory) }
 {
     let mut text = Vec::new(alloc);
     let part = source_part(alloc, number)?;
@@ -134,8 +137,9 @@ fn push_source(
     links: &[(ObjectId, Vec<Item>)],
     named: Option<ObjectId>,
 ) -> Result<(), RunFault>
-    ensures { OnOk result (text.new.items ≡ text.old.items ++ named_text
+    ensures text { OnOk result (text.new.items ≡ text.old.items ++ named_text
         (map (λ name. name.now) names.now) checked.now (crs_of_links links.now) named) }
+    ensures fault { IfErr result (λ fault. fault ≡ told.NoMemory) }
 {
     let Some(device) = named else {
         text.extend_from_slice(b"names nothing\n")?;
@@ -154,8 +158,9 @@ fn push_reason(
     names: &[&str],
     reason: Reason,
 ) -> Result<(), RunFault>
-    ensures { OnOk result (text.new.items ≡ text.old.items
+    ensures text { OnOk result (text.new.items ≡ text.old.items
         ++ reason_text (map (λ name. name.now) names.now) checked.now reason) }
+    ensures fault { IfErr result (λ fault. fault ≡ told.NoMemory) }
 {
     text.extend_from_slice(reason_words(reason).as_bytes())?;
     match reason {
@@ -187,8 +192,9 @@ fn push_why(
     names: &[&str],
     id: ObjectId,
 ) -> Result<(), RunFault>
-    ensures { OnOk result (text.new.items ≡ text.old.items
+    ensures text { OnOk result (text.new.items ≡ text.old.items
         ++ chain_text 8 (map (λ name. name.now) names.now) checked.now id) }
+    ensures fault { IfErr result (λ fault. fault ≡ told.NoMemory) }
 {
     let why = explain(alloc, checked, names, id)?;
     text.extend_from_slice(&why)?;

@@ -4,7 +4,7 @@
 ghost use Rattle.std.specs.Prelude.{◌≡◌, ◌<◌, ◌^◌, IfOk, OnErr, OnOk};
 ghost use Rattle.std.specs.Option.{option_map};
 ghost use Rattle.aml_contents.specs.Held.{contents, content_kinds};
-ghost use Rattle.aml_interp.specs.Sleeping.{IsSetAside, TakesTurn, log_mine};
+ghost use Rattle.aml_interp.specs.Sleeping.{IsSetAside, LeavesTurn, TakesTurn, log_mine};
 ghost use Rattle.aml_regions.specs.EventViews.{events_of};
 ghost use Rattle.aml_regions.specs.Events.{Notified, Read, Stalled, Written};
 ghost use Rattle.aml_regions.specs.Worlds.{CountsRefusal, IsUnit, MakesEvent, MakesSleep, counted};
@@ -79,8 +79,12 @@ impl World for Others<'_> {
         ensures kinds { content_kinds names.new ≡ content_kinds names.old }
         ensures refusal { CountsRefusal result
             (log_mine self.old).refusals (log_mine self.new).refusals }
-        ensures turn { OnOk result (TakesTurn self.old self.new names.old names.new) }
+        ensures turn { OnOk result
+            (TakesTurn milliseconds self.old self.new names.old names.new) }
+        ensures checked { self.new.checked ≡ self.old.checked }
+        ensures methods { self.new.methods ≡ self.old.methods }
         ensures next { OnErr result (self.new.slept ≡ self.old.slept) }
+        ensures cut { OnErr result (LeavesTurn self.old self.new names.old) }
     {
         let Ok(turned) = self.turn(self.slept, names) else {
             return Err(self.refuse());
