@@ -22,8 +22,8 @@ pub record IsSetAside (old new : Others) : Type 0 where
   pub slept : new.slept ≡ old.slept
 
 -- the method runs whose number is that of the Sleeps before this one, over the others' registers:
--- names hold what it left, or what they held where none ran, and the Sleep tells just that; and then
--- the next one is due
+-- names hold what it left, or what they held where none ran, and the Sleep tells just that; and
+-- then the next one is due
 pub record TakesTurn (milliseconds : ℕ) (old new : Others) (names names_left : Names) : Type 0
   where
     pub turned : Option Names

@@ -136,8 +136,8 @@ impl Objects {
         &self.paths
     }
 
-    /// The segments of the path with this number, which counts the paths but the root's; None behind
-    /// the last.
+    /// The segments of the path with this number, which counts the paths but the root's; None
+    /// behind the last.
     pub fn path(&self, alloc: Global, number: usize) -> Result<Option<Vec<NameSeg>>, NoMemory>
         ensures { IfOk result
             (λ path. option_map path_kept path ≡ path_numbered (entries_seen self.now) number) }
