@@ -156,8 +156,7 @@ fn none_of(wanted: Wanted) -> &'static str {
     }
 }
 
-/// The files of a folder that are taken, in any order. Of what is no table's file standard error
-/// tells, and where none is taken, why.
+/// The files of a folder that are taken, in any order; where none is, standard error tells why.
 fn files_in<R: Files + Eprint + AllocGlobal + Clone + Drop>(
     rt: &R,
     folder: &str,
@@ -174,19 +173,29 @@ fn files_in<R: Files + Eprint + AllocGlobal + Clone + Drop>(
             Err(error) => return none_read(rt, folder, &error),
         };
         let path = String::from_str(rt.alloc(), entry.path().as_str())?;
-        match said_by(entry.file_name()) {
-            Some((said, number)) if may_be_file(rt, path.as_str()) => {
-                if said != Said::Other || wanted == Wanted::Tables {
-                    taken.push(Taken { said, number, path })?;
-                }
-            }
-            _ => tell(rt, path.as_str(), passed_over(rt, path.as_str())),
+        if let Some(file) = taken_as(rt, entry.file_name(), path, wanted) {
+            taken.push(file)?;
         }
     }
     if taken.is_empty() {
         tell(rt, folder, none_of(wanted));
     }
     Ok(taken)
+}
+
+/// As what a file of a folder is taken, by its name. Of what is no table's file standard error
+/// tells.
+fn taken_as<R: Files + Eprint>(rt: &R, name: &str, path: String, wanted: Wanted) -> Option<Taken> {
+    match said_by(name) {
+        Some((said, number)) if may_be_file(rt, path.as_str()) => {
+            let is_wanted = said != Said::Other || wanted == Wanted::Tables;
+            is_wanted.then_some(Taken { said, number, path })
+        }
+        _ => {
+            tell(rt, path.as_str(), passed_over(rt, path.as_str()));
+            None
+        }
+    }
 }
 
 /// No file of a folder that cannot be read to its end, so that none is judged without the others;
