@@ -159,9 +159,8 @@ fn dead_ifs(rt: HostRuntime) -> Result<(), Fail> {
         let told = dead_places(rt.alloc(), &table)?;
         let first = opened(&mut table, &wanted);
         let again = opened(&mut table, &wanted);
-        assert_eq!(rt;
-            (told.as_slice(), first, again),
-            (*places, (places.len(), true), (0, true)),
+        assert!(rt;
+            (told.as_slice(), first, again) == (*places, (places.len(), true), (0, true)),
             "{module:?}"
         );
     }
@@ -182,10 +181,7 @@ fn faulty_headers(rt: HostRuntime) -> Result<(), Fail> {
     for place in [4, 9, 20] {
         let [table, faulty, mut other] = faulty(rt.alloc(), place)?;
         let told = [is_dead_if(&table, 36), is_dead_if(&faulty, 36)];
-        assert_eq!(rt;
-            (told, opened(&mut other, &faulty)),
-            ([true, false], (0, true))
-        );
+        assert!(rt; (told, opened(&mut other, &faulty)) == ([true, false], (0, true)));
     }
     Ok(())
 }

@@ -95,10 +95,7 @@ fn the_first_table(rt: HostRuntime) -> Result<(), Fail> {
         body: Span { at: 43, end: 48 },
     };
     let methods = [ns.method(ObjectId(8)), ns.method(ObjectId(9))];
-    assert_eq!(rt;
-        (ns.width(), ns.len(), methods),
-        (Width::Bits64, 10, [None, Some(method)])
-    );
+    assert!(rt; (ns.width(), ns.len(), methods) == (Width::Bits64, 10, [None, Some(method)]));
     Ok(())
 }
 
@@ -151,6 +148,6 @@ fn want_of_memory(rt: HostRuntime) -> Result<(), Fail> {
         Err(LoadFault::NoMemory) => count_of(rt.alloc()),
         told => told,
     };
-    assert_eq!(rt; count, Ok(10));
+    assert!(rt; count == Ok(10));
     Ok(())
 }
