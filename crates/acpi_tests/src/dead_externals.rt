@@ -159,8 +159,9 @@ fn dead_ifs(rt: HostRuntime) -> Result<(), Fail> {
         let told = dead_places(rt.alloc(), &table)?;
         let first = opened(&mut table, &wanted);
         let again = opened(&mut table, &wanted);
-        assert!(rt;
-            (told.as_slice(), first, again) == (*places, (places.len(), true), (0, true)),
+        assert_eq!(rt;
+            (told.as_slice(), first, again),
+            (*places, (places.len(), true), (0, true)),
             "{module:?}"
         );
     }
@@ -181,7 +182,10 @@ fn faulty_headers(rt: HostRuntime) -> Result<(), Fail> {
     for place in [4, 9, 20] {
         let [table, faulty, mut other] = faulty(rt.alloc(), place)?;
         let told = [is_dead_if(&table, 36), is_dead_if(&faulty, 36)];
-        assert!(rt; (told, opened(&mut other, &faulty)) == ([true, false], (0, true)));
+        assert_eq!(rt;
+            (told, opened(&mut other, &faulty)),
+            ([true, false], (0, true))
+        );
     }
     Ok(())
 }

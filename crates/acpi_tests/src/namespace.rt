@@ -95,7 +95,10 @@ fn the_first_table(rt: HostRuntime) -> Result<(), Fail> {
         body: Span { at: 43, end: 48 },
     };
     let methods = [ns.method(ObjectId(8)), ns.method(ObjectId(9))];
-    assert!(rt; (ns.width(), ns.len(), methods) == (Width::Bits64, 10, [None, Some(method)]));
+    assert_eq!(rt;
+        (ns.width(), ns.len(), methods),
+        (Width::Bits64, 10, [None, Some(method)])
+    );
     Ok(())
 }
 
@@ -148,6 +151,6 @@ fn want_of_memory(rt: HostRuntime) -> Result<(), Fail> {
         Err(LoadFault::NoMemory) => count_of(rt.alloc()),
         told => told,
     };
-    assert!(rt; count == Ok(10));
+    assert_eq!(rt; count, Ok(10));
     Ok(())
 }

@@ -112,7 +112,7 @@ fn paths_and_their_segments(rt: HostRuntime) -> Result<(), Fail> {
     let (paths, copied) = settled(rt.alloc())?;
     let right = right_paths(rt.alloc(), &paths)?;
     let copies = right_paths(rt.alloc(), &copied)?;
-    assert!(rt; [paths.len(), right, copies] == [6, 6, 6]);
+    assert_eq!(rt; [paths.len(), right, copies], [6, 6, 6]);
     Ok(())
 }
 
@@ -120,9 +120,9 @@ fn paths_and_their_segments(rt: HostRuntime) -> Result<(), Fail> {
 fn names_among_paths(rt: HostRuntime) -> Result<(), Fail> {
     let paths = paths_of(rt.alloc())?;
     for (scope, name, wanted) in NAMES {
-        assert!(rt; numbers(&paths, *scope, name) == *wanted);
+        assert_eq!(rt; numbers(&paths, *scope, name), *wanted);
     }
-    assert!(rt; paths.printed(b"\\_SB_.PCI0") == Some(2));
-    assert!(rt; paths.printed(b"\\") == None);
+    assert_eq!(rt; paths.printed(b"\\_SB_.PCI0"), Some(2));
+    assert_eq!(rt; paths.printed(b"\\"), None);
     Ok(())
 }

@@ -28,7 +28,7 @@ fn the_longest_descriptor(rt: HostRuntime) -> Result<(), Fail> {
     bytes[4] = 0x10;
     bytes[65_538] = 0x79;
     let found = items(rt.alloc(), &bytes)?;
-    assert!(rt; first_memory(&found) == Some((0x10, 0, 2)));
+    assert_eq!(rt; first_memory(&found), Some((0x10, 0, 2)));
     Ok(())
 }
 
@@ -99,7 +99,7 @@ fn lists_without_routes(rt: HostRuntime) {
         Some((RouteCause::BadEntry, 0)),
         Some((RouteCause::BadEntry, 1)),
     ];
-    assert!(rt; told == [whole, whole, second, second]);
+    assert_eq!(rt; told, [whole, whole, second, second]);
 }
 
 /// The interrupt of a link that is listed with interrupt 0, and again with interrupt 1.
@@ -116,7 +116,7 @@ fn interrupt_listed_twice(alloc: Global) -> Option<u32> {
 /// The first list counts.
 #[test]
 fn links_listed_twice(rt: HostRuntime) {
-    assert!(rt; interrupt_listed_twice(rt.alloc()) == Some(0));
+    assert_eq!(rt; interrupt_listed_twice(rt.alloc()), Some(0));
 }
 
 #[test]

@@ -14,8 +14,8 @@ fn signatures(rt: HostRuntime) -> Result<(), Fail> {
         cause: TableCause::BadSignature,
         at: 0,
     };
-    assert!(rt; read_table(&DSDT, b"DSDT")?.length == 48);
-    assert!(rt; Madt::read(&DSDT).err() == Some(other));
+    assert_eq!(rt; read_table(&DSDT, b"DSDT")?.length, 48);
+    assert_eq!(rt; Madt::read(&DSDT).err(), Some(other));
     Ok(())
 }
 
@@ -30,8 +30,8 @@ fn xsdts(rt: HostRuntime) -> Result<(), Fail> {
     let mut addresses = xsdt.entries();
     let found = [addresses.next(), addresses.next(), addresses.next()];
     assert!(rt; !xsdt.is_empty());
-    assert!(rt; found == wanted);
-    assert!(rt; [xsdt.entry(0), xsdt.entry(1), xsdt.entry(2)] == wanted);
+    assert_eq!(rt; found, wanted);
+    assert_eq!(rt; [xsdt.entry(0), xsdt.entry(1), xsdt.entry(2)], wanted);
     Ok(())
 }
 
@@ -60,8 +60,8 @@ fn madts(rt: HostRuntime) -> Result<(), Fail> {
     let wanted = [Some(first), Some(second), None];
     let mut entries = madt.entries();
     let found = [entries.next(), entries.next(), entries.next()];
-    assert!(rt; found == wanted);
-    assert!(rt; [madt.entry(0), madt.entry(1), madt.entry(2)] == wanted);
+    assert_eq!(rt; found, wanted);
+    assert_eq!(rt; [madt.entry(0), madt.entry(1), madt.entry(2)], wanted);
     structures_are_found();
     Ok(())
 }
@@ -80,6 +80,6 @@ fn routes(rt: HostRuntime) -> Result<(), Fail> {
         edge: true,
         low: false,
     };
-    assert!(rt; [madt.isa_route(9), madt.isa_route(4)] == [level, own]);
+    assert_eq!(rt; [madt.isa_route(9), madt.isa_route(4)], [level, own]);
     Ok(())
 }

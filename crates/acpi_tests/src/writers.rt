@@ -26,12 +26,12 @@ fn routes(rt: HostRuntime) -> Result<(), Fail> {
     let alloc = rt.alloc();
     let found = [route(0x1FFFF, Pin::A, 20), route(0x2FFFF, Pin::B, 17)];
     let mut slow = Narrow::new(alloc, 1, 128)?;
-    assert!(rt; list_routes(alloc, &mut slow, &found) == Ok(()));
-    assert!(rt; slow.text.as_slice() == ROUTES.as_bytes());
+    assert_eq!(rt; list_routes(alloc, &mut slow, &found), Ok(()));
+    assert_eq!(rt; slow.text.as_slice(), ROUTES.as_bytes());
     for room in 0..ROUTES.len() {
         let mut full = Narrow::new(alloc, 7, room)?;
-        assert!(rt; list_routes(alloc, &mut full, &found) == Err(RunFault::Write));
-        assert!(rt; full.text.as_slice() == &ROUTES.as_bytes()[..room]);
+        assert_eq!(rt; list_routes(alloc, &mut full, &found), Err(RunFault::Write));
+        assert_eq!(rt; full.text.as_slice(), &ROUTES.as_bytes()[..room]);
     }
     Ok(())
 }

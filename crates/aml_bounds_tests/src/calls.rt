@@ -116,7 +116,7 @@ fn large_graphs(rt: HostRuntime) -> Result<(), Fail> {
     for (graph, ordered, others) in rows {
         let (first, rest, is_reached) = order_of(rt.alloc(), *graph)?;
         let found = (first, rest, is_reached || *ordered > 60_000);
-        assert!(rt; found == (*ordered, *others, true), "{graph:?}");
+        assert_eq!(rt; found, (*ordered, *others, true), "{graph:?}");
     }
     Ok(())
 }

@@ -122,7 +122,7 @@ fn components_by_hand(rt: HostRuntime) -> Result<(), Fail> {
     ];
     let pairs = pairs_of(rt.alloc(), graph)?;
     let components = Components::of(rt.alloc(), &pairs)?;
-    assert!(rt; other_answer(&components, rows) == None);
+    assert_eq!(rt; other_answer(&components, rows), None);
     Ok(())
 }
 

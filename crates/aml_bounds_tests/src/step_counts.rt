@@ -80,7 +80,7 @@ fn steps_of_terms(rt: HostRuntime) -> Result<(), Fail> {
         (&[0x70, 0x0D, 0x00, 0x5B, 0x31], 3),
     ];
     for (bytes, count) in rows {
-        assert!(rt; steps_in(rt.alloc(), bytes, &four)? == Some(*count));
+        assert_eq!(rt; steps_in(rt.alloc(), bytes, &four)?, Some(*count));
     }
     Ok(())
 }

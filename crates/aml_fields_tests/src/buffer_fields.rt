@@ -103,7 +103,7 @@ fn rows_of_buffer_fields(rt: HostRuntime) -> Result<(), Fail> {
             Err(LoadFault::NoMemory) => buffer_field_in(rt.alloc(), definition)?,
             found => found?,
         };
-        assert!(rt; found == wanted);
+        assert_eq!(rt; found, wanted);
     }
     Ok(())
 }
@@ -170,7 +170,7 @@ fn buffer_fields_are_made_of_sizes_and_indices(rt: HostRuntime) -> Result<(), Fa
             bit,
             bits,
         };
-        assert!(rt; field == wanted);
+        assert_eq!(rt; field, wanted);
     }
     Ok(())
 }
@@ -181,7 +181,7 @@ fn buffer_fields_of_1_to_2048_bits_can_be_used(rt: HostRuntime) -> Result<(), Fa
         let size = CreatedFieldSize::Bits(count);
         let field = made_buffer_field(Width::Bits64, Link::Missing, size, u64::MAX);
         let wanted = if usable { Some(field) } else { None };
-        assert!(rt; usable_buffer_field(field) == wanted);
+        assert_eq!(rt; usable_buffer_field(field), wanted);
     }
     Ok(())
 }

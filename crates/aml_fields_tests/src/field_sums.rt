@@ -220,7 +220,7 @@ fn fields_of_every_place_are_written_and_read(rt: HostRuntime) -> Result<(), Fai
         for turn in 0..11u64 {
             sum = mixed(sum, place_sum(rt.alloc(), width, others, turn * STEP)?);
         }
-        assert!(rt; sum == wanted);
+        assert_eq!(rt; sum, wanted);
     }
     Ok(())
 }

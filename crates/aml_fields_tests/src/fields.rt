@@ -73,7 +73,7 @@ fn a_write_ends_at_its_limit(rt: HostRuntime) -> Result<(), Fail> {
     let found = written_and_read(&mut file, &FIELD)?;
     let is_begun = begin_with(file.events(), 6, FIRST);
     let told = (found, is_begun, counts(&FIELD));
-    assert!(rt; told == ((false, Some(0x2edc_ba98_7654_3211)), true, (3, 5)));
+    assert_eq!(rt; told, ((false, Some(0x2edc_ba98_7654_3211)), true, (3, 5)));
     Ok(())
 }
 
@@ -121,7 +121,7 @@ fn field_of(at: u64, bits: u64, place: u64, length: u64, space: u8) -> AnyField 
 fn soundness_is_told(rt: HostRuntime) -> Result<(), Fail> {
     for (at, bits, place, length, space, wanted) in SOUND {
         let asked = field_of(*at, *bits, *place, *length, *space);
-        assert!(rt; sound(&asked) == *wanted);
+        assert_eq!(rt; sound(&asked), *wanted);
     }
     Ok(())
 }
@@ -135,6 +135,6 @@ fn buffers_have_fields(rt: HostRuntime) -> Result<(), Fail> {
     );
     write_buffer_field(&mut buffer, 6, 12, &0x10f3u64);
     let found = (read, buffer);
-    assert!(rt; found == ((0xaa, 0x1feb5), [0xe5u8, 0x3c, 0xfc, 0x00]));
+    assert_eq!(rt; found, ((0xaa, 0x1feb5), [0xe5u8, 0x3c, 0xfc, 0x00]));
     Ok(())
 }

@@ -80,7 +80,7 @@ const WITHIN: Access = Access {
 fn bytes_that_were_never_set_are_zero(rt: HostRuntime) -> Result<(), Fail> {
     let mut file = RegisterFile::new(rt.alloc());
     let found = file.read(LAST_WIDE)?;
-    assert!(rt; (file.byte(0, 0), found, file.refusals()) == (0, 0, 0));
+    assert_eq!(rt; (file.byte(0, 0), found, file.refusals()), (0, 0, 0));
     assert!(rt; are_calls(file.events(), &[Call::Read(LAST_WIDE, 0)]));
     Ok(())
 }
@@ -108,7 +108,7 @@ fn widths_overlap_lowest_byte_first(rt: HostRuntime) -> Result<(), Fail> {
         0x8877_66ab_cd33_2211,
         0,
     ];
-    assert!(rt; (found, file.events().len()) == (wanted, 8));
+    assert_eq!(rt; (found, file.events().len()), (wanted, 8));
     Ok(())
 }
 
@@ -141,7 +141,7 @@ fn refusals_are_counted(rt: HostRuntime) -> Result<(), Fail> {
     let mut names = Names::new(rt.alloc());
     let is_written = written_and_read(&mut world, LAST_BYTE, 1).is_ok();
     let is_slept = world.sleep(1, &mut names).is_ok();
-    assert!(rt; (is_written, is_slept, world.refusals()) == (false, false, 2));
+    assert_eq!(rt; (is_written, is_slept, world.refusals()), (false, false, 2));
     Ok(())
 }
 
@@ -173,7 +173,7 @@ fn each_bit_is_one(rt: HostRuntime) -> Result<(), Fail> {
         Call::Read(WITHIN, 0xffff),
         Call::Read(LAST_WIDE, u64::MAX),
     ];
-    assert!(rt; (read, world.refusals()) == ([0xff, 0xffff, u64::MAX], 0));
+    assert_eq!(rt; (read, world.refusals()), ([0xff, 0xffff, u64::MAX], 0));
     assert!(rt; are_calls(world.events(), &log));
     Ok(())
 }
@@ -181,7 +181,7 @@ fn each_bit_is_one(rt: HostRuntime) -> Result<(), Fail> {
 #[test]
 fn faults_of_register_texts_have_their_numbers(rt: HostRuntime) -> Result<(), Fail> {
     let bad = RegistersFault::BadRegs { line: 7 };
-    assert!(rt; bad.text() == "E511 BadRegs");
-    assert!(rt; RegistersFault::NoMemory.text() == "E524 NoMemory");
+    assert_eq!(rt; bad.text(), "E511 BadRegs");
+    assert_eq!(rt; RegistersFault::NoMemory.text(), "E524 NoMemory");
     Ok(())
 }

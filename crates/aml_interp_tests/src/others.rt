@@ -76,12 +76,12 @@ fn is_counted_by(rt: &impl Abort, alloc: Global, checked: &Checked<'_>) -> Resul
             assert!(rt; gives(&value, Wanted::Int(6)));
             assert!(rt; is_one_sleep(world.mine().events()));
             assert!(rt; world.theirs().events().is_empty());
-            assert!(rt; counted == Some(Some(6)));
+            assert_eq!(rt; counted, Some(Some(6)));
             Ok(())
         }
         Err(NoMemory) => {
             let slept = is_one_sleep(world.mine().events());
-            assert!(rt; counted == Some(Some(if slept { 6 } else { 5 })));
+            assert_eq!(rt; counted, Some(Some(if slept { 6 } else { 5 })));
             Err(LoadFault::NoMemory)
         }
     }

@@ -43,10 +43,10 @@ fn refused_calls_leave_the_first_ones(rt: HostRuntime) -> Result<(), Fail> {
             );
             if passes < 4 {
                 assert!(rt; answer.is_err(), "{passes}");
-                assert!(rt; world.refusals() == 1);
+                assert_eq!(rt; world.refusals(), 1);
             } else {
                 assert!(rt; answer.is_ok_and(|value| gives(&value, Wanted::Nothing)));
-                assert!(rt; world.refusals() == 0);
+                assert_eq!(rt; world.refusals(), 0);
             }
         }
     }
@@ -59,7 +59,7 @@ fn nothing_is_asked_of_a_world_without_accesses(rt: HostRuntime) -> Result<(), F
     let mut world = Refusing::new(file, 0);
     let answer = evaluated(&rt, rt.alloc(), FILLED, &mut world)?;
     assert!(rt; answer.is_ok_and(|value| gives(&value, Wanted::Buf(SIXTEEN))));
-    assert!(rt; world.refusals() == 0);
+    assert_eq!(rt; world.refusals(), 0);
     Ok(())
 }
 

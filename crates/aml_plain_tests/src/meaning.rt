@@ -27,7 +27,7 @@ fn printed_errors(rt: HostRuntime) -> Result<(), Fail> {
             cause: *cause,
         };
         let printed = format!(in rt.alloc(); "{error}")?;
-        assert!(rt; printed.as_str() == *text);
+        assert_eq!(rt; printed.as_str(), *text);
     }
     Ok(())
 }
@@ -43,7 +43,7 @@ fn calls(rt: HostRuntime) {
         (Op::Timer, Action::Unwritten),
     ];
     for (op, action) in rows {
-        assert!(rt; action_of(*op) == *action);
+        assert_eq!(rt; action_of(*op), *action);
     }
     done_is_stable();
     reads_are_answered();

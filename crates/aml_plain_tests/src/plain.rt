@@ -157,7 +157,7 @@ fn evaluated(
     let mut world = RegisterFile::new(alloc);
     let outcome = outcome_of_terms(alloc, namespace, arguments, &mut world, fuel)?;
     let plain = outcome_of_bytes(alloc, namespace, arguments, fuel)?;
-    assert!(rt; plain == outcome);
+    assert_eq!(rt; plain, outcome);
     Ok(outcome)
 }
 
@@ -190,7 +190,7 @@ fn arguments_that_are_not_given(rt: HostRuntime) -> Result<(), Fail> {
     for (module, fuel, outcome) in rows {
         let table = table_of(rt.alloc(), *b"DSDT", 2, module)?;
         let found = outcome_of(&rt, rt.alloc(), &table, &[], *fuel)?;
-        assert!(rt; found == *outcome);
+        assert_eq!(rt; found, *outcome);
     }
     Ok(())
 }
@@ -203,6 +203,6 @@ fn want_of_memory(rt: HostRuntime) -> Result<(), Fail> {
         Err(LoadFault::NoMemory) => outcome_of(&rt, rt.alloc(), &DSDT, &[41], 1000),
         told => told,
     };
-    assert!(rt; outcome == Ok(Ended::Done(Some(42))));
+    assert_eq!(rt; outcome, Ok(Ended::Done(Some(42))));
     Ok(())
 }

@@ -152,7 +152,7 @@ fn rows_of_integers_at_once(rt: HostRuntime) -> Result<(), Fail> {
             Err(LoadFault::NoMemory) => answer(rt.alloc(), bytes, *asked, *steps)?,
             told => told?,
         };
-        assert!(rt; parts(made) == *wanted);
+        assert_eq!(rt; parts(made), *wanted);
     }
     Ok(())
 }

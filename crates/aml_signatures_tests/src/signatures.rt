@@ -17,7 +17,7 @@ fn is_told(rt: &impl Abort, alloc: Global, row: Row<'_>) -> Result<(), Signature
     let Ok(kinds) = signatures.kinds(alloc, path, count, Width::Bits64) else {
         return Err(SignatureFault::NoMemory);
     };
-    assert!(rt; kinds.as_slice() == wanted);
+    assert_eq!(rt; kinds.as_slice(), wanted);
     Ok(())
 }
 
@@ -130,7 +130,7 @@ fn rows_of_bad_lines(rt: HostRuntime) -> Result<(), Fail> {
     ];
     for (text, line) in rows {
         let wanted = Some(SignatureFault::BadKinds { line: *line });
-        assert!(rt; fault_of(rt.alloc(), text) == wanted);
+        assert_eq!(rt; fault_of(rt.alloc(), text), wanted);
     }
     Ok(())
 }
@@ -142,7 +142,7 @@ fn greatest_integers_are_cut_to_the_width(rt: HostRuntime) -> Result<(), Fail> {
     let kinds = signatures.kinds(rt.alloc(), b"\\M000", 4, Width::Bits32)?;
     let greatest = 4_294_967_295;
     let wanted = [IntUpTo(greatest), IntUpTo(greatest), Buf(greatest + 1), Int];
-    assert!(rt; kinds.as_slice() == wanted.as_slice());
+    assert_eq!(rt; kinds.as_slice(), wanted.as_slice());
     Ok(())
 }
 
@@ -163,7 +163,7 @@ fn each_of_60000_lines_is_found(rt: HostRuntime) -> Result<(), Fail> {
     for number in 0..60_000u32 {
         let path = format!(in alloc; "\\_SB_.PCI0.M{number}")?;
         let kinds = signatures.kinds(alloc, path.as_bytes(), 1, Width::Bits64)?;
-        assert!(rt; kinds.as_slice() == [Buf(u64::from(number))].as_slice());
+        assert_eq!(rt; kinds.as_slice(), [Buf(u64::from(number))].as_slice());
     }
     Ok(())
 }

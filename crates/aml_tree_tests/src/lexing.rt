@@ -88,7 +88,7 @@ fn readers(rt: HostRuntime) -> Result<(), Fail> {
     for (reader, bytes, at, wanted) in rows {
         assert!(rt; *at <= bytes.len());
         let text = told_by(rt.alloc(), reader, bytes, *at)?;
-        assert!(rt; text.as_str() == *wanted);
+        assert_eq!(rt; text.as_str(), *wanted);
     }
     Ok(())
 }
@@ -123,7 +123,7 @@ fn segments(rt: HostRuntime) -> Result<(), Fail> {
 #[test]
 fn printed_segment(rt: HostRuntime) -> Result<(), Fail> {
     let segment = NameSeg { bytes: *b"PCI0" };
-    assert!(rt; format!(in rt.alloc(); "{segment}")?.as_str() == "PCI0");
+    assert_eq!(rt; format!(in rt.alloc(); "{segment}")?.as_str(), "PCI0");
     Ok(())
 }
 

@@ -78,6 +78,6 @@ fn compare(rt: &impl Abort, alloc: Global, terms: &[Term], rows: &[Part]) -> Res
         Err(TreeFault::NoMemory) => parts_of(alloc, terms, rows.len())?,
         told => told?,
     };
-    assert!(rt; parts.as_slice() == rows);
+    assert_eq!(rt; parts.as_slice(), rows);
     Ok(())
 }

@@ -160,7 +160,7 @@ fn bytes_are_set(rt: HostRuntime) -> Result<(), Fail> {
     ];
     for (id, at, is_done, bytes) in rows {
         let found = bytes_behind(rt.alloc(), *id, *at)?;
-        assert!(rt; found == (*is_done, *bytes));
+        assert_eq!(rt; found, (*is_done, *bytes));
     }
     Ok(())
 }

@@ -235,7 +235,7 @@ fn values_fit(rt: HostRuntime) -> Result<(), Fail> {
     ];
     for (sample, row) in rows {
         let found = marks(rt.alloc(), *sample, columns)?;
-        assert!(rt; found.as_str() == *row);
+        assert_eq!(rt; found.as_str(), *row);
     }
     Ok(())
 }
@@ -283,7 +283,7 @@ fn kinds_lie_within(rt: HostRuntime) -> Result<(), Fail> {
         (Form::Nested(64), Form::Nested(64), '='),
     ];
     for (first, second, wanted) in rows {
-        assert!(rt; order(rt.alloc(), *first, *second)? == *wanted);
+        assert_eq!(rt; order(rt.alloc(), *first, *second)?, *wanted);
     }
     Ok(())
 }
@@ -362,8 +362,8 @@ fn kinds_are_joined(rt: HostRuntime) -> Result<(), Fail> {
         (".........=", "mmmmmmmmmm"),
     ];
     for ((_, form), (orders, joins)) in LETTERS.iter().zip(rows) {
-        assert!(rt; orders_of(rt.alloc(), *form)?.as_str() == *orders);
-        assert!(rt; joins_of(rt.alloc(), *form)?.as_str() == *joins);
+        assert_eq!(rt; orders_of(rt.alloc(), *form)?.as_str(), *orders);
+        assert_eq!(rt; joins_of(rt.alloc(), *form)?.as_str(), *joins);
     }
     Ok(())
 }
@@ -422,8 +422,8 @@ fn places_are_joined(rt: HostRuntime) -> Result<(), Fail> {
     ];
     for (letter, same, row) in rows {
         let found = places_joined(rt.alloc(), *letter)?;
-        assert!(rt; found.as_str() == *row);
-        assert!(rt; places_matched(rt.alloc(), *letter)?.as_str() == *same);
+        assert_eq!(rt; found.as_str(), *row);
+        assert_eq!(rt; places_matched(rt.alloc(), *letter)?.as_str(), *same);
     }
     Ok(())
 }
@@ -469,7 +469,7 @@ fn depths(rt: HostRuntime) -> Result<(), Fail> {
     for (depth, elements, places) in rows {
         let refused = refused_of(rt.alloc(), Sample::Nested(*depth))?;
         let places_refused = places_refused_of(rt.alloc(), Form::Nested(*depth))?;
-        assert!(rt; (refused, places_refused) == (*elements, *places));
+        assert_eq!(rt; (refused, places_refused), (*elements, *places));
     }
     Ok(())
 }
@@ -564,9 +564,9 @@ fn different_values(rt: HostRuntime) -> Result<(), Fail> {
 #[test]
 fn parts_of_bytes(rt: HostRuntime) -> Result<(), Fail> {
     let made = Bytes::new(vec![in rt.alloc(); 1, 2, 3]?);
-    assert!(rt; made.len() == 3);
-    assert!(rt; made.as_slice() == [1, 2, 3].as_slice());
-    assert!(rt; made.into_vec().len() == 3);
+    assert_eq!(rt; made.len(), 3);
+    assert_eq!(rt; made.as_slice(), [1, 2, 3].as_slice());
+    assert_eq!(rt; made.into_vec().len(), 3);
     Ok(())
 }
 
@@ -590,12 +590,12 @@ fn parts(rt: HostRuntime) -> Result<(), Fail> {
         Value::Pkg(package) => parts_of_package(package),
         _ => [0; 4],
     };
-    assert!(rt; found == [5, 1, 5, 5]);
+    assert_eq!(rt; found, [5, 1, 5, 5]);
     let found = match unset_places(rt.alloc(), 1)? {
         Kind::Pkg(shape) => parts_of_shape(shape),
         _ => [0; 4],
     };
-    assert!(rt; found == [1, 1, 1, 1]);
+    assert_eq!(rt; found, [1, 1, 1, 1]);
     Ok(())
 }
 

@@ -87,16 +87,16 @@ fn name_at(checked: &Checked<'_>, number: usize, at: usize) -> Option<LinkedName
 /// What is known of the methods, and of the name that the second has.
 fn are_known(rt: &impl Abort, checked: &Checked<'_>) {
     let methods = checked.namespace().methods();
-    assert!(rt; methods.len() == WANTED.len());
+    assert_eq!(rt; methods.len(), WANTED.len());
     for (i, id) in methods.iter().enumerate() {
-        assert!(rt; Some(known_of(checked, *id)) == WANTED.get(i).copied());
+        assert_eq!(rt; Some(known_of(checked, *id)), WANTED.get(i).copied());
     }
     let name = name_at(checked, 1, 65);
-    assert!(rt; name.map(|name| name.end) == Some(69));
+    assert_eq!(rt; name.map(|name| name.end), Some(69));
     let data = matches!(name.map(|name| name.link), Some(Link::Data(_)));
     assert!(rt; data);
-    assert!(rt; name_at(checked, 1, 64) == None);
-    assert!(rt; name_at(checked, 0, 53) == None);
+    assert_eq!(rt; name_at(checked, 1, 64), None);
+    assert_eq!(rt; name_at(checked, 0, 53), None);
 }
 
 /// Judges the methods of a namespace, one step at a time, each again where it wants memory; and all

@@ -36,10 +36,10 @@ fn told(verdict: &Verdict) -> Said {
 /// Each method of the namespace has the verdict that is wanted.
 fn are_said(rt: &impl Abort, checked: &Checked<'_>, wanted: &[Said]) {
     let methods = checked.namespace().methods();
-    assert!(rt; methods.len() == wanted.len());
+    assert_eq!(rt; methods.len(), wanted.len());
     for (i, id) in methods.iter().enumerate() {
         let found = checked.verdict(*id).map(told);
-        assert!(rt; found == wanted.get(i).copied());
+        assert_eq!(rt; found, wanted.get(i).copied());
     }
 }
 
@@ -56,12 +56,12 @@ fn are_judged(
     for _ in 0..verifier.left() {
         let left = verifier.left();
         if verifier.step().is_err() {
-            assert!(rt; verifier.left() == left);
+            assert_eq!(rt; verifier.left(), left);
             assert!(rt; verifier.step()?.is_some());
         }
         assert!(rt; verifier.left() < left);
     }
-    assert!(rt; verifier.step()? == None);
+    assert_eq!(rt; verifier.step()?, None);
     are_said(rt, &verifier.finish(), wanted);
     Ok(())
 }

@@ -54,7 +54,7 @@ fn files_that_memory_cannot_hold(rt: HostRuntime) -> Result<(), Fail> {
     for (words, front) in rows {
         let text = format!(in alloc; "{front}fault E524 NoMemory\n")?;
         let answer = answer_of(alloc, words, text.as_bytes());
-        assert!(rt; answer == (Ok(Status::Fault), true));
+        assert_eq!(rt; answer, (Ok(Status::Fault), true));
     }
     Ok(())
 }
@@ -112,7 +112,7 @@ fn tables_that_were_read(rt: HostRuntime) -> Result<(), Fail> {
     let alloc = rt.alloc();
     let bytes = hex::decode(alloc, TABLE_1)?;
     let read = header_of(read_any_table(&bytes)?);
-    assert!(rt; read == Some((48, 2)), "a DSDT is listed by its header");
+    assert_eq!(rt; read, Some((48, 2)), "a DSDT is listed by its header");
     let text = format!(in alloc; "{LINE_1}facs left out\n")?;
     assert!(rt; is_listed(alloc, &bytes, text.as_str())?);
     Ok(())
@@ -126,7 +126,7 @@ fn a_table_that_ends_too_early(rt: HostRuntime) -> Result<(), Fail> {
         cause: TableCause::Short,
         at: 35,
     };
-    assert!(rt; read_any_table(front).err() == Some(short));
+    assert_eq!(rt; read_any_table(front).err(), Some(short));
     Ok(())
 }
 
@@ -161,11 +161,14 @@ fn read_of<R: Read>(alloc: Global, stream: &mut R, bytes: &[u8]) -> Result<(bool
 fn inputs_that_end_or_fail(rt: HostRuntime) -> Result<(), Fail> {
     let alloc = rt.alloc();
     let whole = read_of(alloc, &mut b"12345".as_slice(), b"12345")?;
-    assert!(rt; whole == (true, true));
+    assert_eq!(rt; whole, (true, true));
     let torn = read_of(alloc, &mut Torn { left: 5 }, b"xxxxx")?;
-    assert!(rt; torn == (false, true));
+    assert_eq!(rt; torn, (false, true));
     let mut out = Vec::new(alloc);
-    assert!(rt; run(alloc, &mut Torn { left: 5 }, &mut out) == Ok(Status::Fault));
-    assert!(rt; out.as_slice() == b"fault E523 File\n".as_slice());
+    assert_eq!(rt;
+        run(alloc, &mut Torn { left: 5 }, &mut out),
+        Ok(Status::Fault)
+    );
+    assert_eq!(rt; out.as_slice(), b"fault E523 File\n".as_slice());
     Ok(())
 }

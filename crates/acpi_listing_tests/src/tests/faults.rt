@@ -73,7 +73,7 @@ fn lines_of_faults(rt: HostRuntime) -> Result<(), Fail> {
         };
         list_fault(alloc, &mut out, fault)?;
         let text = format!(in alloc; "fault {line}\n")?;
-        assert!(rt; out.as_slice() == text.as_bytes(), "at {line}");
+        assert_eq!(rt; out.as_slice(), text.as_bytes(), "at {line}");
     }
     Ok(())
 }

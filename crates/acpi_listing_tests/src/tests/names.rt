@@ -53,17 +53,17 @@ fn listed(alloc: Global, count: usize) -> (Result<Status, RunFault>, Vec<u8>) {
 #[test]
 fn as_many_names_as_there_may_be(rt: HostRuntime) -> Result<(), Fail> {
     let (ended, out) = listed(rt.alloc(), 65_526);
-    assert!(rt; ended == Ok(Status::Done));
+    assert_eq!(rt; ended, Ok(Status::Done));
     assert!(rt; out.starts_with(PREDEFINED.as_bytes()));
     assert!(rt; out.ends_with(b"\\BOUF integer\n"));
-    assert!(rt; out.iter().filter(|b| **b == b'\n').count() == 65_535);
+    assert_eq!(rt; out.iter().filter(|b| **b == b'\n').count(), 65_535);
     Ok(())
 }
 
 #[test]
 fn a_name_too_many(rt: HostRuntime) -> Result<(), Fail> {
     let (ended, out) = listed(rt.alloc(), 65_527);
-    assert!(rt; ended == Ok(Status::Fault));
-    assert!(rt; out.as_slice() == b"fault E303 TooMany 0 393193\n".as_slice());
+    assert_eq!(rt; ended, Ok(Status::Fault));
+    assert_eq!(rt; out.as_slice(), b"fault E303 TooMany 0 393193\n".as_slice());
     Ok(())
 }

@@ -77,7 +77,7 @@ fn packages(rt: HostRuntime) -> Result<(), Fail> {
         let back = ", unset]".repeat(alloc, depth)?;
         let text = format!(in alloc; "{front}{ELEMENTS}]{back}")?;
         let out = printed(alloc, &namespace, depth)?;
-        assert!(rt; out.as_slice() == text.as_bytes());
+        assert_eq!(rt; out.as_slice(), text.as_bytes());
     }
     Ok(())
 }
@@ -129,6 +129,6 @@ fn events(rt: HostRuntime) -> Result<(), Fail> {
     ];
     let mut out = Vec::new(alloc);
     list_events(alloc, &mut out, &namespace, &events)?;
-    assert!(rt; out.as_slice() == EVENTS.as_bytes());
+    assert_eq!(rt; out.as_slice(), EVENTS.as_bytes());
     Ok(())
 }

@@ -59,8 +59,8 @@ fn words_at_fault(rt: HostRuntime) -> Result<(), Fail> {
     ];
     for (cause, text, status) in faults {
         let answer = ended(alloc, Err(Fault::nowhere(cause)), 4096)?;
-        assert!(rt; answer.0.as_slice() == text.as_bytes());
-        assert!(rt; answer.1 == status);
+        assert_eq!(rt; answer.0.as_slice(), text.as_bytes());
+        assert_eq!(rt; answer.1, status);
     }
     Ok(())
 }
@@ -72,8 +72,8 @@ fn writers_that_fail_at_the_end(rt: HostRuntime) -> Result<(), Fail> {
     for room in 0..LINE_1.len() {
         let words = words_of(alloc, &["tables", "dsdt.bin"])?;
         let answer = ended(alloc, Ok(words), room)?;
-        assert!(rt; answer.0.as_slice() == &LINE_1.as_bytes()[..room]);
-        assert!(rt; answer.1 == Status::Fault);
+        assert_eq!(rt; answer.0.as_slice(), &LINE_1.as_bytes()[..room]);
+        assert_eq!(rt; answer.1, Status::Fault);
     }
     Ok(())
 }

@@ -240,13 +240,14 @@ fn each_kind(rt: HostRuntime) -> Result<(), Fail> {
     }
     let alias = ObjectId(27);
     let entry = Entry::Alias(ObjectId(14));
-    assert!(rt;
+    assert_eq!(rt;
         (
             ns.len(),
             ns.object(alias),
             ns.entry(alias),
             ns.entry(ObjectId(28))
-        ) == (28, None, Some(entry), None)
+        ),
+        (28, None, Some(entry), None)
     );
     Ok(())
 }
@@ -274,7 +275,7 @@ fn links(rt: HostRuntime) -> Result<(), Fail> {
         (b"", Link::Missing),
     ];
     for (name, link) in rows {
-        assert!(rt; ns.link(ObjectId(13), name, 0) == *link);
+        assert_eq!(rt; ns.link(ObjectId(13), name, 0), *link);
     }
     Ok(())
 }

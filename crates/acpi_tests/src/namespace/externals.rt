@@ -77,7 +77,7 @@ fn declared_counts(rt: HostRuntime) -> Result<(), Fail> {
     let uncounted = other_count(rt.alloc(), &ns)?;
     ns.count_externals(rt.alloc())?;
     let counted = other_count(rt.alloc(), &ns)?;
-    assert!(rt; (uncounted, counted) == (None, None));
+    assert_eq!(rt; (uncounted, counted), (None, None));
     Ok(())
 }
 
@@ -102,7 +102,7 @@ fn want_of_memory_for_declarations(rt: HostRuntime) -> Result<(), Fail> {
         Err(AllocError) => callers(rt.alloc())?,
     };
     let told = counted(rt.alloc(), &first, &second);
-    assert!(rt; told == Some((20, 9)));
+    assert_eq!(rt; told, Some((20, 9)));
     Ok(())
 }
 
@@ -155,7 +155,7 @@ fn regions_of_fields(rt: HostRuntime) -> Result<(), Fail> {
     let (first, second) = (dsdt_of(rt.alloc(), FIELDS)?, ssdt_of(rt.alloc(), REGION)?);
     let ns = Namespace::load(rt.alloc(), &[&first, &second], HOST)?;
     for (field, region) in REGIONS {
-        assert!(rt; region_of(ns.object(ObjectId(*field))) == Some(*region));
+        assert_eq!(rt; region_of(ns.object(ObjectId(*field))), Some(*region));
     }
     Ok(())
 }

@@ -54,7 +54,7 @@ const LOOK_UPS: &[LookUp<'static>] = &[
 
 #[test]
 fn look_ups(rt: HostRuntime) -> Result<(), Fail> {
-    assert!(rt; misnamed_in(rt.alloc(), (NAMES, b""), LOOK_UPS)? == None);
+    assert_eq!(rt; misnamed_in(rt.alloc(), (NAMES, b""), LOOK_UPS)?, None);
     Ok(())
 }
 
@@ -94,7 +94,7 @@ const NEAREST: &[LookUp<'static>] = &[
 
 #[test]
 fn nearest_of_several(rt: HostRuntime) -> Result<(), Fail> {
-    assert!(rt; misnamed_in(rt.alloc(), (SAME_NAMES, b""), NEAREST)? == None);
+    assert_eq!(rt; misnamed_in(rt.alloc(), (SAME_NAMES, b""), NEAREST)?, None);
     Ok(())
 }
 
@@ -182,7 +182,7 @@ fn past_chains(rt: HostRuntime) -> Result<(), Fail> {
     for (count, rows) in CHAINS {
         let module = devices_beside(rt.alloc(), *count)?;
         let told = misnamed_in(rt.alloc(), (&module, b""), rows)?;
-        assert!(rt; told == None, "{count}");
+        assert_eq!(rt; told, None, "{count}");
     }
     Ok(())
 }
@@ -260,7 +260,7 @@ fn bodies(rt: HostRuntime) -> Result<(), Fail> {
     let ns = Namespace::load(rt.alloc(), &[&first, &second], HOST)?;
     for (method, wanted) in BODIES {
         let found = statements_of(rt.alloc(), &ns, ObjectId(*method))?;
-        assert!(rt; found.as_slice() == *wanted);
+        assert_eq!(rt; found.as_slice(), *wanted);
     }
     Ok(())
 }

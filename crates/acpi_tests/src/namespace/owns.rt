@@ -140,6 +140,6 @@ fn rows_of_own_names(rt: HostRuntime) -> Result<(), Fail> {
         Ok(told) => told,
         Err(_) => owns_and_others(rt.alloc())?,
     };
-    assert!(rt; told == (true, None, None));
+    assert_eq!(rt; told, (true, None, None));
     Ok(())
 }

@@ -64,12 +64,15 @@ fn all_paths(rt: HostRuntime) -> Result<(), Fail> {
     let (first, second) = (dsdt_of(rt.alloc(), FIRST)?, ssdt_of(rt.alloc(), SECOND)?);
     let ns = Namespace::load(rt.alloc(), &[&first, &second], HOST)?;
     let paths = ns.paths(rt.alloc())?;
-    assert!(rt; (other_path(&paths), paths.len(), ns.methods()) == (None, 17, &[ObjectId(16)][..]));
+    assert_eq!(rt;
+        (other_path(&paths), paths.len(), ns.methods()),
+        (None, 17, &[ObjectId(16)][..])
+    );
     Ok(())
 }
 
 #[test]
 fn look_ups(rt: HostRuntime) -> Result<(), Fail> {
-    assert!(rt; misnamed_in(rt.alloc(), (FIRST, SECOND), LOOK_UPS)? == None);
+    assert_eq!(rt; misnamed_in(rt.alloc(), (FIRST, SECOND), LOOK_UPS)?, None);
     Ok(())
 }

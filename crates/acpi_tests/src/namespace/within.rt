@@ -209,6 +209,6 @@ fn members(rt: HostRuntime) -> Result<(), Fail> {
     for (number, name, made) in OBJECTS {
         assert!(rt; is_own(&ns, *number, name, object_of(*made)), "{number}");
     }
-    assert!(rt; ns.len() == 30);
+    assert_eq!(rt; ns.len(), 30);
     Ok(())
 }

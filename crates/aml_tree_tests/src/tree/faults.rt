@@ -18,7 +18,7 @@ fn short_tables(rt: HostRuntime) -> Result<(), Fail> {
             at: cut,
         };
         let fault = read_module(rt.alloc(), &TABLE[..cut]).err();
-        assert!(rt; fault == Some(TreeFault::Refused(truncated)));
+        assert_eq!(rt; fault, Some(TreeFault::Refused(truncated)));
     }
     assert!(rt; read_module(rt.alloc(), &TABLE[..36])?.is_empty());
     assert!(rt; !Span { at: 0, end: 37 }.is_within(&[0; 36]));

@@ -98,6 +98,6 @@ fn want_of_memory_before_a_fault(rt: HostRuntime) {
             at,
         }))
     };
-    assert!(rt; definitions_of(rt.alloc(), &TABLE[..90]).err() == overrun(64));
-    assert!(rt; statements_of(rt.alloc(), 80).err() == overrun(79));
+    assert_eq!(rt; definitions_of(rt.alloc(), &TABLE[..90]).err(), overrun(64));
+    assert_eq!(rt; statements_of(rt.alloc(), 80).err(), overrun(79));
 }

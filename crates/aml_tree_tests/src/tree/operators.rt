@@ -18,7 +18,7 @@ fn terms(rt: &impl Abort, alloc: Global, rows: &[Row]) -> Result<(), TreeFault> 
             [term] => Some((term.op, term.at, term.end, term.parts.len())),
             _ => None,
         };
-        assert!(rt; found == Some((*op, 0, bytes.len(), *parts)));
+        assert_eq!(rt; found, Some((*op, 0, bytes.len(), *parts)));
     }
     Ok(())
 }

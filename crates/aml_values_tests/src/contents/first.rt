@@ -286,7 +286,7 @@ fn parts_of_contents(rt: HostRuntime) -> Result<(), Fail> {
             at: *at,
             scope: *scope,
         };
-        assert!(rt; ns.named_at(name) == *named);
+        assert_eq!(rt; ns.named_at(name), *named);
     }
     Ok(())
 }
