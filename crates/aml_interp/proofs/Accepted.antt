@@ -1,6 +1,7 @@
 -- What the verifier accepted is there, is kept, and ends well.
 use Rattle.std.proofs.Common.{◌≡◌, ℕ, List, Bool, Option, Some, None, Ok, refl, sym, ap, ◌∙◌, subst, arith, rules, false, true}
 use Rattle.std.specs.Prelude.{IsSome}
+use Rattle.std.proofs.lemmas.Option.{same_Some}
 use Rattle.aml_bodies.specs.Methods.{Around}
 use Rattle.aml_contents.specs.Contents.{ContentKinds}
 use Rattle.aml_contents.specs.FirstContents.{first_kinds}
@@ -12,7 +13,13 @@ use Rattle.aml_interp.specs.Answers.{IsReady}
 use Rattle.aml_interp.specs.Headline.{AreAnswers, AreOfKinds, EndsWell, IsAccepted, verdict_of}
 use Rattle.aml_judged.specs.Laws.{evaluation, IsDone}
 use Rattle.aml_judged.specs.Safe.{FitAll, FitNames, FitScript}
-use Rattle.aml_judged.specs.Verdicts.{Judging, verdict_by}
+use Rattle.aml_judged.specs.Judged as judged
+use Rattle.aml_judged.specs.Judged.{Judged, Goes, Stops}
+use Rattle.aml_judged.specs.Verdicts.{Judging, around_for, bounded, called_from, too_large, verdict_by}
+use Rattle.aml_judged.specs.Bodies.{entry, judged_method}
+use Rattle.aml_calls.specs.Chains.{is_short}
+use Rattle.aml_judged.specs.Verdicts.{verdict_of as verdict_of_judged}
+use Rattle.aml_kinds.specs.Kinds.{Kind}
 use Rattle.aml_known.specs.Views.{accepted_of}
 use Rattle.aml_known.specs.declared.accepted.Accepted.{Accepted}
 use Rattle.aml_meaning.specs.Methods.{callee_in, callee_of, methods_of}
@@ -21,7 +28,7 @@ use Rattle.aml_meaning.specs.Whole.{before, begun, evaluated}
 use Rattle.aml_meaning.specs.Within.{Callee, Methods, call_within, most_within, setting_for}
 use Rattle.aml_methods.proofs.Judgings.{callee_there}
 use Rattle.aml_methods.proofs.JudgingsThere.{judgings_are_there}
-use Rattle.aml_methods.specs.Judgings.{IsJudging, Told}
+use Rattle.aml_methods.specs.Judgings.{IsJudging, Told, arguments_of}
 use Rattle.aml_namespace.specs.Names.{IsBodyOf, method_at}
 use Rattle.aml_namespace.specs.Shows.{shown}
 use Rattle.aml_objects.specs.declared.object.Method.{Method}
@@ -39,13 +46,27 @@ use Rattle.aml_verify.specs.Verdicts.{IsChecked}
 use Rattle.aml_verify.specs.declared.checked.Checked.{Checked}
 use Rattle.aml_verify.specs.declared.verdict.Verdict.TheVariants as verdict
 
+-- a verdict has the kinds of the arguments by which the method was judged
+bounded_is : (b : Bool) (r : _) (one other : judged.Accepted) → bounded b r one ≡ Ok other → one ≡ other
+bounded_is true r one other e = cc
+bounded_is false r one other e = absurd cc
+
+args_of : (short : Bool) (late : _) (args : List Kind) (j : Judged (Unit {0})) (a : judged.Accepted) → verdict_of_judged short late args j ≡ Ok a → a.args ≡ args
+args_of short late args (Goes u env x n) a e = ap (λ (it : judged.Accepted). it.args) (sym (bounded_is _ late _ a e))
+args_of short late args (Stops r) a e = absurd cc
+
+args_judged : (all : Judging) (known : ℕ → Option judged.Accepted) (k : ℕ) (o : Option Callee) (a : judged.Accepted) → verdict_by all known k o ≡ Some (Ok a) → a.args ≡ all.args k
+args_judged all known k None a e = absurd cc
+args_judged all known k (Some m) a e =
+    args_of (is_short (called_from all) 64 k) (too_large all m) (all.args k) (judged_method (around_for all known k m) m.opcode m.body (entry (all.args k))) a (same_Some _ (Ok a) e)
+
 module _ (told : Told) (c : Checked) (k : ℕ) (a : Accepted) (checked : IsChecked told c) (said : verdict_at c.verdicts.items k ≡ Some (verdict.Accepted a)) where
   method_of : (o : Option Method) → method_at (shown c.namespace.now) k ≡ o → (m : Method) × (method_at (shown c.namespace.now) k ≡ Some m)
   method_of None is = (let unsaid : verdict_at c.verdicts.items k ≡ None = checked.only k is in absurd cc)
   method_of (Some m) is = (m, is)
 
   -- it is a method
-  method : (m : Method) × (method_at (shown c.namespace.now) k ≡ Some m)
+  pub method : (m : Method) × (method_at (shown c.namespace.now) k ≡ Some m)
   method = method_of (method_at (shown c.namespace.now) k) refl
 
   module _ (m : Method) (there : method_at (shown c.namespace.now) k ≡ Some m) where
@@ -60,6 +81,10 @@ module _ (told : Told) (c : Checked) (k : ℕ) (a : Accepted) (checked : IsCheck
 
     says : verdict_by all answer.known k (all.methods.callee k) ≡ Some (Ok (accepted_of (numbered c.shapes) a))
     says = checked.right all judging answer.known answer.are k m there (verdict.Accepted a) said
+
+    -- its arguments are of the kinds that are told
+    pub args_told : (verdict_of c a).args ≡ arguments_of (shown c.namespace.now) told k m
+    args_told = args_judged all answer.known k (all.methods.callee k) (verdict_of c a) says ∙ judging.args k m there
 
     body_of : (b : Option Trees) → judging.bodies k ≡ b → (ts : List Tree) × IsBodyOf (shown c.namespace.now) k m ts
     body_of None none =

@@ -5,3 +5,4 @@ pub mod Taken
 pub mod Accepted
 pub mod Ready
 pub mod Answered
+pub mod FromTables

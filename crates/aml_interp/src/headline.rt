@@ -1,5 +1,6 @@
-// What an evaluation of an accepted method is: the law.
+// What an evaluation of an accepted method is: the laws.
 
+ghost use Rattle.aml_interp.specs.FromTables.{FromTables};
 ghost use Rattle.aml_interp.specs.Headline.{Headline};
 
 /// A method that the verifier accepted, with arguments of its kinds, over names that hold what is
@@ -8,4 +9,13 @@ ghost use Rattle.aml_interp.specs.Headline.{Headline};
 /// outcome, contents of names and events (`exact`), and so it is done (`answer`).
 pub fn accepted_methods_are_done()
     ensures { Headline }
+{}
+
+/// The same from tables on: what the names of a loaded namespace hold first is of their kinds, and
+/// so are arguments that a method takes and what Sleeps leave of the kinds of the names, where what
+/// kinds leave open is whole: bytes are bytes, and integers are of the width where anything may
+/// stand. So an accepted method that begins with what its tables say meets no AML error, whatever is
+/// answered, and ends within its steps.
+pub fn tables_begin_well()
+    ensures { FromTables }
 {}

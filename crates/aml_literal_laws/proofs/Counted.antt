@@ -24,7 +24,8 @@ use Rattle.aml_lex.specs.declared.names.NameSeg.{NameSeg}
 use Rattle.aml_tree.specs.Opening.{Opening, NoTarget, PlainName, InvokedName, Operator}
 use Rattle.aml_tree.specs.Reading.{is_above, item_next}
 use Rattle.aml_tree.specs.Grammar.{AreTerms, IsConnection, IsPiece, ArePieces, IsItem, AreItems, IsElse, Meets, Follows, IsNameLeaf, IsTerm}
-use Rattle.aml_tree.specs.Body.{AreStatements, IsBody, with_owns, owns_behind, greatest_depth}
+use Rattle.aml_tree.specs.Body.{AreStatements, IsBody, IsModule, greatest_depth, module_start, no_arguments, owns_behind, with_owns}
+use Rattle.aml_tree.specs.Data.{IsData}
 use Rattle.aml_objects.specs.declared.object.Content.{Content}
 use Rattle.aml_objects.specs.declared.object.Content.TheVariants as content
 use Rattle.aml_namespace.specs.Made.{buffer_content, content_in, string_content}
@@ -155,3 +156,12 @@ statements_counted arity owns bytes at (t ∷ ts) stop last b h =
 -- what the grammar ties to bytes as a body
 pub body_counted : (arity : NameString → ℕ → ℕ) (bytes : List ℕ) (at : ℕ) (ts : List Tree) → AreBytes bytes → IsBody arity bytes at ts → AreCounted (trees ts)
 body_counted arity bytes at ts b h = statements_counted arity [] bytes at ts (length bytes) h.0 b h.1
+
+-- as a module
+pub module_counted : (bytes : List ℕ) (ts : List Tree) → AreBytes bytes → IsModule bytes ts → AreCounted (trees ts)
+module_counted bytes ts b h =
+    are_counted no_arguments (IsTerm code.Module no_arguments greatest_depth) (term_counted code.Module no_arguments greatest_depth) module_start spot.Statement bytes module_start (length bytes) ts b h.1
+
+-- as data of a module
+pub data_counted : (bytes : List ℕ) (at : ℕ) (t : Tree) → AreBytes bytes → IsData bytes at t → IsCounted t
+data_counted bytes at t b h = term_counted code.Module no_arguments greatest_depth at spot.Data bytes at t b h

@@ -3,3 +3,9 @@ pub mod Tables
 pub mod Counted
 pub mod Words
 pub mod Literals
+pub mod Deeper
+pub mod Fronts
+pub mod Placed
+pub mod Loaded
+pub mod Whole
+pub mod First

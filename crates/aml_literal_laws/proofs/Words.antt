@@ -36,7 +36,7 @@ element_by_word width op.NameString id v h = tt
 element_by_word width o id v h = h
 
 module _ (ns : Shown) (table : ℕ) (scope : Scope) (bytes : AreBytes (bytes_of ns.tables table)) where
-  told_word : (told : Content) (number : ℕ) (bs : List ℕ) (es : Elements) → IsShort told → AreBytes bs → AreWords (bits_of ns.width) es → IsWord (bits_of ns.width) (value_told ns.width told number bs es)
+  pub told_word : (told : Content) (number : ℕ) (bs : List ℕ) (es : Elements) → IsShort told → AreBytes bs → AreWords (bits_of ns.width) es → IsWord (bits_of ns.width) (value_told ns.width told number bs es)
   told_word content.Integer number bs es short b h = in_range (bits_of ns.width) number
   told_word (content.Buffer size) number bs es short b h = filled_bytes size bs b
   told_word (content.String size) number bs es short b h = filled_bytes size bs b
@@ -55,7 +55,7 @@ module _ (ns : Shown) (table : ℕ) (scope : Scope) (bytes : AreBytes (bytes_of 
     elements_words none h = tt
     elements_words (more t ts) h = (element_word t h.0, elements_words ts h.1)
 
-    behind_words : (ts : Trees) → AreCounted ts → AreWords (bits_of ns.width) (elements_behind ns table scope ts)
+    pub behind_words : (ts : Trees) → AreCounted ts → AreWords (bits_of ns.width) (elements_behind ns table scope ts)
     behind_words none h = tt
     behind_words (more size ts) h = elements_words ts h.1
 
