@@ -4,8 +4,8 @@ use Rattle.std.proofs.lemmas.Nat.{pow_pos}
 use Rattle.std.proofs.lemmas.Bool.{and_parts}
 use Rattle.aml_interp.proofs.Accepted.{args_told, method}
 use Rattle.aml_interp.proofs.Answered.{headline}
-use Rattle.aml_interp.specs.FromTables.{FromTables, IsFrom, KeepsKinds, Takes, names_at_first}
-use Rattle.aml_interp.specs.Headline.{AreAnswers, AreOfKinds, IsAccepted, verdict_of}
+use Rattle.aml_interp.specs.FromTables.{FromTables, Holds, IsFrom, KeepsKinds, Takes, shown_by}
+use Rattle.aml_interp.specs.Headline.{AreAnswers, AreOfKinds, IsAccepted, IsDoneWell, verdict_of}
 use Rattle.aml_judged.specs.Judged as judged
 use Rattle.aml_judged.specs.Safe.{FitAll, FitNames}
 use Rattle.aml_contents.specs.FirstContents.{first_kinds}
@@ -13,11 +13,14 @@ use Rattle.aml_kinds.specs.Fits.{fits}
 use Rattle.aml_kinds.specs.Kinds.{Kind}
 use Rattle.aml_known.specs.declared.accepted.Accepted.{Accepted}
 use Rattle.aml_literal_laws.proofs.First.{first_names_fit, left_names_fit}
-use Rattle.aml_literal_laws.proofs.Whole.{IsNarrow, whole_word}
-use Rattle.aml_literal_laws.specs.Laws.{TablesAreBytes}
+use Rattle.aml_literal_laws.proofs.Whole.{IsNarrow, all_whole, whole_word}
+use Rattle.aml_literal_laws.specs.Laws.{TablesAreBytes, first_names}
 use Rattle.aml_literal_laws.specs.Whole.{AreWholeValues}
+use Rattle.aml_meaning.specs.State.{Names}
+use Rattle.aml_meaning.specs.declared.outcome.Outcome.{Outcome}
+use Rattle.aml_meaning.specs.declared.outcome.Outcome.TheVariants as outcome
 use Rattle.aml_methods.specs.Judgings.{Told}
-use Rattle.aml_namespace.specs.Shows.{shown}
+use Rattle.aml_namespace.specs.Load.{Shown}
 use Rattle.aml_objects.specs.Widths.{bits_of}
 use Rattle.aml_objects.specs.declared.width.Width.{Width}
 use Rattle.aml_regions.specs.Events.{Event}
@@ -33,8 +36,20 @@ use Rattle.aml_verify.specs.declared.checked.Checked.{Checked}
 use Rattle.aml_verify.specs.declared.verdict.Verdict.{Verdict}
 use Rattle.aml_verify.specs.declared.verdict.Verdict.TheVariants as verdict
 
-names_fit : (tables : List (List ℕ)) (os : List ℕ) (told : Told) (c : Checked) → IsFrom tables os told c → FitNames (bits_of (shown c.namespace.now).width) (first_kinds (shown c.namespace.now)) (names_at_first c)
-names_fit tables os told c from = first_names_fit tables os (shown c.namespace.now) from.loaded from.bytes from.text
+names_hold : (ns : Shown) (names : Names) → FitNames (bits_of ns.width) (first_kinds ns) names → Holds ns names
+names_hold ns names fit = record {
+  belong = fit.kinds_stay;
+  fitting = fit.fitting;
+  whole = all_whole (bits_of ns.width) names.contents (first_kinds ns) fit.words;
+}
+
+first_hold : (tables : List (List ℕ)) (os : List ℕ) (told : Told) (c : Checked) → IsFrom tables os told c → Holds (shown_by c) (first_names (shown_by c))
+first_hold tables os told c from = names_hold (shown_by c) (first_names (shown_by c)) (first_names_fit tables os (shown_by c) from.loaded from.bytes from.text)
+
+names_fit : (tables : List (List ℕ)) (os : List ℕ) (told : Told) (c : Checked) → IsFrom tables os told c → (names : Names) → Holds (shown_by c) names → FitNames (bits_of (shown_by c).width) (first_kinds (shown_by c)) names
+names_fit tables os told c from names held =
+    let fit = left_names_fit tables os (shown_by c) from.loaded from.bytes from.text names.contents held.fitting held.whole in
+    record { kinds_stay = held.belong; fitting = fit.fitting; words = fit.words }
 
 -- kinds of integers of the width
 abbrev AreNarrowList : ℕ → List Kind → Type 0
@@ -60,23 +75,23 @@ all_are width (v ∷ vs) (k ∷ ks) e narrow whole =
     let parts = and_parts (fits v k) (all_fit vs ks) e in
     (record { fit = parts.0; word = whole_word width v k parts.0 narrow.0 whole.0 }, all_are width vs ks parts.1 narrow.1 whole.1)
 
-args_narrow : (told : Told) (c : Checked) → IsChecked told c → (k : ℕ) (a : Accepted) → verdict_at c.verdicts.items k ≡ Some (verdict.Accepted a) → AreNarrowList (bits_of (shown c.namespace.now).width) (verdict_of c a).args
+args_narrow : (told : Told) (c : Checked) → IsChecked told c → (k : ℕ) (a : Accepted) → verdict_at c.verdicts.items k ≡ Some (verdict.Accepted a) → AreNarrowList (bits_of (shown_by c).width) (verdict_of c a).args
 args_narrow told c checked k a said =
     let m = method told c k a checked said in
-    subst (AreNarrowList (bits_of (shown c.namespace.now).width)) (sym (args_told told c k a checked said m.0 m.1)) (kinds_narrow (shown c.namespace.now).width _)
+    subst (AreNarrowList (bits_of (shown_by c).width)) (sym (args_told told c k a checked said m.0 m.1)) (kinds_narrow (shown_by c).width _)
 
-arguments_fit : (told : Told) (c : Checked) → IsChecked told c → (k : ℕ) (a : Accepted) (values : List Value) → Takes c k a values → FitAll (bits_of (shown c.namespace.now).width) values (verdict_of c a).args
+arguments_fit : (told : Told) (c : Checked) → IsChecked told c → (k : ℕ) (a : Accepted) (values : List Value) → Takes c k a values → FitAll (bits_of (shown_by c).width) values (verdict_of c a).args
 arguments_fit told c checked k a values takes =
-    all_are (bits_of (shown c.namespace.now).width) values (verdict_of c a).args (subst (λ (v : Option Verdict). accepts_by (accepted_by (numbered c.shapes) v) values ≡ true) takes.said takes.taken) (args_narrow told c checked k a takes.said) takes.whole
+    all_are (bits_of (shown_by c).width) values (verdict_of c a).args (subst (λ (v : Option Verdict). accepts_by (accepted_by (numbered c.shapes) v) values ≡ true) takes.said takes.taken) (args_narrow told c checked k a takes.said) takes.whole
 
-answers_fit : (tables : List (List ℕ)) (os : List ℕ) (told : Told) (c : Checked) → IsFrom tables os told c → (a : judged.Accepted) (script : List Event) → KeepsKinds (shown c.namespace.now) script → AreAnswers (shown c.namespace.now) a script
+answers_fit : (tables : List (List ℕ)) (os : List ℕ) (told : Told) (c : Checked) → IsFrom tables os told c → (a : judged.Accepted) (script : List Event) → KeepsKinds (shown_by c) script → AreAnswers (shown_by c) a script
 answers_fit tables os told c from a script keeps = record {
   left = λ i milliseconds contents is.
       let it = keeps.left i milliseconds contents is in
-      left_names_fit tables os (shown c.namespace.now) from.loaded from.bytes from.text contents it.0 it.1;
+      left_names_fit tables os (shown_by c) from.loaded from.bytes from.text contents it.0 it.1;
 }
 
-module _ (tables : List (List ℕ)) (os : List ℕ) (told : Told) (c : Checked) (from : IsFrom tables os told c) (k : ℕ) (a : Accepted) (values : List Value) (takes : Takes c k a values) where
+module _ (tables : List (List ℕ)) (os : List ℕ) (told : Told) (c : Checked) (from : IsFrom tables os told c) (names : Names) (held : Holds (shown_by c) names) (k : ℕ) (a : Accepted) (values : List Value) (takes : Takes c k a values) where
   accepted : IsAccepted told c k a
   accepted = record {
     checked = from.checked;
@@ -84,16 +99,23 @@ module _ (tables : List (List ℕ)) (os : List ℕ) (told : Told) (c : Checked) 
     bytes = subst TablesAreBytes (sym from.loaded.tables_are) from.bytes;
   }
 
-  of_kinds : AreOfKinds (shown c.namespace.now) (verdict_of c a) values (names_at_first c)
-  of_kinds = record { arguments = arguments_fit told c from.checked k a values takes; names = names_fit tables os told c from }
+  of_kinds : AreOfKinds (shown_by c) (verdict_of c a) values names
+  of_kinds = record { arguments = arguments_fit told c from.checked k a values takes; names = names_fit tables os told c from names held }
+
+  done_well : (o : Outcome) (names_left : Names) → IsDoneWell (shown_by c) (verdict_of c a) o names_left → IsDoneWell (shown_by c) (verdict_of c a) o names_left × Holds (shown_by c) names_left
+  done_well (outcome.Done value) names_left well = (well, names_hold (shown_by c) names_left well.1)
+  done_well (outcome.AmlError e) names_left well = absurd well
+  done_well outcome.OutOfSteps names_left well = absurd well
 
 pub from_tables : FromTables
-from_tables = record {
-  names = names_fit;
-  arguments = arguments_fit;
-  answers = answers_fit;
-  meaning = λ tables os told c from k a values takes m there ts body around log script keeps.
-      headline.meaning told c k a (accepted tables os told c from k a values takes) m there ts body around values (names_at_first c) (of_kinds tables os told c from k a values takes) log script (answers_fit tables os told c from (verdict_of c a) script keeps);
-  answer = λ tables os told c from k a values takes log o names_left log_left keeps answers.
-      headline.answer told c k a (accepted tables os told c from k a values takes) values (names_at_first c) (of_kinds tables os told c from k a values takes) log o names_left log_left (answers_fit tables os told c from (verdict_of c a) log_left.events keeps) answers;
+from_tables tables os told c from = record {
+  first = first_hold tables os told c from;
+  names = names_fit tables os told c from;
+  arguments = arguments_fit told c from.checked;
+  answers = answers_fit tables os told c from;
+  meaning = λ names held k a values takes m there ts body around log script keeps.
+      headline.meaning told c k a (accepted tables os told c from names held k a values takes) m there ts body around values names (of_kinds tables os told c from names held k a values takes) log script (answers_fit tables os told c from (verdict_of c a) script keeps);
+  answer = λ names held k a values takes log o names_left log_left keeps answers.
+      done_well tables os told c from names held k a values takes o names_left
+      (headline.answer told c k a (accepted tables os told c from names held k a values takes) values names (of_kinds tables os told c from names held k a values takes) log o names_left log_left (answers_fit tables os told c from (verdict_of c a) log_left.events keeps) answers);
 }

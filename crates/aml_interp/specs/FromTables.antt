@@ -1,6 +1,6 @@
 -- The headline from tables on. What it asks of names is so of what the names of a loaded namespace
--- hold first, what it asks of arguments of those that a method takes, and what it asks of answers
--- of what worlds promise to leave at Sleeps. What kinds leave open has to be whole: bytes are bytes,
+-- may hold, what it asks of arguments of those that a method takes, and what it asks of answers of
+-- what worlds promise to leave at Sleeps. What kinds leave open has to be whole: bytes are bytes,
 -- as all that a program holds, and integers are of the width where anything may stand.
 use Rattle.std.specs.Prelude.{◌≡◌, ℕ, List, Some, Ok, slice_get, true}
 use Rattle.aml_bodies.specs.Methods.{Around}
@@ -33,24 +33,31 @@ use Rattle.aml_verify.specs.Verdicts.{IsChecked}
 use Rattle.aml_verify.specs.declared.checked.Checked.{Checked}
 use Rattle.aml_verify.specs.declared.verdict.Verdict.TheVariants as verdict
 
+-- what a verified namespace shows
+abbrev pub shown_by : Checked → Shown
+shown_by c = shown c.namespace.now
+
 -- a namespace whose methods were verified, and that such tables and such a text of `_OS_` were
 -- loaded to
 pub record IsFrom (tables : List (List ℕ)) (os : List ℕ) (told : Told) (c : Checked) : Type 0 where
   pub checked : IsChecked told c
-  pub loaded : IsLoaded tables os (shown c.namespace.now)
+  pub loaded : IsLoaded tables os (shown_by c)
   pub bytes : TablesAreBytes tables
   pub text : AreBytes os
 
--- what its names hold before any evaluation
-abbrev pub names_at_first : Checked → Names
-names_at_first c = first_names (shown c.namespace.now)
+-- names that belong to the namespace, as `Checked::names_fit` tells, each of which holds what its
+-- kind lets it hold, as all names of a program do
+pub record Holds (ns : Shown) (names : Names) : Type 0 where
+  pub belong : names.kinds ≡ first_kinds ns
+  pub fitting : are_fitting names.contents (first_kinds ns) ≡ true
+  pub whole : AreWhole (bits_of ns.width) names.contents (first_kinds ns)
 
 -- the verdict accepts the method with a number, and these values are arguments that it takes
 pub record Takes (c : Checked) (k : ℕ) (a : Accepted) (values : List Value) : Type 0 where
   pub said : verdict_at c.verdicts.items k ≡ Some (verdict.Accepted a)
   pub taken :
       accepts_by (accepted_by (numbered c.shapes) (verdict_at c.verdicts.items k)) values ≡ true
-  pub whole : AreWholeValues (bits_of (shown c.namespace.now).width) values (verdict_of c a).args
+  pub whole : AreWholeValues (bits_of (shown_by c).width) values (verdict_of c a).args
 
 -- where a Sleep leaves contents, these are of the kinds of the names; so it is where none leaves
 -- any, as over registers
@@ -61,43 +68,39 @@ pub record KeepsKinds (ns : Shown) (script : List Event) : Type 0 where
       (are_fitting contents (first_kinds ns) ≡ true)
       × AreWhole (bits_of ns.width) contents (first_kinds ns)
 
-pub record FromTables : Type 0 where
-  -- what names hold first is of their kinds
+pub record BeginsWell (c : Checked) : Type 0 where
+  -- names hold so before any evaluation
+  pub first : Holds (shown_by c) (first_names (shown_by c))
+  -- what they hold is as the headline asks, and so are arguments, and what Sleeps leave
   pub names :
-      (tables : List (List ℕ)) (os : List ℕ) (told : Told) (c : Checked) →
-      IsFrom tables os told c →
-      FitNames (bits_of (shown c.namespace.now).width) (first_kinds (shown c.namespace.now))
-      (names_at_first c)
-  -- so are the arguments that a method takes
+      (names : Names) → Holds (shown_by c) names →
+      FitNames (bits_of (shown_by c).width) (first_kinds (shown_by c)) names
   pub arguments :
-      (told : Told) (c : Checked) → IsChecked told c →
       (k : ℕ) (a : Accepted) (values : List Value) → Takes c k a values →
-      FitAll (bits_of (shown c.namespace.now).width) values (verdict_of c a).args
-  -- and what Sleeps leave
+      FitAll (bits_of (shown_by c).width) values (verdict_of c a).args
   pub answers :
-      (tables : List (List ℕ)) (os : List ℕ) (told : Told) (c : Checked) →
-      IsFrom tables os told c →
-      (a : judged.Accepted) (script : List Event) → KeepsKinds (shown c.namespace.now) script →
-      AreAnswers (shown c.namespace.now) a script
-  -- so the meaning of an accepted method, from what the tables say, ends well within its steps,
-  -- whatever its reads are answered
+      (a : judged.Accepted) (script : List Event) → KeepsKinds (shown_by c) script →
+      AreAnswers (shown_by c) a script
+  -- so the meaning of an accepted method ends well within its steps, whatever is answered
   pub meaning :
-      (tables : List (List ℕ)) (os : List ℕ) (told : Told) (c : Checked) →
-      IsFrom tables os told c →
+      (names : Names) → Holds (shown_by c) names →
       (k : ℕ) (a : Accepted) (values : List Value) → Takes c k a values →
-      (m : Method) → method_at (shown c.namespace.now) k ≡ Some m →
-      (ts : List Tree) → IsBodyOf (shown c.namespace.now) k m ts →
-      (around : Around (shown c.namespace.now)) →
-      (log : Log) (script : List Event) → KeepsKinds (shown c.namespace.now) script →
-      EndsWell (shown c.namespace.now) (verdict_of c a)
-      (evaluated (setting_in (shown c.namespace.now) around.bodies k m (trees ts)) (trees ts) values
-      script (before (names_at_first c) a.bound log))
-  -- and an outcome that is answered of it is done
+      (m : Method) → method_at (shown_by c) k ≡ Some m →
+      (ts : List Tree) → IsBodyOf (shown_by c) k m ts → (around : Around (shown_by c)) →
+      (log : Log) (script : List Event) → KeepsKinds (shown_by c) script →
+      EndsWell (shown_by c) (verdict_of c a)
+      (evaluated (setting_in (shown_by c) around.bodies k m (trees ts)) (trees ts) values script
+      (before names a.bound log))
+  -- and an outcome that is answered of it is done, and leaves names that hold so again
   pub answer :
-      (tables : List (List ℕ)) (os : List ℕ) (told : Told) (c : Checked) →
-      IsFrom tables os told c →
+      (names : Names) → Holds (shown_by c) names →
       (k : ℕ) (a : Accepted) (values : List Value) → Takes c k a values →
       (log : Log) (o : Outcome) (names_left : Names) (log_left : Log) →
-      KeepsKinds (shown c.namespace.now) log_left.events →
-      Answers c k values (names_at_first c) log (Ok o) names_left log_left →
-      IsDoneWell (shown c.namespace.now) (verdict_of c a) o names_left
+      KeepsKinds (shown_by c) log_left.events →
+      Answers c k values names log (Ok o) names_left log_left →
+      IsDoneWell (shown_by c) (verdict_of c a) o names_left × Holds (shown_by c) names_left
+
+abbrev pub FromTables : Type 0
+FromTables =
+    (tables : List (List ℕ)) (os : List ℕ) (told : Told) (c : Checked) →
+    IsFrom tables os told c → BeginsWell c

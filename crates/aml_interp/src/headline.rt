@@ -11,11 +11,11 @@ pub fn accepted_methods_are_done()
     ensures { Headline }
 {}
 
-/// The same from tables on: what the names of a loaded namespace hold first is of their kinds, and
-/// so are arguments that a method takes and what Sleeps leave of the kinds of the names, where what
-/// kinds leave open is whole: bytes are bytes, and integers are of the width where anything may
-/// stand. So an accepted method that begins with what its tables say meets no AML error, whatever is
-/// answered, and ends within its steps.
+/// The same from tables on: what names hold that were loaded from tables is of their kinds, at first
+/// and behind each evaluation that is done, and so are arguments that a method takes and what Sleeps
+/// leave of the kinds of the names, where what kinds leave open is whole: bytes are bytes, and
+/// integers are of the width where anything may stand. So an accepted method meets no AML error,
+/// whatever is answered, and ends within its steps.
 pub fn tables_begin_well()
     ensures { FromTables }
 {}

@@ -88,6 +88,36 @@ module _ (width : ℕ) where
     whole_place (Named o) k e narrow h = tt
     whole_place Unset k e narrow h = tt
 
+  -- what is of the width is whole for each kind
+  mutual
+    pub word_whole : (v : Value) (k : Kind) → IsWord width v → IsWhole width v k
+    word_whole (Int n) (IntUpTo greatest) h = tt
+    word_whole (Pkg es) (PkgOf s) h = words_whole es s h.1
+    word_whole (Int n) k h = h
+    word_whole (Buf bytes) k h = h
+    word_whole (Str characters) k h = h
+    word_whole (Pkg es) k h = h
+
+    words_whole : (es : Elements) (s : Shape) → AreWords width es → AreWholeElements width es s
+    words_whole value.none s h = tt
+    words_whole (value.more x es) bare h = tt
+    words_whole (value.more x es) (with k ks) h = (element_whole x k h.0, words_whole es ks h.1)
+
+    element_whole : (x : Element) (k : ElementKind) → IsWordElement width x → IsWholeElement width x k
+    element_whole (Holds v) (ValueOf k) h = word_whole v k h
+    element_whole (Holds v) AnyName h = h
+    element_whole (Holds v) Anything h = h
+    element_whole (Named o) k h = h
+    element_whole Unset k h = h
+
+  pub all_whole : (vs : Contents) (ks : ContentKinds) → ((i : ℕ) (v : Value) → content_at vs i ≡ Some v → IsWord width v) → AreWhole width vs ks
+  all_whole [] ks h = tt
+  all_whole (Some v ∷ vs) [] h = tt
+  all_whole (None ∷ vs) [] h = tt
+  all_whole (Some v ∷ vs) (Some k ∷ ks) h = (word_whole v k (h 0 v refl), all_whole vs ks (λ i x is. h (suc i) x is))
+  all_whole (Some v ∷ vs) (None ∷ ks) h = all_whole vs ks (λ i x is. h (suc i) x is)
+  all_whole (None ∷ vs) (k ∷ ks) h = all_whole vs ks (λ i x is. h (suc i) x is)
+
   abbrev pub AreNarrowKinds : ContentKinds → Type 0
   AreNarrowKinds [] = Unit {0}
   AreNarrowKinds (Some k ∷ ks) = IsNarrow k × AreNarrowKinds ks
