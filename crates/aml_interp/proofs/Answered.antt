@@ -24,7 +24,7 @@ use Rattle.aml_namespace.specs.Shows.{shown}
 use Rattle.aml_objects.specs.declared.object.Method.{Method}
 use Rattle.aml_operators.specs.Tree.{Tree, trees}
 use Rattle.aml_paths.specs.declared.memory.NoMemory.{NoMemory}
-use Rattle.aml_regions.specs.Events.{Log}
+use Rattle.aml_regions.specs.Events.{AreWords, Log}
 use Rattle.aml_scene.specs.Outcomes.{Tells}
 use Rattle.aml_steady.proofs.KindsStay.{calls_keep}
 use Rattle.aml_steady.proofs.Unwatched.{methods_go_unwatched}
@@ -94,6 +94,14 @@ module _ (c : Checked) (k : ℕ) (values : List Value) (names : Names) (log : Lo
       kinds_kept (setting_in (shown c.namespace.now) around.bodies k m.0 (trees b.0)) (trees b.0) values a.bound names log
       (calls_keep (methods_of (shown c.namespace.now) around.bodies) most_within) answer names_left log_left
       (did m.0 m.1 b.0 b.1 around)
+
+  -- what is answered fits where it did before
+  pub words_stay : (told : Told) (a : Accepted) → IsAccepted told c k a → (answer : Result Outcome NoMemory) → Answers c k values names log answer names_left log_left → AreWords names.kinds log.events → AreWords names_left.kinds log_left.events
+  words_stay told a is answer did =
+      let r = ready told c is.checked in
+      let m = method c r k a is.said in
+      let b = body c r k a is.said m.0 m.1 in
+      (did.are a is.said m.0 m.1 b.0 b.1 (around_there (shown c.namespace.now))).words
 
   -- and what is told is done
   module _ (told : Told) (a : Accepted) (is : IsAccepted told c k a) (fits : AreOfKinds (shown c.namespace.now) (verdict_of c a) values names)

@@ -1,10 +1,11 @@
 -- What tables say, what a method takes and what registers answer is as the headline asks.
-use Rattle.std.proofs.Common.{◌≡◌, ℕ, List, [], ◌∷◌, Option, Some, map, subst, sym, true, arith}
+use Rattle.std.proofs.Common.{Ok, ◌≡◌, ℕ, List, [], ◌∷◌, Option, Some, map, subst, sym, true, arith}
 use Rattle.std.proofs.lemmas.Nat.{pow_pos}
 use Rattle.std.proofs.lemmas.Bool.{and_parts}
 use Rattle.aml_interp.proofs.Accepted.{args_told, method}
-use Rattle.aml_interp.proofs.Answered.{headline}
-use Rattle.aml_interp.specs.FromTables.{FromTables, Holds, IsFrom, KeepsKinds, Takes, shown_by}
+use Rattle.aml_interp.proofs.Answered.{headline, words_stay}
+use Rattle.aml_interp.specs.Answers.{Answers}
+use Rattle.aml_interp.specs.FromTables.{FromTables, Holds, IsFrom, LeavesWhole, Takes, shown_by}
 use Rattle.aml_interp.specs.Headline.{AreAnswers, AreOfKinds, IsAccepted, IsDoneWell, verdict_of}
 use Rattle.aml_judged.specs.Judged as judged
 use Rattle.aml_judged.specs.Safe.{FitAll, FitNames}
@@ -23,7 +24,7 @@ use Rattle.aml_methods.specs.Judgings.{Told}
 use Rattle.aml_namespace.specs.Load.{Shown}
 use Rattle.aml_objects.specs.Widths.{bits_of}
 use Rattle.aml_objects.specs.declared.width.Width.{Width}
-use Rattle.aml_regions.specs.Events.{Event}
+use Rattle.aml_regions.specs.Events.{AreWords, Event, Log, Slept}
 use Rattle.aml_shapes.specs.Numbers.{numbered}
 use Rattle.aml_signatures.specs.ArgumentKinds.{cut_to, kind_of_argument}
 use Rattle.aml_signatures.specs.declared.argument_kind.ArgumentKind.{ArgumentKind}
@@ -84,11 +85,10 @@ arguments_fit : (told : Told) (c : Checked) → IsChecked told c → (k : ℕ) (
 arguments_fit told c checked k a values takes =
     all_are (bits_of (shown_by c).width) values (verdict_of c a).args (subst (λ (v : Option Verdict). accepts_by (accepted_by (numbered c.shapes) v) values ≡ true) takes.said takes.taken) (args_narrow told c checked k a takes.said) takes.whole
 
-answers_fit : (tables : List (List ℕ)) (os : List ℕ) (told : Told) (c : Checked) → IsFrom tables os told c → (a : judged.Accepted) (script : List Event) → KeepsKinds (shown_by c) script → AreAnswers (shown_by c) a script
-answers_fit tables os told c from a script keeps = record {
+answers_fit : (tables : List (List ℕ)) (os : List ℕ) (told : Told) (c : Checked) → IsFrom tables os told c → (a : judged.Accepted) (script : List Event) → AreWords (first_kinds (shown_by c)) script → LeavesWhole (shown_by c) script → AreAnswers (shown_by c) a script
+answers_fit tables os told c from a script words whole = record {
   left = λ i milliseconds contents is.
-      let it = keeps.left i milliseconds contents is in
-      left_names_fit tables os (shown_by c) from.loaded from.bytes from.text contents it.0 it.1;
+      left_names_fit tables os (shown_by c) from.loaded from.bytes from.text contents (words.each i (Slept milliseconds (Some contents)) is) (whole.left i milliseconds contents is);
 }
 
 module _ (tables : List (List ℕ)) (os : List ℕ) (told : Told) (c : Checked) (from : IsFrom tables os told c) (names : Names) (held : Holds (shown_by c) names) (k : ℕ) (a : Accepted) (values : List Value) (takes : Takes c k a values) where
@@ -107,15 +107,20 @@ module _ (tables : List (List ℕ)) (os : List ℕ) (told : Told) (c : Checked) 
   done_well (outcome.AmlError e) names_left well = absurd well
   done_well outcome.OutOfSteps names_left well = absurd well
 
+  answered : (log : Log) → AreWords (first_kinds (shown_by c)) log.events → (o : Outcome) (names_left : Names) (log_left : Log) → Answers c k values names log (Ok o) names_left log_left → names_left.kinds ≡ first_kinds (shown_by c) → LeavesWhole (shown_by c) log_left.events → IsDoneWell (shown_by c) (verdict_of c a) o names_left × Holds (shown_by c) names_left
+  answered log words o names_left log_left did stay whole =
+      let before : AreWords names.kinds log.events = subst (λ kinds. AreWords kinds log.events) (sym held.belong) words in
+      let behind : AreWords (first_kinds (shown_by c)) log_left.events = subst (λ kinds. AreWords kinds log_left.events) stay (words_stay c k values names log names_left log_left told a accepted (Ok o) did before) in
+      done_well o names_left (headline.answer told c k a accepted values names of_kinds log o names_left log_left (answers_fit tables os told c from (verdict_of c a) log_left.events behind whole) did)
+
 pub from_tables : FromTables
 from_tables tables os told c from = record {
   first = first_hold tables os told c from;
   names = names_fit tables os told c from;
   arguments = arguments_fit told c from.checked;
   answers = answers_fit tables os told c from;
-  meaning = λ names held k a values takes m there ts body around log script keeps.
-      headline.meaning told c k a (accepted tables os told c from names held k a values takes) m there ts body around values names (of_kinds tables os told c from names held k a values takes) log script (answers_fit tables os told c from (verdict_of c a) script keeps);
-  answer = λ names held k a values takes log o names_left log_left keeps answers.
-      done_well tables os told c from names held k a values takes o names_left
-      (headline.answer told c k a (accepted tables os told c from names held k a values takes) values names (of_kinds tables os told c from names held k a values takes) log o names_left log_left (answers_fit tables os told c from (verdict_of c a) log_left.events keeps) answers);
+  meaning = λ names held k a values takes m there ts body around log script words whole.
+      headline.meaning told c k a (accepted tables os told c from names held k a values takes) m there ts body around values names (of_kinds tables os told c from names held k a values takes) log script (answers_fit tables os told c from (verdict_of c a) script words whole);
+  answer = λ names held k a values takes log words o names_left log_left did stay whole.
+      answered tables os told c from names held k a values takes log words o names_left log_left did stay whole;
 }

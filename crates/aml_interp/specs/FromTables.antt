@@ -24,7 +24,7 @@ use Rattle.aml_namespace.specs.Shows.{shown}
 use Rattle.aml_objects.specs.Widths.{bits_of}
 use Rattle.aml_objects.specs.declared.object.Method.{Method}
 use Rattle.aml_operators.specs.Tree.{Tree, trees}
-use Rattle.aml_regions.specs.Events.{Event, Log, Slept}
+use Rattle.aml_regions.specs.Events.{AreWords, Event, Log, Slept}
 use Rattle.aml_shapes.specs.Numbers.{numbered}
 use Rattle.aml_values.specs.Values.{Value}
 use Rattle.aml_verify.specs.Accepts.{accepts_by}
@@ -59,14 +59,12 @@ pub record Takes (c : Checked) (k : ℕ) (a : Accepted) (values : List Value) : 
       accepts_by (accepted_by (numbered c.shapes) (verdict_at c.verdicts.items k)) values ≡ true
   pub whole : AreWholeValues (bits_of (shown_by c).width) values (verdict_of c a).args
 
--- where a Sleep leaves contents, these are of the kinds of the names; so it is where none leaves
--- any, as over registers
-pub record KeepsKinds (ns : Shown) (script : List Event) : Type 0 where
+-- where a Sleep leaves contents, these are whole; over registers none leaves any
+pub record LeavesWhole (ns : Shown) (script : List Event) : Type 0 where
   pub left :
       (i milliseconds : ℕ) (contents : Contents) →
       slice_get script i ≡ Some (Slept milliseconds (Some contents)) →
-      (are_fitting contents (first_kinds ns) ≡ true)
-      × AreWhole (bits_of ns.width) contents (first_kinds ns)
+      AreWhole (bits_of ns.width) contents (first_kinds ns)
 
 pub record BeginsWell (c : Checked) : Type 0 where
   -- names hold so before any evaluation
@@ -79,25 +77,27 @@ pub record BeginsWell (c : Checked) : Type 0 where
       (k : ℕ) (a : Accepted) (values : List Value) → Takes c k a values →
       FitAll (bits_of (shown_by c).width) values (verdict_of c a).args
   pub answers :
-      (a : judged.Accepted) (script : List Event) → KeepsKinds (shown_by c) script →
-      AreAnswers (shown_by c) a script
+      (a : judged.Accepted) (script : List Event) → AreWords (first_kinds (shown_by c)) script →
+      LeavesWhole (shown_by c) script → AreAnswers (shown_by c) a script
   -- so the meaning of an accepted method ends well within its steps, whatever is answered
   pub meaning :
       (names : Names) → Holds (shown_by c) names →
       (k : ℕ) (a : Accepted) (values : List Value) → Takes c k a values →
       (m : Method) → method_at (shown_by c) k ≡ Some m →
       (ts : List Tree) → IsBodyOf (shown_by c) k m ts → (around : Around (shown_by c)) →
-      (log : Log) (script : List Event) → KeepsKinds (shown_by c) script →
+      (log : Log) (script : List Event) → AreWords (first_kinds (shown_by c)) script →
+      LeavesWhole (shown_by c) script →
       EndsWell (shown_by c) (verdict_of c a)
       (evaluated (setting_in (shown_by c) around.bodies k m (trees ts)) (trees ts) values script
       (before names a.bound log))
-  -- and an outcome that is answered of it is done, and leaves names that hold so again
+  -- and an outcome that `evaluate` answers over a world is done, and leaves names that hold so again
   pub answer :
       (names : Names) → Holds (shown_by c) names →
       (k : ℕ) (a : Accepted) (values : List Value) → Takes c k a values →
-      (log : Log) (o : Outcome) (names_left : Names) (log_left : Log) →
-      KeepsKinds (shown_by c) log_left.events →
+      (log : Log) → AreWords (first_kinds (shown_by c)) log.events →
+      (o : Outcome) (names_left : Names) (log_left : Log) →
       Answers c k values names log (Ok o) names_left log_left →
+      names_left.kinds ≡ first_kinds (shown_by c) → LeavesWhole (shown_by c) log_left.events →
       IsDoneWell (shown_by c) (verdict_of c a) o names_left × Holds (shown_by c) names_left
 
 abbrev pub FromTables : Type 0
