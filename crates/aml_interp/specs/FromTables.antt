@@ -90,7 +90,7 @@ pub record BeginsWell (c : Checked) : Type 0 where
       EndsWell (shown_by c) (verdict_of c a)
       (evaluated (setting_in (shown_by c) around.bodies k m (trees ts)) (trees ts) values script
       (before names a.bound log))
-  -- and an outcome that `evaluate` answers over a world is done, and leaves names that hold so again
+  -- and an outcome that `evaluate` answers over a world is done, and names hold so again
   pub answer :
       (names : Names) → Holds (shown_by c) names →
       (k : ℕ) (a : Accepted) (values : List Value) → Takes c k a values →
