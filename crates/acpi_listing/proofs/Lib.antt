@@ -7,3 +7,5 @@ pub mod Started
 pub mod Judgements
 pub mod GivenListed
 pub mod RoutesListed
+pub mod Listed
+pub mod Exact

@@ -15,9 +15,9 @@ use Rattle.aml_values.specs.Values.{Value, Int, Buf, Pkg}
 use Rattle.aml_contents.specs.FirstKinds.{greatest_of}
 use Rattle.aml_contents.specs.FirstContents.{first_contents, first_kinds}
 use Rattle.aml_meaning.specs.State as State
-use Rattle.aml_regions.specs.Events.{Event, Log}
+use Rattle.aml_regions.specs.Events.{AreWords, Event, Log}
 use Rattle.aml_regions.specs.Registers.{contents}
-use Rattle.aml_registers.specs.Answers.{AreAnswered}
+use Rattle.aml_registers.specs.Answers.{AreAnswered, LeaveNames}
 use Rattle.aml_bodies.specs.Methods.{Around}
 use Rattle.aml_interp.specs.Answers.{AnswersBody}
 use Rattle.aml_meaning.specs.Methods.{setting_in}
@@ -161,12 +161,19 @@ IsMeant ns bytes id m body arguments steps (Ok (outcome, events)) =
     IsOutcome ns bytes id m body arguments steps outcome events
 IsMeant ns bytes id m body arguments steps (Err f) = f ≡ nowhere cause.NoMemory
 
+-- events in which answers fit, and no Sleep left contents
+pub record AreStill (ns : Shown) (events : List Event) : Type 0 where
+  pub words : AreWords (first_kinds ns) events
+  pub left : LeaveNames events
+
 -- the same, where mutexes are not watched
 pub record IsAnswered (ns : Shown) (bytes : ℕ → ℕ → ℕ) (id : ℕ) (m : Method) (body : Trees)
     (arguments : List Value) (steps : ℕ) (outcome : Outcome) (events : List Event) : Type 0 where
   pub names : State.Names
   pub before : Log
   pub refusals : ℕ
+  pub kinds : names.kinds ≡ first_kinds ns
+  pub still : AreStill ns before.events
   pub answers : (around : Around ns) →
       AnswersBody (setting_in ns around.bodies id m body) body arguments steps (names_first ns)
       before (Ok outcome) names

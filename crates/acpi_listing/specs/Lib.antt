@@ -6,4 +6,5 @@ pub mod Inputs
 pub mod Madt
 pub mod Loading
 pub mod Commands
+pub mod Exact
 pub mod Program

@@ -1,9 +1,8 @@
 -- What registers answer to the reads and the Sleeps among their events.
-use Rattle.std.specs.Prelude.{◌≡◌, ℕ, List, [], ◌∷◌, Option, Some, None, slice_get, take}
-use Rattle.aml_values.specs.Values.{Str}
+use Rattle.std.specs.Prelude.{◌≡◌, ℕ, zero, suc, ◌+◌, List, [], ◌∷◌, Option, Some, None, slice_get, take}
 use Rattle.aml_contents.specs.Contents.{Contents}
 use Rattle.aml_regions.specs.Bytes.{SameBytes, unit_of, with_unit}
-use Rattle.aml_regions.specs.Events.{Event, Read, Written, Slept}
+use Rattle.aml_regions.specs.Events.{Event, Read, Written, Slept, Stalled}
 use Rattle.aml_regions.specs.Text.{TextSets}
 use Rattle.aml_regions.specs.declared.access.Access.{Access}
 
@@ -42,6 +41,16 @@ abbrev pub HoldByText : List ℕ → List Event → (ℕ → ℕ → ℕ) → Ty
 HoldByText text events held =
     (bytes : ℕ → ℕ → ℕ) → TextSets text bytes → SameBytes (left_by bytes events) held
 
--- what stands in the log before the events: the text itself, as what a name holds
+-- a number doubled so many times
+abbrev pub doubled : ℕ → ℕ → ℕ
+doubled zero n = n
+doubled (suc times) n = doubled times n + doubled times n
+
+-- a list as a number, from which it can be told again
+abbrev pub number_of : List ℕ → ℕ
+number_of [] = 0
+number_of (x ∷ xs) = doubled x (1 + (number_of xs + number_of xs))
+
+-- what stands in the log before the events: the text itself, as how long a Stall takes
 abbrev pub start_of : List ℕ → Event
-start_of text = Slept 0 (Some (Some (Str text) ∷ []))
+start_of text = Stalled (number_of text)

@@ -7,7 +7,7 @@ use Rattle.aml_regions.specs.EventViews.{events_of}
 use Rattle.aml_regions.specs.Registers.{contents}
 use Rattle.aml_regions.specs.Text.{TextSets}
 use Rattle.aml_registers.specs.Answers.{start_of}
-use Rattle.acpi_listing.proofs.Started.{same_text}
+use Rattle.acpi_listing.proofs.Started.{begins_still, same_text}
 use Rattle.acpi_listing.proofs.eval.done_over.Goals as goal
 
 -- the names are the namespace's
@@ -35,6 +35,8 @@ returns c = λ a said m there.
         names = _;
         before = record { events = start_of first.text.items ∷ []; refusals = first.file.refusals };
         refusals = left.file.refusals;
+        kinds = c.in_ok-value.ensures.names;
+        still = begins_still ns first.text.items;
         answers = rw same at held;
         answered = left.answers (contents first.file) (subst (λ text. TextSets text (contents first.file)) (sym same) c.requires.set);
       };
