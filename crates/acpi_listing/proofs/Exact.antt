@@ -1,7 +1,7 @@
 -- What `eval` answers of an accepted method is the meaning's, since that meets no error.
 use Rattle.std.proofs.Common.{◌≡◌, ◌∙◌, ℕ, zero, suc, List, [], ◌∷◌, ◌++◌, Option, ap, rules, subst, sym, true}
 use Rattle.acpi_listing.proofs.Listed.{listed_whole}
-use Rattle.acpi_listing.specs.Commands.{names_first}
+use Rattle.aml_literal_laws.specs.Laws.{first_names}
 use Rattle.acpi_listing.specs.Exact.{EvalsAreExact, IsAsked}
 use Rattle.acpi_listing.specs.Loading.{os_name}
 use Rattle.aml_interp.proofs.Accepted.{args_told}
@@ -75,6 +75,6 @@ evals_are_exact interfaces tables args told checked id m a arguments asked bytes
           let none_left = leave_both meant.before.events events meant.still.left meant.answered.1 in
           let whole : LeavesWhole (shown_by checked) (meant.before.events ++ events) = record { left = λ i milliseconds left is. absurd (none_left i milliseconds left is) } in
           let begin = begins interfaces tables args told checked id m a arguments asked in
-          let ends = begin.meaning (names_first (shown_by checked)) begin.first id a arguments (takes interfaces tables args told checked id m a arguments asked) m asked.there done.body done.read around meant.before (meant.before.events ++ events) words whole in
+          let ends = begin.meaning (first_names (shown_by checked)) begin.first id a arguments (takes interfaces tables args told checked id m a arguments asked) m asked.there done.body done.read around meant.before (meant.before.events ++ events) words whole in
           answers.tells (meant.before.events ++ events) (prefix_refl (meant.before.events ++ events)) (no_error (shown_by checked) (verdict_of checked a) _ ends));
     }

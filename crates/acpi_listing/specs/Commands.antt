@@ -13,8 +13,9 @@ use Rattle.aml_paths.specs.Printed.{path_text}
 use Rattle.aml_namespace.specs.PrintedObjects.{printed_object}
 use Rattle.aml_values.specs.Values.{Value, Int, Buf, Pkg}
 use Rattle.aml_contents.specs.FirstKinds.{greatest_of}
-use Rattle.aml_contents.specs.FirstContents.{first_contents, first_kinds}
+use Rattle.aml_contents.specs.FirstContents.{first_kinds}
 use Rattle.aml_meaning.specs.State as State
+use Rattle.aml_literal_laws.specs.Laws.{first_names}
 use Rattle.aml_regions.specs.Events.{AreWords, Event, Log}
 use Rattle.aml_regions.specs.Registers.{contents}
 use Rattle.aml_registers.specs.Answers.{AreAnswered, LeaveNames}
@@ -139,9 +140,10 @@ abbrev pub Fit : Shown → Method → List Value → Result (Unit {0}) Fault →
 Fit ns m arguments (Ok _) = Takes ns m arguments
 Fit ns m arguments (Err f) = (Takes ns m arguments → ⊥) × (f ≡ nowhere cause.ArgsDontFit)
 
--- what the names of the tables hold first
-abbrev pub names_first : Shown → State.Names
-names_first ns = record { contents = first_contents ns; kinds = first_kinds ns }
+-- events in which answers fit, and no Sleep left contents
+pub record AreStill (ns : Shown) (events : List Event) : Type 0 where
+  pub words : AreWords (first_kinds ns) events
+  pub left : LeaveNames events
 
 -- an outcome and the events until then, which the meaning has from what names hold first, whatever
 -- happened before, and whatever names hold afterwards; and the reads among the events are answered
@@ -151,7 +153,7 @@ pub record IsOutcome (ns : Shown) (bytes : ℕ → ℕ → ℕ) (id : ℕ) (m : 
   pub names : State.Names
   pub before : Log
   pub refusals : ℕ
-  pub evaluates : Evaluates ns id m body arguments steps (names_first ns) before (Ok outcome) names
+  pub evaluates : Evaluates ns id m body arguments steps (first_names ns) before (Ok outcome) names
       (record { events = before.events ++ events; refusals = refusals })
   pub answered : AreAnswered bytes events
 
@@ -161,12 +163,7 @@ IsMeant ns bytes id m body arguments steps (Ok (outcome, events)) =
     IsOutcome ns bytes id m body arguments steps outcome events
 IsMeant ns bytes id m body arguments steps (Err f) = f ≡ nowhere cause.NoMemory
 
--- events in which answers fit, and no Sleep left contents
-pub record AreStill (ns : Shown) (events : List Event) : Type 0 where
-  pub words : AreWords (first_kinds ns) events
-  pub left : LeaveNames events
-
--- the same, where mutexes are not watched
+-- such an outcome, where mutexes are not watched
 pub record IsAnswered (ns : Shown) (bytes : ℕ → ℕ → ℕ) (id : ℕ) (m : Method) (body : Trees)
     (arguments : List Value) (steps : ℕ) (outcome : Outcome) (events : List Event) : Type 0 where
   pub names : State.Names
@@ -175,7 +172,7 @@ pub record IsAnswered (ns : Shown) (bytes : ℕ → ℕ → ℕ) (id : ℕ) (m :
   pub kinds : names.kinds ≡ first_kinds ns
   pub still : AreStill ns before.events
   pub answers : (around : Around ns) →
-      AnswersBody (setting_in ns around.bodies id m body) body arguments steps (names_first ns)
+      AnswersBody (setting_in ns around.bodies id m body) body arguments steps (first_names ns)
       before (Ok outcome) names
       (record { events = before.events ++ events; refusals = refusals })
   pub answered : AreAnswered bytes events
@@ -343,7 +340,7 @@ pub record GivesOver (bytes : ℕ → ℕ → ℕ) (checked : Checked) (id : ℕ
   pub names : State.Names
   pub before : Log
   pub log : Log
-  pub gives : GivesBy checked id (said_of checked id) g (names_first (shown checked.namespace.now))
+  pub gives : GivesBy checked id (said_of checked id) g (first_names (shown checked.namespace.now))
       before names log
   pub answered :
       (events : List Event) → log.events ≡ before.events ++ events → AreAnswered bytes events
@@ -417,7 +414,7 @@ pub record PrtOver (bytes : ℕ → ℕ → ℕ) (checked : Checked) (id : ℕ)
   pub names : State.Names
   pub before : Log
   pub log : Log
-  pub gives : GivesPrt checked id r (names_first (shown checked.namespace.now)) before names log
+  pub gives : GivesPrt checked id r (first_names (shown checked.namespace.now)) before names log
   pub answered :
       (events : List Event) → log.events ≡ before.events ++ events → AreAnswered bytes events
 

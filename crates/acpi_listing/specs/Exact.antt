@@ -1,13 +1,13 @@
 -- What `eval` prints of an accepted method is just what its meaning is.
 use Rattle.std.specs.Prelude.{◌≡◌, ◌++◌, ℕ, List, Option, Some, Ok}
-use Rattle.acpi_listing.specs.Commands.{AreStill, Accepts, IsDoneOver, names_first}
+use Rattle.acpi_listing.specs.Commands.{AreStill, Accepts, IsDoneOver}
 use Rattle.acpi_listing.specs.Loading.{IsNamespace}
 use Rattle.acpi_words.specs.Arguments.{ListsArguments}
 use Rattle.acpi_verdicts.specs.Verdicts.{said_of}
 use Rattle.aml_bodies.specs.Methods.{Around}
 use Rattle.aml_interp.specs.FromTables.{shown_by}
 use Rattle.aml_known.specs.declared.accepted.Accepted.{Accepted}
-use Rattle.aml_literal_laws.specs.Laws.{TablesAreBytes}
+use Rattle.aml_literal_laws.specs.Laws.{TablesAreBytes, first_names}
 use Rattle.aml_meaning.specs.Methods.{setting_in}
 use Rattle.aml_meaning.specs.State as State
 use Rattle.aml_meaning.specs.Whole.{before, evaluated}
@@ -49,7 +49,7 @@ pub record IsMeaning (ns : Shown) (id : ℕ) (m : Method) (arguments : List Valu
   pub tells : (around : Around ns) →
       Tells (Ok outcome)
       (λ n. evaluated (setting_in ns around.bodies id m (trees body)) (trees body) arguments
-      (log.events ++ events) (before (names_first ns) n log)) steps names (log.events ++ events)
+      (log.events ++ events) (before (first_names ns) n log)) steps names (log.events ++ events)
 
 -- what `eval` answers then is the meaning's, whatever the registers are
 abbrev pub EvalsAreExact : Type 0

@@ -4,7 +4,7 @@ use Rattle.aml_namespace.specs.Shows.{shown}
 use Rattle.aml_regions.specs.EventViews.{events_of}
 use Rattle.aml_regions.specs.Registers.{contents}
 use Rattle.aml_registers.specs.Answers.{start_of}
-use Rattle.acpi_listing.specs.Commands.{names_first}
+use Rattle.aml_literal_laws.specs.Laws.{first_names}
 use Rattle.acpi_listing.proofs.RoutesListed.{link_told}
 use Rattle.acpi_listing.proofs.Started.{answered, log_with}
 use Rattle.acpi_listing.proofs.objects.prt_over.Goals as goal
@@ -32,7 +32,7 @@ returns g c =
     let first = c.args.registers in
     let left = c.prt_noted.new.world in
     let checked = c.args.checked.now in
-    let held : names_of c.in_ok-names.names ≡ names_first (shown checked.namespace.now) =
+    let held : names_of c.in_ok-names.names ≡ first_names (shown checked.namespace.now) =
     rw (c.in_ok-names.ensures.contents, c.in_ok-names.ensures.kinds, c.namespace.ensures) in
     let had : log_with first.text.items (events_of first.file.events.items) first.file.refusals ≡ log_with first.text.items [] first.file.refusals = rw c.requires.fresh in
     link_told (contents first.file) checked c.args.id.0 (names_of c.in_ok-names.names) (names_of c.prt_noted.new.names)
