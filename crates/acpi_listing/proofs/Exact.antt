@@ -2,7 +2,7 @@
 use Rattle.std.proofs.Common.{◌≡◌, ◌∙◌, ℕ, zero, suc, List, [], ◌∷◌, ◌++◌, Option, ap, rules, subst, sym, true}
 use Rattle.acpi_listing.proofs.Listed.{listed_whole}
 use Rattle.aml_literal_laws.specs.Laws.{first_names}
-use Rattle.acpi_listing.specs.Exact.{EvalsAreExact, IsAsked}
+use Rattle.acpi_listing.specs.Exact.{ComesFrom, EvalsAreExact, IsAsked}
 use Rattle.acpi_listing.specs.Loading.{os_name}
 use Rattle.aml_interp.proofs.Accepted.{args_told}
 use Rattle.aml_interp.proofs.Ends.{no_error}
@@ -29,24 +29,25 @@ use Rattle.aml_verify.specs.declared.checked.Checked.{Checked}
 os_bytes : AreBytes os_name
 os_bytes = search rules
 
-leave_both : (events more : List Event) → LeaveNames events → LeaveNames more → LeaveNames (events ++ more)
+pub leave_both : (events more : List Event) → LeaveNames events → LeaveNames more → LeaveNames (events ++ more)
 leave_both [] more h g i milliseconds left is = g i milliseconds left is
 leave_both (event ∷ events) more h g zero milliseconds left is = h zero milliseconds left is
 leave_both (event ∷ events) more h g (suc i) milliseconds left is =
     leave_both events more (λ k n l e. h (suc k) n l e) g i milliseconds left is
 
+-- so what was loaded for a command was loaded from tables
+pub from_files : (interfaces tables : List (List ℕ)) (told : Told) (checked : Checked) → ComesFrom interfaces tables told checked → IsFrom tables os_name told checked
+from_files interfaces tables told checked from = record { checked = from.verdicts; loaded = from.namespace.0; bytes = from.bytes; text = os_bytes }
+
 module _ (interfaces tables : List (List ℕ)) (args : Option (List ℕ)) (told : Told) (checked : Checked) (id : ℕ) (m : Method) (a : Accepted) (arguments : List Value) (asked : IsAsked interfaces tables args told checked id m a arguments) where
   abbrev ns : Shown
   ns = shown_by checked
 
-  from : IsFrom tables os_name told checked
-  from = record { checked = asked.verdicts; loaded = asked.namespace.0; bytes = asked.bytes; text = os_bytes }
-
   begins : BeginsWell checked
-  begins = from_tables tables os_name told checked from
+  begins = from_tables tables os_name told checked (from_files interfaces tables told checked asked.from)
 
   kinds_are : (verdict_of checked a).args ≡ arguments_of ns told id m
-  kinds_are = args_told told checked id a asked.verdicts asked.said m asked.there
+  kinds_are = args_told told checked id a asked.from.verdicts asked.said m asked.there
 
   whole : AreWholeValues (bits_of ns.width) arguments (verdict_of checked a).args
   whole =

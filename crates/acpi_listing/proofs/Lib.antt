@@ -9,3 +9,4 @@ pub mod GivenListed
 pub mod RoutesListed
 pub mod Listed
 pub mod Exact
+pub mod ExactGiven

@@ -29,7 +29,7 @@ use Rattle.aml_values.specs.Views.{view}
 use Rattle.aml_values.specs.declared.value.Value as program
 use Rattle.aml_values.specs.declared.value.Value.TheVariants as value
 use Rattle.aml_verify.specs.declared.checked.Checked.{Checked}
-use Rattle.acpi_listing.specs.Commands.{AreVerdictsOn, FindsObject, Follows, FollowsNot, IsObjectAt, IsPrtOver, Judges, ListsPrt, ListsRoutes, ListsValue, RoutesLoaded, RoutesTables, link_fault, routes_with}
+use Rattle.acpi_listing.specs.Commands.{AreStill, AreVerdictsOn, FindsObject, Follows, FollowsNot, IsObjectAt, IsPrtOver, Judges, ListsPrt, ListsRoutes, ListsValue, RoutesLoaded, RoutesTables, link_fault, routes_with}
 use Rattle.aml_literal_laws.specs.Laws.{first_names}
 use Rattle.acpi_sources.specs.Faults.{route_fault, nowhere, Tries}
 use Rattle.acpi_sources.specs.Files.{Answers}
@@ -53,14 +53,14 @@ use Rattle.acpi_sources.specs.declared.status.Status.TheVariants as exit
 -- a link that is refused, or want of memory, from what names held and the events before
 pub link_told : (bytes : ℕ → ℕ → ℕ) (checked : Checked) (id : ℕ) (held names : State.Names) (had before log : Log) (e : LinkFault) (r : Result Prt Fault)
     → IsErrAnd r (λ f. f ≡ link_fault e) → Asks (λ (prt : Prt). prt) (λ x. GivesPrt checked id x held had names log) (Err e)
-    → held ≡ first_names (shown checked.namespace.now) → had ≡ before
+    → held ≡ first_names (shown checked.namespace.now) → had ≡ before → AreStill (shown checked.namespace.now) before.events
     → ((events : List Event) → log.events ≡ before.events ++ events → AreAnswered bytes events) → IsPrtOver bytes checked id r
-link_told bytes checked id held names had before log e (Ok prt) is gives first same answers = absurd is
-link_told bytes checked id held names had before log links.NoMemory (Err f) is gives first same answers = inl is
-link_told bytes checked id held names had before log (links.Refused refused) (Err f) is gives first same answers =
+link_told bytes checked id held names had before log e (Ok prt) is gives first same was answers = absurd is
+link_told bytes checked id held names had before log links.NoMemory (Err f) is gives first same was answers = inl is
+link_told bytes checked id held names had before log (links.Refused refused) (Err f) is gives first same was answers =
     let begun = subst (λ (h : State.Names). GivesPrt checked id (Err refused) h had names log) first gives in
     let gave = subst (λ (b : Log). GivesPrt checked id (Err refused) (first_names (shown checked.namespace.now)) b names log) same begun in
-    inr (refused, record { names = names; before = before; log = log; gives = gave; answered = answers }, is)
+    inr (refused, record { names = names; before = before; log = log; still = was; gives = gave; answered = answers }, is)
 
 -- a fault of a _PRT that has no routes
 pub no_routes : {V : Type 0} (gives : V → Type 0) (madt : Option Madt) (links : Links) (prt : Value) (e : RouteFault) (r : Result V Fault)

@@ -334,12 +334,14 @@ FindsObject ns word (Ok id) = IsObjectAt ns word id
 FindsObject ns word (Err f) =
     ((id : ℕ) → IsObjectAt ns word id → ⊥) × (f ≡ nowhere cause.NoSuchObject)
 
--- what an object gives from what names hold first, whatever happened before; and the reads among
--- the events since then are answered as registers of these bytes answer them
+-- what an object gives from what names hold first, whatever happened before, at no Sleep of which
+-- contents were left; and the reads among the events since then are answered as registers of these
+-- bytes answer them
 pub record GivesOver (bytes : ℕ → ℕ → ℕ) (checked : Checked) (id : ℕ) (g : Given) : Type 0 where
   pub names : State.Names
   pub before : Log
   pub log : Log
+  pub still : AreStill (shown checked.namespace.now) before.events
   pub gives : GivesBy checked id (said_of checked id) g (first_names (shown checked.namespace.now))
       before names log
   pub answered :
@@ -407,13 +409,14 @@ link_fault (links.Refused refused) =
     at_byte (cause.Resources refused.refusal.cause) refused.refusal.at
 
 -- what an object gives from what names hold first, and behind that, of each link that it names,
--- what that one's _CRS gives; whatever happened before, the reads among all events since then are
--- answered as registers of these bytes answer them
+-- what that one's _CRS gives; whatever happened before, at no Sleep of which contents were left, the
+-- reads among all events since then are answered as registers of these bytes answer them
 pub record PrtOver (bytes : ℕ → ℕ → ℕ) (checked : Checked) (id : ℕ)
     (r : Result Prt LinkRefusal) : Type 0 where
   pub names : State.Names
   pub before : Log
   pub log : Log
+  pub still : AreStill (shown checked.namespace.now) before.events
   pub gives : GivesPrt checked id r (first_names (shown checked.namespace.now)) before names log
   pub answered :
       (events : List Event) → log.events ≡ before.events ++ events → AreAnswered bytes events

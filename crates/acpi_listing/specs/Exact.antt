@@ -24,14 +24,19 @@ use Rattle.aml_verify.specs.Verdicts.{IsChecked}
 use Rattle.aml_verify.specs.declared.checked.Checked.{Checked}
 use Rattle.aml_verify.specs.declared.verdict.Verdict.TheVariants as verdict
 
--- `eval` was asked for an accepted method of the namespace of tables of bytes, with arguments that
--- the text of `--args` lists and the method takes
+-- a verified namespace is that of tables, which are made of bytes
+pub record ComesFrom (interfaces tables : List (List ℕ)) (told : Told) (checked : Checked) : Type 0
+  where
+    pub namespace : IsNamespace interfaces tables (shown_by checked)
+    pub bytes : TablesAreBytes tables
+    pub verdicts : IsChecked told checked
+
+-- `eval` was asked for an accepted method, with arguments that the text of `--args` lists and the
+-- method takes
 pub record IsAsked (interfaces tables : List (List ℕ)) (args : Option (List ℕ)) (told : Told)
     (checked : Checked) (id : ℕ) (m : Method) (a : Accepted) (arguments : List Value) : Type 0 where
+  pub from : ComesFrom interfaces tables told checked
   pub listed : ListsArguments args arguments
-  pub namespace : IsNamespace interfaces tables (shown_by checked)
-  pub bytes : TablesAreBytes tables
-  pub verdicts : IsChecked told checked
   pub there : method_at (shown_by checked) id ≡ Some m
   pub said : said_of checked id ≡ Some (verdict.Accepted a)
   pub taken : Accepts checked a arguments (Ok tt)

@@ -7,4 +7,5 @@ pub mod Madt
 pub mod Loading
 pub mod Commands
 pub mod Exact
+pub mod ExactGiven
 pub mod Program

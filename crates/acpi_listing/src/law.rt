@@ -1,6 +1,7 @@
-// What `eval` prints of an accepted method: the law.
+// What `eval`, `resources` and `routing` have of an accepted method: the laws.
 
 ghost use Rattle.acpi_listing.specs.Exact.{EvalsAreExact};
+ghost use Rattle.acpi_listing.specs.ExactGiven.{ResourcesAreExact, RoutesAreExact};
 
 /// What `eval` answers of an accepted method, the outcome and the events until then, is just what
 /// the meaning of its body is with as many steps as its verdict says, from what the tables give its
@@ -8,4 +9,18 @@ ghost use Rattle.acpi_listing.specs.Exact.{EvalsAreExact};
 /// its meaning meets no AML error, of mutexes or other, and does not run out of steps.
 pub fn evals_are_exact()
     ensures { EvalsAreExact }
+{}
+
+/// What an accepted method gives that `resources` asks, its value or none, is just what the meaning
+/// of its body gives with as many steps as its verdict says, from what the tables give its names,
+/// where tables are made of bytes.
+pub fn resources_are_exact()
+    ensures { ResourcesAreExact }
+{}
+
+/// And so is what accepted methods give that `routing` asks, of the object with the elements and
+/// then of each link device that these name, one after the other, each from what names hold behind
+/// the one before.
+pub fn routes_are_exact()
+    ensures { RoutesAreExact }
 {}

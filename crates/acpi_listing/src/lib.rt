@@ -1,7 +1,7 @@
 //! What `acpicheck` does: its commands, over any reader, writer and source of files. `program` and
 //! `command_line` run them; `files`, `names`, `verify`, `eval`, `resources` and `routing` are the
 //! commands, `objects` what the last two ask for; `load`, `madt`, `regs` and `signed` are what they
-//! read, `tell` what people are told, `stop` why a command ends; `law` says what `eval` is.
+//! read, `tell` what people are told, `stop` why a command ends; `law` says what is evaluated.
 #![tactic(auto)]
 
 mod command_line;
@@ -22,5 +22,5 @@ mod tell;
 mod verify;
 
 pub use command_line::run_program;
-pub use law::evals_are_exact;
+pub use law::{evals_are_exact, resources_are_exact, routes_are_exact};
 pub use program::{run, run_words};

@@ -1,9 +1,10 @@
 use Rattle.std.proofs.Common.{◌≡◌, [], ◌∷◌, ap, drop, subst, sym}
+use Rattle.aml_namespace.specs.Shows.{shown}
 use Rattle.aml_regions.specs.EventViews.{events_of}
 use Rattle.aml_regions.specs.Registers.{contents}
 use Rattle.aml_regions.specs.Text.{TextSets}
 use Rattle.aml_registers.specs.Answers.{AreAnswered, start_of}
-use Rattle.acpi_listing.proofs.Started.{same_text}
+use Rattle.acpi_listing.proofs.Started.{begins_still, same_text}
 use Rattle.acpi_listing.proofs.objects.given_over.Goals as goal
 
 -- the names are the namespace's
@@ -20,6 +21,7 @@ returns c =
       names = _;
       before = record { events = start_of first.text.items ∷ []; refusals = first.file.refusals };
       log = _;
+      still = begins_still (shown c.args.checked.now.namespace.now) first.text.items;
       gives = gave;
       answered = λ events is.
           let same : left.text.items ≡ first.text.items = same_text first.text.items left.text.items (events_of left.file.events.items) events is in

@@ -6,7 +6,7 @@ use Rattle.aml_regions.specs.Registers.{contents}
 use Rattle.aml_registers.specs.Answers.{start_of}
 use Rattle.aml_literal_laws.specs.Laws.{first_names}
 use Rattle.acpi_listing.proofs.RoutesListed.{link_told}
-use Rattle.acpi_listing.proofs.Started.{answered, log_with}
+use Rattle.acpi_listing.proofs.Started.{answered, begins_still, log_with}
 use Rattle.acpi_listing.proofs.objects.prt_over.Goals as goal
 
 -- the names are the namespace's
@@ -23,6 +23,7 @@ returns-in-Ok g c =
       names = _;
       before = record { events = start_of first.text.items ∷ []; refusals = first.file.refusals };
       log = _;
+      still = begins_still (shown c.args.checked.now.namespace.now) first.text.items;
       gives = gave;
       answered = answered first left c.requires.set;
     }
@@ -38,4 +39,4 @@ returns g c =
     link_told (contents first.file) checked c.args.id.0 (names_of c.in_ok-names.names) (names_of c.prt_noted.new.names)
     (log_with first.text.items (events_of first.file.events.items) first.file.refusals) (log_with first.text.items [] first.file.refusals)
     (log_with left.text.items (events_of left.file.events.items) left.file.refusals) c.in-Err.fault (Err c.fault_of_link.result) c.fault_of_link.ensures
-    c.in-Err.ensures held had (answered first left c.requires.set)
+    c.in-Err.ensures held had (begins_still (shown checked.namespace.now) first.text.items) (answered first left c.requires.set)
