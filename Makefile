@@ -19,7 +19,7 @@ EDITED = $(filter-out aml_plain_tests,$(notdir $(wildcard crates/*)))
 
 # The gate: every crate proved from nothing; tests and programs run, then the built program over its stored cases and
 # rows, and the must-fail edits, many in one check, and those of a small crate that try the script itself.
-# Behind 105 minutes the edits of no further crate are begun, and behind 52 none of the two evaluators, of whose cycles
+# Behind 105 minutes the edits of no further crate are begun, and behind 70 none of the two evaluators, of whose cycles
 # of calls each check takes some minutes. The last line counts all.
 test:
 	@python3 bench/edits.py clear

@@ -19,6 +19,8 @@ HERE = os.path.dirname(os.path.abspath(__file__))
 PARTS = ("src", "specs", "proofs")
 TOLD = re.compile(r"(?:fn|cycle) (\S+): (.*)")
 AT = re.compile(r"(?:note: )?(?:\./)?((?:src|specs|proofs)/\S+?):(\d+):\d+: (.*)")
+# What a note says of a goal that is open, with the goal's name.
+UNPROVED = re.compile(r"note: .*?: it is not proved that .*\(`([^`]+)`\)")
 # What is said where a name went that a proof file cites: it shows nothing of the contract.
 A_NAME = re.compile(r"has no field|is not in scope|has no `|was not admitted|cannot find")
 # The prover's own limits, which it meets wherever it checks the same.
@@ -58,6 +60,10 @@ class Said:
     def compile_errors(self):
         """What the front end refuses: the path and the line, from 0, and what it says."""
         return [it for it in self.places if it[0].startswith("src/") and re.search(r": error\[[\w-]+\]", it[2])]
+
+    def finds_no_function(self):
+        """Whether it was asked for a function that it knows by no such path, and so said nothing else."""
+        return self.status == 2 and any(re.search("has no function|several functions are named", it) for it in self.lines)
 
     def goals(self, name):
         """The goals of its own that a function's line names; of a cycle of calls those that bear the function's name."""
@@ -107,12 +113,23 @@ class Said:
             return REFUSED, f"{name} at {AT.match(answers[0])[3].removeprefix('error: ')[:120]}"
         return UNSURE, f"{name}: {state[:160] or 'nothing was said of it'}"
 
+    def unproved(self, path, function):
+        """The goals of which a note tells, at a place in a function, that they are not proved, as where the function's proof
+        file answers goals that it no longer has."""
+        told = [line for at, number, line in self.places if at == path and function.first <= number <= function.last]
+        notes = map(UNPROVED.match, told)
+        return list(dict.fromkeys(it[1] for it in notes if it))
+
     def of_edit(self, sources, edit):
-        """What this says of an edit by its own functions."""
+        """What this says of an edit by its own functions, or by those that name the constants that it changes."""
         told = []
-        for function in sources.touched(edit):
+        for path, function in sources.reached_at(edit):
             names = edit_texts.names_of(sources.crate, function, self.states)
-            told += [self.of_function(it) for it in names] or [(UNSURE, f"the check names no function {function.name}")]
+            said = [self.of_function(it) for it in names] or [(UNSURE, f"the check names no function {function.name}")]
+            goals = self.unproved(path, function)
+            if goals and all(kind == UNSURE for kind, _ in said):
+                said = [(REFUSED, f"{sources.crate}::{edit_texts.path_of(function)} at {', '.join(goals)}")]
+            told += said
         for kind in (REFUSED, UNSURE, PROVED):
             found = [text for it, text in told if it == kind]
             if found:

@@ -10,6 +10,8 @@ import os
 import re
 
 FUNCTION = re.compile(r'(\s*)(?:pub(?:\([^)]*\))? )?(?:(?:const|unsafe|final|extern "C") )*fn (\w+)')
+IMPORT = re.compile(r"\s*(?:pub(?:\([^)]*\))? |ghost )?use\b")
+CONSTANT = re.compile(r"\s*(?:pub(?:\([^)]*\))? )?const (\w+):")
 # As rt fmt lays them out, on a line or two: `impl<T> Type<T>` and `impl<T> Trait<U> for Type<T>`.
 IMPL = re.compile(r"(?:unsafe )?(impl|trait)\b")
 
@@ -107,21 +109,25 @@ def read_edit(top, crate, file):
 
 
 def head_of(lines, at):
-    """The type and the trait of the impl, or the trait, that begins at a line."""
+    """The type and the trait of the impl, or the trait, that begins at a line, as a check spells them: without parameters of
+    the impl's own, and with a capital letter at first, as in U64."""
     text = ""
     for line in lines[at : at + 8]:
         text += " " + line.strip()
         if "{" in line:
             break
     text = text.partition("{")[0].partition(" where ")[0]
+    parameters = re.match(r"\s*(?:unsafe )?impl<([^>]*)>", text)
+    own = {it.partition(":")[0].strip() for it in parameters[1].split(",")} if parameters else set()
     text = re.sub(r"^(\s*)(?:unsafe )?impl<[^>]*>", r"\1impl", text)
     text = re.sub(r"'\w+,? ?|\w+::|\bpub(\([^)]*\))? ", "", text)
     while re.search(r"<[^<>]*<", text):
         # of what stands within brackets the name alone
         text = re.sub(r"(<[^<>]*?\w+)<[^<>]*>", r"\1", text)
     front, _, back = text.strip().rpartition(" for ")
-    words = re.findall(r"\w+", front)
-    return re.sub(r"<.*", "", back).split()[-1] if back else "", "".join(it for it in words if it != "impl")
+    words = [it for it in re.findall(r"\w+", front) if it not in ("impl", *own)]
+    kind = re.sub(r"<.*", "", back).split()[-1] if back else ""
+    return kind[:1].upper() + kind[1:], "".join(words)
 
 
 def last_line(lines, at, indent):
@@ -156,11 +162,18 @@ def functions_of(path, text):
     return found
 
 
+def path_of(function):
+    """The path below the crate by which a check is asked for a function. An impl without a trait may stand elsewhere than
+    its type, so of its functions this is the end of their names."""
+    kind = function.type + function.trait
+    module = "" if function.type and not function.trait else function.module
+    return "::".join(it for it in (module, kind, function.name) if it)
+
+
 def names_of(crate, function, names):
     """The names by which a check tells of a function and of the closures in it, among those that it told."""
-    module = "::".join([crate] + [function.module] * bool(function.module))
     kind = function.type + function.trait
-    exact = [f"{module}::{kind}::{function.name}" if kind else f"{module}::{function.name}"]
+    exact = ["::".join(it for it in (crate, function.module, kind, function.name) if it)]
     # an impl without a trait may stand beside its type, or in another module
     elsewhere = re.compile(rf"{crate}::(?:\w+::)*{kind}::{function.name}")
     found = [it for it in exact if it in names] or [it for it in names if kind and elsewhere.fullmatch(it)]
@@ -184,10 +197,35 @@ class Sources:
         """The outermost function that a line stands in, if it stands in one."""
         return next((it for it in self.functions.get(path, []) if it.first <= line <= it.last), None)
 
+    def touched_at(self, edit):
+        """The functions that an edit changes, each with its file, whatever imports it changes beside them; or none where it
+        changes what else stands outside of functions."""
+        changed = [it for it in edit.lines if not IMPORT.match(self.line(*it))]
+        found = {(path, self.function_at(path, line)) for path, line in changed}
+        return frozenset() if any(function is None for _, function in found) else frozenset(found)
+
     def touched(self, edit):
-        """The functions that an edit changes, or none where it changes what stands outside of functions."""
-        found = {self.function_at(path, line) for path, line in edit.lines}
-        return frozenset() if None in found else frozenset(found)
+        """The functions that an edit changes, as touched_at."""
+        return frozenset(function for _, function in self.touched_at(edit))
+
+    def reached_at(self, edit):
+        """The same, and of an edit of constants the functions that name them; or none where something else outside of
+        functions names one."""
+        constants = [CONSTANT.match(self.line(path, line)) for path, line in edit.lines]
+        if not all(constants):
+            return self.touched_at(edit)
+        named = re.compile(rf"\b(?:{'|'.join(it[1] for it in constants)})\b")
+        lines = [(path, at, line) for path, text in self.texts.items() for at, line in enumerate(text.split("\n"))]
+        found = {(path, self.function_at(path, at)) for path, at, line in lines
+                 if named.search(line) and not IMPORT.match(line) and (path, at) not in edit.lines}
+        return frozenset() if any(function is None for _, function in found) else frozenset(found)
+
+    def reached(self, edit):
+        """The functions that an edit changes or whose constants it does, as reached_at."""
+        return frozenset(function for _, function in self.reached_at(edit))
+
+    def line(self, path, number):
+        return self.texts[path].split("\n")[number]
 
     def with_edits(self, edits):
         """The files that these edits change, with all of them laid in. No two of them touch one line."""

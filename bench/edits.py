@@ -5,10 +5,11 @@
     rt ci | python3 bench/edits.py after [MINUTES] [CRATE ..]
 
 An edit, `crates/NAME/must-fail/*.edit` or `crates/NAME/edits/*.edit`, turns the meaning of a function, and the check
-must refuse it. Edits of different functions are laid in together, and one check says of each function which goals of
-its own were not proved, and which it lacks only since it calls one that is refused. An edit whose function has a goal of
-its own refused is refused. One that inherited its refusal, or whose function was not reached, goes into another check
-without those that it calls, and in the end alone.
+must refuse it. Edits of different functions are laid in together, and one check of these functions says of each which
+goals of its own were not proved, and which it lacks only since it calls one that is refused. An edit whose function has
+a goal of its own refused is refused. One that inherited its refusal, or whose function was not reached, goes into
+another check without those that it calls, and in the end alone; so does one of a constant, at first by a check of the
+functions that name it.
 
 It fails where an edit is still proved, where an old text does not stand just once, where it does not compile (what the
 front end refused with others it reads again alone), where it fell only by a name that went, which a proof file cites,
@@ -20,9 +21,10 @@ what ran before are read from standard input and printed, the last line counts i
 gate has just built are used; crates that are named are tried, or else all. As soon as a line says that a crate is
 proved, its edits are tried on what processors the gate leaves idle, and those of the rest when it has ended. MINUTES
 behind the start no other crate is begun, and what was not is told: on a slow machine the gate ends all the same, and
-the next one there goes on from what is kept. The crates whose checks are long come last, and are not begun in the
-second half of MINUTES. Nothing in the work tree changes. With the word `clear` the libraries that an earlier gate left
-are removed, so that those that are found later are of the gate that ran in between.
+the next one there goes on from what is kept. The crates whose checks are long come first where three or more go on at
+once, else last, and are not begun in the last third of MINUTES. Nothing in the work tree changes. With the word `clear`
+the libraries that an earlier gate left are removed, so that those that are found later are of the gate that ran in
+between.
 """
 import concurrent.futures
 import glob
@@ -100,7 +102,7 @@ class Trial:
         return batch
 
     def try_together(self, batch):
-        said = self.room.check(batch, self.modules(batch))
+        said = self.check(batch)
         self.batches.append(len(batch))
         if not said.ended:
             if said.compile_errors() and self.leave_out_what_does_not_compile(batch, said):
@@ -123,17 +125,20 @@ class Trial:
             if not bars:
                 self.tries[edit.name] = MOST
 
-    def modules(self, batch):
-        """The paths of the modules that the batch changes, or none where one of them is the root."""
-        found = sorted({function.module for it in batch for function in self.sources.touched(it)})
-        return None if "" in found or not found else found
+    def check(self, batch):
+        """What a check says of the functions that the batch reaches; where it finds one by no name of its own, of their modules."""
+        functions = {function for it in batch for function in self.sources.reached(it)}
+        said = self.room.check(batch, sorted(map(edit_texts.path_of, functions)))
+        if said.finds_no_function():
+            modules = sorted({it.module for it in functions})
+            said = self.room.check(batch, None if "" in modules else modules)
+        return said
 
     def try_alone(self, edit):
         """Judges an edit by what the check of the crate with it alone says, by its own functions and then by all."""
         self.batches.append(1)
-        modules = self.modules([edit])
-        if modules:
-            said = self.room.check([edit], modules)
+        if self.sources.reached(edit):
+            said = self.check([edit])
             kind, text = said.of_edit(self.sources, edit)
             if kind == REFUSED:
                 self.settle(edit, REFUSED, text)
@@ -180,13 +185,15 @@ def free_memory():
         return 1024 * int(re.search(r"MemAvailable:\s+(\d+)", it.read())[1])
 
 
+def cores():
+    return len(os.sched_getaffinity(0))
+
+
 def lanes(count):
-    """How many crates are tried at once, and the jobs of each: 4 GB for a crate."""
-    cores = len(os.sched_getaffinity(0))
-    fitting = max(1, min(cores, count, free_memory() // 4_000_000_000))
-    at_once = min(fitting, 2) if free_memory() < 24 << 30 else fitting
+    """How many crates are tried at once, and the jobs of each: 4 GB for a crate, and as much for all else."""
+    at_once = max(1, min(cores(), count, (free_memory() - 4_000_000_000) // 4_000_000_000))
     jobs = os.environ.get("EDITS_JOBS", "")
-    return at_once, int(jobs) if jobs.isdigit() else max(1, min(4, cores // at_once))
+    return at_once, int(jobs) if jobs.isdigit() else max(1, min(4, cores() // at_once))
 
 
 def tried(top, crates, crate, only, kept, after_gate, jobs, prefix=()):
@@ -247,7 +254,7 @@ class Runs:
             if crate in self.begun or free_memory() < least:
                 return
             self.begun.add(crate)
-            if time.monotonic() - self.start > self.seconds / (2 if crate in LONG else 1):
+            if time.monotonic() - self.start > self.seconds * (2 / 3 if crate in LONG else 1):
                 print(f"edits of {crate}: not tried, as the time for them is over: make edits CRATE={crate} does", flush=True)
                 return
         try:
@@ -269,11 +276,11 @@ def counts_of(lines, top, chosen, runs):
     """Prints the lines of what ran before, and returns how many passed and failed. Each crate's edits are tried as it is
     proved, on half of the processors, behind all else that runs there; those that go on are returned too."""
     last, begun = "", []
-    pool = concurrent.futures.ThreadPoolExecutor(max(1, len(os.sched_getaffinity(0)) // 2))
+    pool = concurrent.futures.ThreadPoolExecutor(max(1, cores() // 2))
     for last in lines:
         print(last, end="", flush=True)
         proved = IS_PROVED.fullmatch(last)
-        if proved and proved[1] in chosen and proved[1] not in LONG and can_begin_early(top):
+        if proved and proved[1] in chosen and (proved[1] not in LONG or cores() > 2) and can_begin_early(top):
             begun.append(pool.submit(runs.one, proved[1], 1, ("nice", "-n", "19"), 6_000_000_000))
     pool.shutdown(wait=False, cancel_futures=True)
     counts = COUNTS.fullmatch(last)
@@ -318,8 +325,8 @@ def main(words, top=TOP, kept=None):
         print("\n".join(f"edits_test: {it}" for it in found or ["passed"]), flush=True)
         passed, failed = passed + (not found), failed + bool(found)
     with concurrent.futures.ThreadPoolExecutor(at_once) as pool:
-        # those with the most edits first, and the long ones last
-        for it in sorted(chosen, key=lambda it: (it in LONG, -len(edit_texts.edit_files(top, it)))):
+        # those with the most edits first; the long ones before them, or where few go on at once behind all
+        for it in sorted(chosen, key=lambda it: ((it in LONG) == (at_once < 3), -len(edit_texts.edit_files(top, it)))):
             pool.submit(runs.one, it, jobs)
     concurrent.futures.wait(early)
     passed, failed = passed + runs.passed, failed + runs.failed

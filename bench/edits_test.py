@@ -45,6 +45,15 @@ pub fn least(a: u32, b: u32, c: u32) -> u32
     lesser(lesser(a, b), c)
 }
 
+const MOST: u32 = 7;
+
+/// A number, or the greatest where it is above.
+pub fn bounded(n: u32) -> u32
+    ensures { result ≤ 7 }
+{
+    if n < MOST { n } else { MOST }
+}
+
 /// The sum of the bytes, of which there are few enough that it fits.
 pub fn total(a: &[u8]) -> usize
     requires { length a.now ≤ 65536 }
@@ -67,6 +76,8 @@ invariant-loop-b l = l.sum ≤ 255 * l.b-index
 EDITS = {
     "greater_number_told": ([("if a < b", "if b < a")], "refused: tiny::lesser at "),
     "third_number_left_out": ([("lesser(lesser(a, b), c)", "lesser(a, b)")], "refused: tiny::least at "),
+    "greater_bound": ([("const MOST: u32 = 7;", "const MOST: u32 = 8;")], "refused: tiny::bounded at "),
+    "right_constant": ([("const MOST: u32 = 7;", "const MOST: u32 = 6;")], "NOT REFUSED: STILL PROVED"),
     "right_code": ([("n / 2", "n / 4")], "NOT REFUSED: STILL PROVED"),
     "no_code": ([("for b in a {", "for b in two {")], "NOT REFUSED: it does not compile"),
     "text_that_stands_twice": ([("ensures first { result ≤ a }", "")], "BAD EDIT: an old text stands in src/lib.rt 2 times"),
