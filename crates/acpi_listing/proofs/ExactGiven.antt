@@ -1,7 +1,7 @@
 -- What `resources` and `routing` have of objects is the meaning's, since an accepted method meets no error.
 use Rattle.std.proofs.Common.{◌≡◌, ◌∙◌, ℕ, zero, suc, List, [], ◌∷◌, ◌++◌, Result, Ok, Err, Option, Some, None, ap, inl, inr, refl, subst, sym, true}
 use Rattle.acpi_listing.proofs.Exact.{from_files, leave_both}
-use Rattle.acpi_listing.specs.ExactGiven.{AreMeantCrs, AreMeantPrt, AreMeantWith, IsMeant, IsMeantCrs, IsMeantFrom, ResourcesAreExact, RoutesAreExact}
+use Rattle.acpi_listing.specs.ExactGiven.{AreMeantCrs, AreMeantPrt, AreMeantWith, IsMeantBy, IsMeantCrs, IsMeantFrom, ResourcesAreExact, RoutesAreExact}
 use Rattle.acpi_listing.specs.Loading.{os_name}
 use Rattle.acpi_objects.proofs.NoArguments.{takes_none}
 use Rattle.acpi_objects.specs.Gives.{GivesBy, IsEvaluated, gives_value}
@@ -165,7 +165,7 @@ module _ (tables : List (List ℕ)) (told : Told) (c : Checked) (from : IsFrom t
         subst (λ (n : Names). Stands n log_left) (sym same_names) (subst (λ (l : Log). Stands names l) (sym same_log) stands)
 
     meant : (said : Option Verdict) → said_of c k ≡ said → GivesBy c k said g names log names_left log_left → Stands names log → LeaveNames log_left.events →
-        IsMeant c k said g names log names_left log_left × Stands names_left log_left
+        IsMeantBy c k said g names log names_left log_left × Stands names_left log_left
     meant None is h stands none = (tt, unchanged h.1 h.2 stands)
     meant (Some (verdict.Accepted a)) is h stands none =
         (is_meant k a is gives g names log names_left log_left h stands none, stands_left k a is gives g names log names_left log_left h stands none)

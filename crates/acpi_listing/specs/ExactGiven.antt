@@ -52,10 +52,10 @@ module _ (c : Checked) where
         [] log_left.events (before names n log)) a.bound names_left log_left.events
 
   -- the same of an object by what is said of it: only an accepted method is evaluated
-  abbrev pub IsMeant : ℕ → Option Verdict → Given → Names → Log → Names → Log → Type 0
-  IsMeant k (Some (verdict.Accepted a)) g names log names_left log_left =
+  abbrev pub IsMeantBy : ℕ → Option Verdict → Given → Names → Log → Names → Log → Type 0
+  IsMeantBy k (Some (verdict.Accepted a)) g names log names_left log_left =
       IsMeantFrom k a g names log names_left log_left
-  IsMeant k said g names log names_left log_left = Unit {0}
+  IsMeantBy k said g names log names_left log_left = Unit {0}
 
   -- the _CRS of a link device is evaluated as the meaning says, where it has one
   abbrev pub IsMeantCrs : (device : ObjectId) (crs : Option ℕ)
@@ -63,7 +63,7 @@ module _ (c : Checked) where
       (names_left : Names) (log_left : Log) →
       HasItemsBy c device crs r names log names_left log_left → Type 0
   IsMeantCrs device (Some crs) r names log names_left log_left has =
-      IsMeant crs (said_of c crs) has.0 names log names_left log_left
+      IsMeantBy crs (said_of c crs) has.0 names log names_left log_left
   IsMeantCrs device None r names log names_left log_left has = Unit {0}
 
   -- and so are those of devices, one after the other
@@ -83,7 +83,7 @@ module _ (c : Checked) where
       (names : Names) (log : Log) (names_left : Names) (log_left : Log) →
       GivesWith c k g links names log names_left log_left → Type 0
   AreMeantWith k g links names log names_left log_left gives =
-      IsMeant k (said_of c k) g names log gives.0 gives.1 ×
+      IsMeantBy k (said_of c k) g names log gives.0 gives.1 ×
       AreMeantCrs (devices_given g) links gives.0 gives.1 names_left log_left gives.3
 
   -- the same by what comes of it
@@ -103,7 +103,7 @@ ResourcesAreExact =
     ComesFrom interfaces tables told c →
     (id : ℕ) → gives_value (object_at (shown_by c).entries id) ≡ true →
     (bytes : ℕ → ℕ → ℕ) (g : Given) (over : GivesOver bytes c id g) →
-    IsMeant c id (said_of c id) g (first_names (shown_by c)) over.before over.names over.log
+    IsMeantBy c id (said_of c id) g (first_names (shown_by c)) over.before over.names over.log
 
 -- and so is what `routing` has of such an object and of the links that it names
 abbrev pub RoutesAreExact : Type 0
