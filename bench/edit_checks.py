@@ -19,8 +19,9 @@ HERE = os.path.dirname(os.path.abspath(__file__))
 PARTS = ("src", "specs", "proofs")
 TOLD = re.compile(r"(?:fn|cycle) (\S+): (.*)")
 AT = re.compile(r"(?:note: )?(?:\./)?((?:src|specs|proofs)/\S+?):(\d+):\d+: (.*)")
-# What a note says of a goal that is open, with the goal's name.
-UNPROVED = re.compile(r"note: .*?: it is not proved that .*\(`([^`]+)`\)")
+# What a note says of an open goal, with the goal's name, and of one that the prover finds to be false.
+IS_OPEN = re.compile(r"note: .*?: it is not proved that .*\(`([^`]+)`\)")
+IS_FALSE = re.compile(IS_OPEN.pattern + "; the facts known there allow values at which this goal is false")
 # What is said where a name went that a proof file cites: it shows nothing of the contract.
 A_NAME = re.compile(r"has no field|is not in scope|has no `|was not admitted|cannot find")
 # The prover's own limits, which it meets wherever it checks the same.
@@ -35,6 +36,11 @@ def kit():
     return os.path.dirname(ran.stdout.strip())
 
 
+def prefix_of(words):
+    """The words behind which a command runs: these, and those of EDITS_PREFIX."""
+    return [*words, *shlex.split(os.environ.get("EDITS_PREFIX", ""))]
+
+
 def linked(folder, to):
     """Copies what checks kept: what was proved by links, since a check replaces such a file and changes none."""
 
@@ -46,6 +52,12 @@ def linked(folder, to):
 
     shutil.copytree(folder, to, symlinks=True, copy_function=lambda one, other: copy(one, other) if
                     one.endswith((".oantt", ".a")) else shutil.copy2(one, other))
+
+
+def heads_of(name):
+    """How the names of goals and answers begin that are of a function, in a cycle of calls: by its path or the end of it."""
+    parts = name.split("::")[1:]
+    return tuple("::".join(parts[at:]) + "-" for at in range(len(parts)))
 
 
 class Said:
@@ -67,25 +79,21 @@ class Said:
 
     def goals(self, name):
         """The goals of its own that a function's line names; of a cycle of calls those that bear the function's name."""
-        state = self.states.get(name, "")
         # (what follows these words is of another function of the cycle)
-        found = None if "of this cycle of calls" in state else re.search(r"did not prove (.*?)(?:; |$)", state)
+        state = self.states.get(name, "").partition(", of this cycle of calls")[0]
+        found = re.search(r"did not prove (.*?)(?:; |$)", state)
         goals = re.findall(r"`([^`]+)`", found[1]) if found else []
-        own = name.partition("::")[2]
-        return [it for it in goals if "::" not in it or it.startswith(f"{own}-")]
+        return [it for it in goals if "/+" not in state or it.startswith(heads_of(name))]
 
     def answers(self, name):
         """The errors in the proof files of a function alone, or of a cycle of calls at an answer that bears its name."""
-        own = name.partition("::")[2]
-        parts = own.split("::")
-        folder = f"proofs/{'/'.join(parts)}/"
-        heads = tuple("::".join(parts[at:]) + "-" for at in range(len(parts)))
+        folder = f"proofs/{name.partition('::')[2].replace('::', '/')}/"
         found = []
         for path, _, line in self.places:
             answer = re.search(r": error: `([^`]+)`", line)
             if path.startswith(folder) and ": error" in line:
                 found.append(line)
-            elif "/+" in path and answer and answer[1].startswith(heads):
+            elif "/+" in path and answer and answer[1].startswith(heads_of(name)):
                 found.append(line)
         return found
 
@@ -113,11 +121,16 @@ class Said:
             return REFUSED, f"{name} at {AT.match(answers[0])[3].removeprefix('error: ')[:120]}"
         return UNSURE, f"{name}: {state[:160] or 'nothing was said of it'}"
 
-    def unproved(self, path, function):
-        """The goals of which a note tells, at a place in a function, that they are not proved, as where the function's proof
-        file answers goals that it no longer has."""
+    def lost(self, name):
+        """What is said of a function's answers to goals that are not there, or that cite what is not."""
+        return [it for it in self.answers(name) if A_NAME.search(it)]
+
+    def open_goals(self, path, function, names):
+        """The goals of which a note tells, at a place in a function, that they are not proved: no line names them where an
+        answer in the function's proof file fails. Where an answer lost what it names it might have proved one of them, so
+        those count alone that are told to be false."""
         told = [line for at, number, line in self.places if at == path and function.first <= number <= function.last]
-        notes = map(UNPROVED.match, told)
+        notes = map((IS_FALSE if any(map(self.lost, names)) else IS_OPEN).match, told)
         return list(dict.fromkeys(it[1] for it in notes if it))
 
     def of_edit(self, sources, edit):
@@ -126,7 +139,7 @@ class Said:
         for path, function in sources.reached_at(edit):
             names = edit_texts.names_of(sources.crate, function, self.states)
             said = [self.of_function(it) for it in names] or [(UNSURE, f"the check names no function {function.name}")]
-            goals = self.unproved(path, function)
+            goals = self.open_goals(path, function, names)
             if goals and all(kind == UNSURE for kind, _ in said):
                 said = [(REFUSED, f"{sources.crate}::{edit_texts.path_of(function)} at {', '.join(goals)}")]
             told += said
@@ -142,7 +155,7 @@ class Room:
 
     def __init__(self, top, room, crate, crates, after_gate, jobs, prefix=()):
         self.top, self.room, self.crate, self.jobs, self.kit = top, room, crate, jobs, kit()
-        self.prefix = [*prefix, *shlex.split(os.environ.get("EDITS_PREFIX", ""))]
+        self.prefix = prefix_of(prefix)
         self.crates, self.seconds, self.checks, self.most = crates, 0.0, 0, 0
         self.folder = f"{room}/crates/{crate}"
         self.sources = edit_texts.Sources(top, crate)

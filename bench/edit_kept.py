@@ -8,8 +8,8 @@ import tempfile
 import edit_checks
 
 HERE = os.path.dirname(os.path.abspath(__file__))
-# The texts of the scripts, as they were when they were read.
-SCRIPTS = b"".join(open(f"{HERE}/{it}.py", "rb").read() for it in ("edits", "edit_checks", "edit_kept", "edit_texts"))
+# The texts of the scripts that judge, as they were when they were read. In which order they are tried is not among it.
+SCRIPTS = b"".join(open(f"{HERE}/{it}.py", "rb").read() for it in ("edit_trials", "edit_checks", "edit_kept", "edit_texts"))
 
 
 class Kept:

@@ -15,8 +15,9 @@ CONSTANT = re.compile(r"\s*(?:pub(?:\([^)]*\))? )?const (\w+):")
 # As rt fmt lays them out, on a line or two: `impl<T> Type<T>` and `impl<T> Trait<U> for Type<T>`.
 IMPL = re.compile(r"(?:unsafe )?(impl|trait)\b")
 
-# A function as the source has it: its module's path, the type and the trait of its impl, its name, its first and last line.
-Function = collections.namedtuple("Function", "module type trait name first last")
+# A function as the source has it: its module's path, the type and the trait of its impl, its name, its first line, that of its
+# attributes where it has some, that of its head, and its last.
+Function = collections.namedtuple("Function", "module type trait name first head last")
 
 
 @dataclasses.dataclass(eq=False)
@@ -158,7 +159,11 @@ def functions_of(path, text):
         head = FUNCTION.match(line)
         if not head:
             continue
-        found.append(Function(module, kind, trait, head[2], at, last_line(lines, at, head[1])))
+        # (of what begins with attributes, a check tells the place of these)
+        first = at
+        while lines[first - 1].strip().startswith("#["):
+            first -= 1
+        found.append(Function(module, kind, trait, head[2], first, at, last_line(lines, at, head[1])))
     return found
 
 

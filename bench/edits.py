@@ -9,7 +9,8 @@ must refuse it. Edits of different functions are laid in together, and one check
 goals of its own were not proved, and which it lacks only since it calls one that is refused. An edit whose function has
 a goal of its own refused is refused. One that inherited its refusal, or whose function was not reached, goes into
 another check without those that it calls, and in the end alone; so does one of a constant, at first by a check of the
-functions that name it.
+functions that name it. Where the function's proof file answers goals that the edit took away, it is refused if the
+prover finds an open goal there to be false.
 
 It fails where an edit is still proved, where an old text does not stand just once, where it does not compile (what the
 front end refused with others it reads again alone), where it fell only by a name that went, which a proof file cites,
@@ -19,12 +20,12 @@ What was refused is kept, in the folder acpicheck-edits of $XDG_CACHE_HOME or el
 it stands on: the toolchain, the crate and those below, the edit and these scripts. With the word `after` the lines of
 what ran before are read from standard input and printed, the last line counts its checks too, and libraries that the
 gate has just built are used; crates that are named are tried, or else all. As soon as a line says that a crate is
-proved, its edits are tried on what processors the gate leaves idle, and those of the rest when it has ended. MINUTES
-behind the start no other crate is begun, and what was not is told: on a slow machine the gate ends all the same, and
-the next one there goes on from what is kept. The crates whose checks are long come first where three or more go on at
-once, else last, and are not begun in the last third of MINUTES. Nothing in the work tree changes. With the word `clear`
-the libraries that an earlier gate left are removed, so that those that are found later are of the gate that ran in
-between.
+proved, its edits are tried on what processors the gate leaves idle, and those of the rest when it has ended: in each
+crate first one edit of each function, in one check, and when that is done for all crates what is left, where checks are
+short first. MINUTES behind the start no other check is begun, and what was not tried is told: on a slow machine the gate
+ends all the same, and the next one there goes on from what is kept. The crates whose checks are long come first where
+three or more go on at once, else last. Nothing in the work tree changes. With the word `clear` the libraries that an
+earlier gate left are removed, so that those that are found later are of the gate that ran in between.
 """
 import concurrent.futures
 import glob
@@ -40,144 +41,14 @@ import time
 import edit_checks
 import edit_kept
 import edit_texts
-from edit_checks import PROVED, REFUSED, UNSURE
+import edit_trials
+from edit_checks import REFUSED, UNSURE
 
 TOP = os.path.dirname(os.path.dirname(os.path.abspath(__file__)))
 COUNTS = re.compile(r"(\d+) passed, (\d+) failed\n?")
 IS_PROVED = re.compile(r"rt: (\w+) proved\n?")
-# How often an edit goes into a check with others before it is tried alone.
-MOST = 3
 # The evaluators, in whose cycles of calls a check of any function is one of all, and takes some minutes.
 LONG = ("aml_direct", "aml_plain")
-
-
-class Trial:
-    """The edits of one crate, as they are tried."""
-
-    def __init__(self, room, edits):
-        self.room, self.sources, self.left = room, room.sources, list(edits)
-        self.found, self.blocked, self.tries = {}, {}, dict.fromkeys((it.name for it in edits), 0)
-        self.batches = []
-
-    def settle(self, edit, kind, text):
-        self.found[edit.name] = (kind, text)
-        self.left.remove(edit)
-
-    def leave_out_what_does_not_compile(self, batch, said):
-        """Settles those of a batch, of which the front end refused some, that it refuses alone too; whether there are any."""
-        left = len(self.left)
-        while batch and said.status != 0:
-            suspects = self.suspects(batch, said) or batch
-            for edit in suspects:
-                alone = self.room.check([edit], [""])
-                if alone.status != 0:
-                    self.settle_as_no_code(edit, alone)
-            batch = [it for it in batch if it not in suspects]
-            said = self.room.check(batch, [""])
-        return len(self.left) < left
-
-    def settle_as_no_code(self, edit, said):
-        told = [it[2] for it in said.compile_errors()] or said.lines[-1:]
-        self.settle(edit, UNSURE, f"it does not compile: {told[0][:200]}")
-
-    def suspects(self, batch, said):
-        """The edits in whose lines, or else in whose functions, the front end found fault."""
-        errors = [(path, line) for path, line, _ in said.compile_errors()]
-        found = [it for it in batch if any(place in it.lines for place in errors)]
-        at = {self.sources.function_at(*place) for place in errors}
-        return found or [it for it in batch if self.sources.touched(it) & at]
-
-    def next_batch(self):
-        """Edits of different functions, none of which is known to call another's; first those that were tried most."""
-        batch, taken = [], set()
-        for edit in sorted(self.left, key=lambda it: -self.tries[it.name]):
-            own = self.sources.touched(edit)
-            bars = self.blocked.get(edit.name, set())
-            if not own or self.tries[edit.name] >= MOST or own & taken or bars & taken:
-                continue
-            if any(self.blocked.get(it.name, set()) & own for it in batch):
-                continue
-            batch.append(edit)
-            taken |= own
-        return batch
-
-    def try_together(self, batch):
-        said = self.check(batch)
-        self.batches.append(len(batch))
-        if not said.ended:
-            if said.compile_errors() and self.leave_out_what_does_not_compile(batch, said):
-                return
-            # it says nothing sure: smaller ones
-            for edit in batch:
-                self.tries[edit.name] = MOST if len(batch) < 3 else self.tries[edit.name] + 1
-            return
-        others = {name: it for it in batch for f in self.sources.touched(it)
-                  for name in edit_texts.names_of(self.room.crate, f, said.states)}
-        for edit in batch:
-            kind, text = said.of_edit(self.sources, edit)
-            if kind == REFUSED:
-                self.settle(edit, REFUSED, text)
-                continue
-            self.tries[edit.name] = MOST if kind == PROVED else self.tries[edit.name] + 1
-            names = [name for name, it in others.items() if it is edit]
-            bars = {others[it] for name in names for it in said.callees(name) if it in others} - {edit}
-            self.blocked.setdefault(edit.name, set()).update(*(self.sources.touched(it) for it in bars))
-            if not bars:
-                self.tries[edit.name] = MOST
-
-    def check(self, batch):
-        """What a check says of the functions that the batch reaches; where it finds one by no name of its own, of their modules."""
-        functions = {function for it in batch for function in self.sources.reached(it)}
-        said = self.room.check(batch, sorted(map(edit_texts.path_of, functions)))
-        if said.finds_no_function():
-            modules = sorted({it.module for it in functions})
-            said = self.room.check(batch, None if "" in modules else modules)
-        return said
-
-    def try_alone(self, edit):
-        """Judges an edit by what the check of the crate with it alone says, by its own functions and then by all."""
-        self.batches.append(1)
-        if self.sources.reached(edit):
-            said = self.check([edit])
-            kind, text = said.of_edit(self.sources, edit)
-            if kind == REFUSED:
-                self.settle(edit, REFUSED, text)
-                return
-        said = self.room.check([edit])
-        kind, text = said.of_edit(self.sources, edit)
-        if not said.ended and said.compile_errors():
-            self.settle_as_no_code(edit, said)
-        elif said.status == 0 and said.ended:
-            self.settle(edit, PROVED, "STILL PROVED: the contract is too weak, or it means the same")
-        elif said.status == 3 and any(map(edit_checks.LIMIT.search, said.lines)):
-            self.settle(edit, UNSURE, "a limit of the prover, which gave no verdict, shows nothing of the contract")
-        elif not said.ended or said.status != 1:
-            self.settle(edit, UNSURE, f"NOT TRIED: its check ended with status {said.status}: {said.lines[-2:]}"[:300])
-        elif kind == REFUSED:
-            self.settle(edit, REFUSED, text)
-        else:
-            self.settle(edit, *self.by_any(said))
-
-    def by_any(self, said):
-        """What the check of one edit alone says by any function's goals."""
-        for name in said.states:
-            kind, text = said.of_function(name)
-            if kind == REFUSED:
-                return REFUSED, text
-        told = [line for _, _, line in said.places if ": error" in line or line.startswith("note: ")]
-        real = [it for it in told if not edit_checks.A_NAME.search(it)]
-        if real:
-            return REFUSED, real[0][:200]
-        return UNSURE, f"it fell only by a name that went, which shows nothing of the contract: {(told or said.lines[-1:])[0][:200]}"
-
-    def run(self):
-        while batch := self.next_batch():
-            if len(batch) == 1:
-                self.tries[batch[0].name] = MOST
-            else:
-                self.try_together(batch)
-        for edit in list(self.left):
-            self.try_alone(edit)
 
 
 def free_memory():
@@ -196,74 +67,127 @@ def lanes(count):
     return at_once, int(jobs) if jobs.isdigit() else max(1, min(4, cores() // at_once))
 
 
-def tried(top, crates, crate, only, kept, after_gate, jobs, prefix=()):
-    """Tries a crate's edits, and returns what to print, and how many passed and failed."""
-    told, passed, failed, edits = [], 0, 0, []
-    for file in edit_texts.edit_files(top, crate):
-        name = os.path.basename(file).removesuffix(".edit")
-        if only and name != only:
-            continue
+class Edits:
+    """The edits of a crate, as they are tried: what is told of them, and how many were refused and how many not."""
+
+    def __init__(self, top, crates, crate, only, kept, after_gate):
+        self.top, self.crates, self.crate, self.kept, self.after_gate = top, crates, crate, kept, after_gate
+        self.told, self.passed, self.failed, self.edits, self.trial, self.place = [], 0, 0, [], None, None
+        for file in edit_texts.edit_files(top, crate):
+            name = os.path.basename(file).removesuffix(".edit")
+            if not only or name == only:
+                self.add(name, file)
+
+    def add(self, name, file):
+        """Reads an edit, and looks whether it was refused before."""
         try:
-            edit = edit_texts.read_edit(top, crate, file)
+            edit = edit_texts.read_edit(self.top, self.crate, file)
+            if any(it.name == name for it in self.edits):
+                raise edit_texts.BadEdit("two edits have that name")
         except (edit_texts.BadEdit, OSError, ValueError) as why:
-            told.append(f"edit {crate}/{name}: BAD EDIT: {why}")
-            failed += 1
-            continue
-        if any(it.name == name for it in edits):
-            told.append(f"edit {crate}/{name}: BAD EDIT: two edits have that name")
-            failed += 1
-            continue
-        where = kept.where(edit) if kept else None
+            self.told.append(f"edit {self.crate}/{name}: BAD EDIT: {why}")
+            self.failed += 1
+            return
+        where = self.kept.where(edit) if self.kept else None
         if where is None:
-            edits.append(edit)
+            self.edits.append(edit)
         else:
-            told.append(f"edit {crate}/{name}: refused: {where} (kept)")
-            passed += 1
-    if not edits:
-        return told, passed, failed
-    with tempfile.TemporaryDirectory(prefix="edits-") as place:
-        room = edit_checks.Room(top, place, crate, crates, after_gate, jobs, prefix)
+            self.told.append(f"edit {self.crate}/{name}: refused: {where} (kept)")
+            self.passed += 1
+
+    def first(self, jobs, prefix=()):
+        """Tries one edit of each function; whether any are left."""
+        if not self.edits:
+            return False
+        self.place = tempfile.TemporaryDirectory(prefix="edits-")
+        room = edit_checks.Room(self.top, self.place.name, self.crate, self.crates, self.after_gate, jobs, prefix)
         why = room.build_below()
         if why:
-            told.append(f"edits of {crate}: NOT TRIED: the crate as it stands is not read, or a library below it is not built: {why}")
-            return told, passed, failed + len(edits)
-        trial = Trial(room, edits)
-        trial.run()
-    for edit in edits:
-        kind, text = trial.found.get(edit.name, (UNSURE, "nothing was said of it"))
-        told.append(f"edit {crate}/{edit.name}: {'refused: ' if kind == REFUSED else 'NOT REFUSED: '}{text}")
-        if kind == REFUSED and kept:
-            kept.keep(edit, text)
-        passed, failed = passed + (kind == REFUSED), failed + (kind != REFUSED)
-    told.append(f"edits of {crate}: {len(edits)} in {len(trial.batches)} checks of {trial.batches} edits, "
-                f"{room.seconds:.0f} processor seconds, {room.most / 1048576:.1f} GiB")
-    return told, passed, failed
+            self.told.append(f"edits of {self.crate}: NOT TRIED: the crate as it stands is not read, or a library below it is not built: {why}")
+            self.failed += len(self.edits)
+            return False
+        self.trial = edit_trials.Trial(room, self.edits)
+        self.trial.first()
+        return bool(self.trial.left)
+
+    def rest(self, jobs, may_go_on):
+        """Tries those that are left, and tells of those for which there is no more time."""
+        self.trial.room.jobs, self.trial.room.prefix = jobs, edit_checks.prefix_of(())
+        if not self.trial.rest(may_go_on):
+            left = len(self.trial.left)
+            self.told.append(f"edits of {self.crate}: {left} of {len(self.edits)} not tried, as the time for them is over: make edits CRATE={self.crate} does")
+
+    def end(self):
+        """Counts and keeps what was found, and removes the room that it was found in."""
+        if self.trial:
+            left, room = {it.name for it in self.trial.left}, self.trial.room
+            for edit in self.edits:
+                if edit.name not in left:
+                    self.count(edit, *self.trial.found.get(edit.name, (UNSURE, "nothing was said of it")))
+            self.told.append(f"edits of {self.crate}: {len(self.edits) - len(left)} in {len(self.trial.batches)} checks of {self.trial.batches} edits, "
+                             f"{room.seconds:.0f} processor seconds, {room.most / 1048576:.1f} GiB")
+        if self.place:
+            self.place.cleanup()
+
+    def count(self, edit, kind, text):
+        self.told.append(f"edit {self.crate}/{edit.name}: {'refused: ' if kind == REFUSED else 'NOT REFUSED: '}{text}")
+        if kind == REFUSED and self.kept:
+            self.kept.keep(edit, text)
+        self.passed, self.failed = self.passed + (kind == REFUSED), self.failed + (kind != REFUSED)
 
 
 class Runs:
-    """The crates whose edits are tried, each once, and how many edits passed and failed."""
+    """The crates whose edits are tried, one edit of each function at first, and how many edits passed and failed."""
 
-    def __init__(self, try_crate, minutes):
-        self.try_crate, self.lock, self.begun = try_crate, threading.Lock(), set()
+    def __init__(self, edits_of, minutes):
+        self.edits_of, self.lock, self.begun, self.left = edits_of, threading.Lock(), set(), []
         self.passed = self.failed = 0
-        self.start, self.seconds = time.monotonic(), 60 * minutes
+        self.end = time.monotonic() + 60 * minutes
 
-    def one(self, crate, jobs, prefix=(), least=0):
-        """Tries a crate's edits and prints what was found, unless less memory is free or they were tried already."""
+    def may_go_on(self):
+        return time.monotonic() <= self.end
+
+    def first(self, crate, jobs, prefix=(), least=0):
+        """Tries one edit of each function of a crate, unless less memory is free or they were tried already."""
         with self.lock:
             if crate in self.begun or free_memory() < least:
                 return
             self.begun.add(crate)
-            if time.monotonic() - self.start > self.seconds * (2 / 3 if crate in LONG else 1):
+            if not self.may_go_on():
                 print(f"edits of {crate}: not tried, as the time for them is over: make edits CRATE={crate} does", flush=True)
                 return
-        try:
-            told, right, wrong = self.try_crate(crate, jobs, prefix)
-        except (OSError, ValueError, KeyError, IndexError, subprocess.SubprocessError, shutil.Error) as why:
-            told, right, wrong = [f"edits of {crate}: NOT TRIED: {why!r}"], 0, 1
+        self.told(crate, lambda: self.try_first(self.edits_of(crate), jobs, prefix))
+
+    def try_first(self, edits, jobs, prefix):
+        if edits.first(jobs, prefix):
+            with self.lock:
+                self.left.append(edits)
+        else:
+            self.ended(edits)
+
+    def rest(self, edits, jobs):
+        """Tries the edits of a crate that are left."""
+
+        def to_the_end():
+            edits.rest(jobs, self.may_go_on)
+            self.ended(edits)
+
+        self.told(edits.crate, to_the_end)
+
+    def ended(self, edits):
+        edits.end()
         with self.lock:
-            print("\n".join(told), flush=True)
-            self.passed, self.failed = self.passed + right, self.failed + wrong
+            print("\n".join(edits.told), flush=True)
+            self.passed, self.failed = self.passed + edits.passed, self.failed + edits.failed
+
+    def told(self, crate, tries):
+        """Has what went wrong with the trial itself told as a failure."""
+        try:
+            tries()
+        except (OSError, ValueError, KeyError, IndexError, subprocess.SubprocessError, shutil.Error) as why:
+            with self.lock:
+                print(f"edits of {crate}: NOT TRIED: {why!r}", flush=True)
+                self.failed += 1
 
 
 def can_begin_early(top):
@@ -281,7 +205,7 @@ def counts_of(lines, top, chosen, runs):
         print(last, end="", flush=True)
         proved = IS_PROVED.fullmatch(last)
         if proved and proved[1] in chosen and (proved[1] not in LONG or cores() > 2) and can_begin_early(top):
-            begun.append(pool.submit(runs.one, proved[1], 1, ("nice", "-n", "19"), 6_000_000_000))
+            begun.append(pool.submit(runs.first, proved[1], 1, ("nice", "-n", "19"), 6_000_000_000))
     pool.shutdown(wait=False, cancel_futures=True)
     counts = COUNTS.fullmatch(last)
     return (int(counts[1]), int(counts[2])) if counts else (0, 1), [it for it in begun if not it.cancelled()]
@@ -309,7 +233,7 @@ def main(words, top=TOP, kept=None):
         return 2
     chosen = [it for it in crates if (not wanted or it in wanted) and edit_texts.edit_files(top, it)]
     kept = None if only_edit else kept or edit_kept.Kept(top, crates)
-    runs = Runs(lambda crate, jobs, prefix: tried(top, crates, crate, only_edit, kept, after, jobs, prefix), minutes)
+    runs = Runs(lambda crate: Edits(top, crates, crate, only_edit, kept, after), minutes)
     (passed, failed), early = counts_of(sys.stdin, top, chosen, runs) if after else ((0, 0), [])
     before = passed + failed
     if failed:
@@ -327,8 +251,12 @@ def main(words, top=TOP, kept=None):
     with concurrent.futures.ThreadPoolExecutor(at_once) as pool:
         # those with the most edits first; the long ones before them, or where few go on at once behind all
         for it in sorted(chosen, key=lambda it: ((it in LONG) == (at_once < 3), -len(edit_texts.edit_files(top, it)))):
-            pool.submit(runs.one, it, jobs)
+            pool.submit(runs.first, it, jobs)
     concurrent.futures.wait(early)
+    with concurrent.futures.ThreadPoolExecutor(at_once) as pool:
+        # those whose checks are short first, so that as many as may be are tried
+        for it in sorted(runs.left, key=lambda it: it.trial.room.seconds):
+            pool.submit(runs.rest, it, jobs)
     passed, failed = passed + runs.passed, failed + runs.failed
     if before == passed + failed:
         print("edits: there is none")

@@ -54,6 +54,21 @@ pub fn bounded(n: u32) -> u32
     if n < MOST { n } else { MOST }
 }
 
+/// At most a number, by two steps of which each calls the other.
+#[cycle(steps)]
+pub fn down(n: u32) -> u32
+    ensures { result ≤ n }
+{
+    if n == 0 { 0 } else { across(n - 1) }
+}
+
+#[cycle(steps)]
+fn across(n: u32) -> u32
+    ensures { result ≤ n }
+{
+    if n < 2 { n } else { down(n - 1) }
+}
+
 /// The sum of the bytes, of which there are few enough that it fits.
 pub fn total(a: &[u8]) -> usize
     requires { length a.now ≤ 65536 }
@@ -72,6 +87,14 @@ use Rattle.tiny.proofs.total.Given as goal
 abbrev pub invariant-loop-b : goal.invariant-loop-b
 invariant-loop-b l = l.sum ≤ 255 * l.b-index
 """
+MEASURES = """use Rattle.tiny.proofs.+steps.Given as goal
+
+abbrev pub decreases-across : goal.decreases-across
+decreases-across l = l.n
+
+abbrev pub decreases-down : goal.decreases-down
+decreases-down l = l.n
+"""
 # Each edit, its pairs, and what must be told of it.
 EDITS = {
     "greater_number_told": ([("if a < b", "if b < a")], "refused: tiny::lesser at "),
@@ -79,6 +102,8 @@ EDITS = {
     "greater_bound": ([("const MOST: u32 = 7;", "const MOST: u32 = 8;")], "refused: tiny::bounded at "),
     "right_constant": ([("const MOST: u32 = 7;", "const MOST: u32 = 6;")], "NOT REFUSED: STILL PROVED"),
     "right_code": ([("n / 2", "n / 4")], "NOT REFUSED: STILL PROVED"),
+    "one_where_there_is_none": ([("{ 0 } else { across", "{ 1 } else { across")], "refused: tiny::down at "),
+    "right_code_in_a_cycle": ([("if n < 2 { n }", "if n < 2 { 0 }")], "NOT REFUSED: STILL PROVED"),
     "no_code": ([("for b in a {", "for b in two {")], "NOT REFUSED: it does not compile"),
     "text_that_stands_twice": ([("ensures first { result ≤ a }", "")], "BAD EDIT: an old text stands in src/lib.rt 2 times"),
     "another_name": (
@@ -98,6 +123,7 @@ def lay_out(top):
     write(top, "crates.txt", "tiny:\n")
     write(top, "crates/tiny/src/lib.rt", SOURCE)
     write(top, "crates/tiny/proofs/total/Invariants.antt", INVARIANTS)
+    write(top, "crates/tiny/proofs/+steps/Invariants.antt", MEASURES)
     for number, (name, (pairs, _)) in enumerate(EDITS.items()):
         text = "file: src/lib.rt\n" + "".join(f"old: {old}\nnew: {new}\n" for old, new in pairs)
         write(top, f"crates/tiny/{'edits' if number else 'must-fail'}/{name}.edit", text)

@@ -22,8 +22,8 @@ def uncovered(crate):
     for path, functions in sources.functions.items():
         lines = sources.texts[path].split("\n")
         for function in functions:
-            is_public = re.match(r"\s*pub (const )?fn", lines[function.first])
-            is_law = not any(lines[at].endswith("{") for at in range(function.first, function.last))
+            is_public = re.match(r"\s*pub (const )?fn", lines[function.head])
+            is_law = not any(lines[at].endswith("{") for at in range(function.head, function.last))
             if is_public and not is_law and function not in touched:
                 yield path, function
 
@@ -34,7 +34,7 @@ def main(words):
             continue
         for path, function in uncovered(crate):
             name = "::".join(it for it in (function.type, function.trait, function.name) if it)
-            print(f"crates/{crate}/{path}:{function.first + 1}: {name}")
+            print(f"crates/{crate}/{path}:{function.head + 1}: {name}")
 
 
 if __name__ == "__main__":

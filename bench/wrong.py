@@ -63,7 +63,7 @@ def turned(line, variants):
 
 def body_of(lines, function):
     """The lines of a function's body, without its head and its contract."""
-    for at in range(function.first, function.last + 1):
+    for at in range(function.head, function.last + 1):
         if lines[at].endswith("{"):
             return range(at + 1, function.last)
     return range(0)

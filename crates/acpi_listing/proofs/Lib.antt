@@ -7,6 +7,3 @@ pub mod Started
 pub mod Judgements
 pub mod GivenListed
 pub mod RoutesListed
-pub mod Listed
-pub mod Exact
-pub mod ExactGiven

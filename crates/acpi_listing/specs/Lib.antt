@@ -6,6 +6,4 @@ pub mod Inputs
 pub mod Madt
 pub mod Loading
 pub mod Commands
-pub mod Exact
-pub mod ExactGiven
 pub mod Program

@@ -1,13 +1,12 @@
 //! What `acpicheck` does: its commands, over any reader, writer and source of files. `program` and
 //! `command_line` run them; `files`, `names`, `verify`, `eval`, `resources` and `routing` are the
 //! commands, `objects` what the last two ask for; `load`, `madt`, `regs` and `signed` are what they
-//! read, `tell` what people are told, `stop` why a command ends; `law` says what is evaluated.
+//! read, `tell` what people are told, `stop` why a command ends.
 #![tactic(auto)]
 
 mod command_line;
 mod eval;
 mod files;
-mod law;
 mod load;
 mod madt;
 mod names;
@@ -22,5 +21,4 @@ mod tell;
 mod verify;
 
 pub use command_line::run_program;
-pub use law::{evals_are_exact, resources_are_exact, routes_are_exact};
 pub use program::{run, run_words};

@@ -1,7 +1,12 @@
-// What `eval`, `resources` and `routing` have of an accepted method: the laws.
+//! What `eval`, `resources` and `routing` have of accepted methods is just what these mean: laws
+//! over what the commands' own contracts say (ACPI 6.5, 5.5.2 and 19.6).
+//!
+//! `specs/Evals` says it of an outcome and its events, `specs/Givens` of the values that objects
+//! give, one after the other.
+#![tactic(auto)]
 
-ghost use Rattle.acpi_listing.specs.Exact.{EvalsAreExact};
-ghost use Rattle.acpi_listing.specs.ExactGiven.{ResourcesAreExact, RoutesAreExact};
+ghost use Rattle.acpi_exact.specs.Evals.{EvalsAreExact};
+ghost use Rattle.acpi_exact.specs.Givens.{ResourcesAreExact, RoutesAreExact};
 
 /// What `eval` answers of an accepted method, the outcome and the events until then, is just what
 /// the meaning of its body is with as many steps as its verdict says, from what the tables give its

@@ -1,7 +1,7 @@
 -- What `resources` and `routing` have of objects is the meaning's, since an accepted method meets no error.
 use Rattle.std.proofs.Common.{◌≡◌, ◌∙◌, ℕ, zero, suc, List, [], ◌∷◌, ◌++◌, Result, Ok, Err, Option, Some, None, ap, inl, inr, refl, subst, sym, true}
-use Rattle.acpi_listing.proofs.Exact.{from_files, leave_both}
-use Rattle.acpi_listing.specs.ExactGiven.{AreMeantCrs, AreMeantPrt, AreMeantWith, IsMeantBy, IsMeantCrs, IsMeantFrom, ResourcesAreExact, RoutesAreExact}
+use Rattle.acpi_exact.proofs.Evals.{from_files, leave_both}
+use Rattle.acpi_exact.specs.Givens.{AreMeantCrs, AreMeantPrt, AreMeantWith, IsMeantBy, IsMeantCrs, IsMeantFrom, ResourcesAreExact, RoutesAreExact}
 use Rattle.acpi_listing.specs.Loading.{os_name}
 use Rattle.acpi_objects.proofs.NoArguments.{takes_none}
 use Rattle.acpi_objects.specs.Gives.{GivesBy, IsEvaluated, gives_value}

@@ -2,7 +2,7 @@
 use Rattle.std.specs.Prelude.{◌≡◌, ℕ, List, [], ◌∷◌, Option, Some, None, Result, Ok, Err, true}
 use Rattle.std.proofs.Common.{inl, inr}
 use Rattle.acpi_listing.specs.Commands.{GivesOver, PrtOver}
-use Rattle.acpi_listing.specs.Exact.{ComesFrom}
+use Rattle.acpi_exact.specs.Evals.{ComesFrom}
 use Rattle.acpi_objects.specs.Gives.{IsGiven, gives_value}
 use Rattle.acpi_objects.specs.declared.given.Given.{Given}
 use Rattle.acpi_resources.specs.Interrupts.{Links, crs_of_links}

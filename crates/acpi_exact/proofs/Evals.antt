@@ -1,8 +1,8 @@
 -- What `eval` answers of an accepted method is the meaning's, since that meets no error.
 use Rattle.std.proofs.Common.{◌≡◌, ◌∙◌, ℕ, zero, suc, List, [], ◌∷◌, ◌++◌, Option, ap, rules, subst, sym, true}
-use Rattle.acpi_listing.proofs.Listed.{listed_whole}
+use Rattle.acpi_exact.proofs.Listed.{listed_whole}
 use Rattle.aml_literal_laws.specs.Laws.{first_names}
-use Rattle.acpi_listing.specs.Exact.{ComesFrom, EvalsAreExact, IsAsked}
+use Rattle.acpi_exact.specs.Evals.{ComesFrom, EvalsAreExact, IsAsked}
 use Rattle.acpi_listing.specs.Loading.{os_name}
 use Rattle.aml_interp.proofs.Accepted.{args_told}
 use Rattle.aml_interp.proofs.Ends.{no_error}

@@ -1,0 +1,2 @@
+pub mod Evals
+pub mod Givens
