@@ -47,6 +47,8 @@ from edit_checks import REFUSED, UNSURE
 TOP = os.path.dirname(os.path.dirname(os.path.abspath(__file__)))
 COUNTS = re.compile(r"(\d+) passed, (\d+) failed\n?")
 IS_PROVED = re.compile(r"rt: (\w+) proved\n?")
+# Bytes free on the disk, below which what a crate's first check kept makes room for others.
+ROOM = 20_000_000_000
 # The evaluators, in whose cycles of calls a check of any function is one of all, and takes some minutes.
 LONG = ("aml_direct", "aml_plain")
 
@@ -108,6 +110,10 @@ class Edits:
             return False
         self.trial = edit_trials.Trial(room, self.edits)
         self.trial.first()
+        self.keep()
+        if shutil.disk_usage(room.folder).free < ROOM:
+            shutil.rmtree(f"{room.folder}/out/incremental")
+            os.makedirs(f"{room.folder}/out/incremental")
         return bool(self.trial.left)
 
     def rest(self, jobs, may_go_on):
@@ -116,6 +122,13 @@ class Edits:
         if not self.trial.rest(may_go_on):
             left = len(self.trial.left)
             self.told.append(f"edits of {self.crate}: {left} of {len(self.edits)} not tried, as the time for them is over: make edits CRATE={self.crate} does")
+
+    def keep(self):
+        """Keeps which were refused so far."""
+        for edit in self.edits if self.kept else []:
+            kind, text = self.trial.found.get(edit.name, (UNSURE, ""))
+            if kind == REFUSED:
+                self.kept.keep(edit, text)
 
     def end(self):
         """Counts and keeps what was found, and removes the room that it was found in."""
@@ -126,13 +139,12 @@ class Edits:
                     self.count(edit, *self.trial.found.get(edit.name, (UNSURE, "nothing was said of it")))
             self.told.append(f"edits of {self.crate}: {len(self.edits) - len(left)} in {len(self.trial.batches)} checks of {self.trial.batches} edits, "
                              f"{room.seconds:.0f} processor seconds, {room.most / 1048576:.1f} GiB")
+            self.keep()
         if self.place:
             self.place.cleanup()
 
     def count(self, edit, kind, text):
         self.told.append(f"edit {self.crate}/{edit.name}: {'refused: ' if kind == REFUSED else 'NOT REFUSED: '}{text}")
-        if kind == REFUSED and self.kept:
-            self.kept.keep(edit, text)
         self.passed, self.failed = self.passed + (kind == REFUSED), self.failed + (kind != REFUSED)
 
 
