@@ -9,8 +9,8 @@ must refuse it. Edits of different functions are laid in together, and one check
 goals of its own were not proved, and which it lacks only since it calls one that is refused. An edit whose function has
 a goal of its own refused is refused. One that inherited its refusal, or whose function was not reached, goes into
 another check without those that it calls, and in the end alone; so does one of a constant, at first by a check of the
-functions that name it. Where the function's proof file answers goals that the edit took away, it is refused if the
-prover finds an open goal there to be false.
+functions that name it. Where the function's proof file answers goals that the edit took away, it is refused if a goal is
+open there; it is told of such an edit that an answer lost what it names, unless the prover finds such a goal to be false.
 
 It fails where an edit is still proved, where an old text does not stand just once, where it does not compile (what the
 front end refused with others it reads again alone), where it fell only by a name that went, which a proof file cites,
