@@ -28,6 +28,8 @@ A_NAME = re.compile(r"has no field|is not in scope|has no `|was not admitted|can
 LIMIT = re.compile(r"antt ran out of (stack|the (steps|memory) that)|(outgrew the memory limit|stopped at the step limit) \(")
 
 REFUSED, PROVED, UNSURE = "refused", "proved", "unsure"
+# What is told of an edit with which a goal is open that a lost answer might have proved.
+LOST = "open where an answer lost what it names"
 
 
 def kit():
@@ -60,11 +62,22 @@ def heads_of(name):
     return tuple("::".join(parts[at:]) + "-" for at in range(len(parts)))
 
 
+def lines_of(text):
+    """The lines of a check, an error that is told over more than one of them as one."""
+    found = []
+    for line in text.split("\n"):
+        if line.startswith("  ") and found and ": error: " in found[-1]:
+            found[-1] += f" {line.strip()}"
+        else:
+            found.append(line)
+    return found
+
+
 class Said:
     """What a check said, by its lines."""
 
     def __init__(self, status, text):
-        self.status, self.lines = status, text.split("\n")
+        self.status, self.lines = status, lines_of(text)
         self.states = {it[1]: it[2] for it in map(TOLD.fullmatch, self.lines) if it}
         self.places = [(it[1], int(it[2]) - 1, it[0]) for it in map(AT.match, self.lines) if it]
         self.ended = status in (0, 1) and any(re.match(r"only=\d|logic=(not-)?proved", it) for it in self.lines[-5:])
@@ -128,11 +141,11 @@ class Said:
     def open_goals(self, path, function, names):
         """The goals of which a note tells, at a place in a function, that they are not proved: no line names them where an
         answer in the function's proof file fails. It is told where an answer lost what it names, since it might have proved
-        one of them, unless one is told to be false: such an edit is to be written anew."""
+        one of them, unless one is told to be false."""
         told = [line for at, number, line in self.places if at == path and function.first <= number <= function.last]
         goals = ", ".join(dict.fromkeys(it[1] for it in map(IS_OPEN.match, told) if it))
         lost = any(map(self.lost, names)) and not any(map(IS_FALSE.match, told))
-        return f"{goals}, open where an answer lost what it names" if goals and lost else goals
+        return f"{goals}, {LOST}" if goals and lost else goals
 
     def of_edit(self, sources, edit):
         """What this says of an edit by its own functions, or by those that name the constants that it changes."""

@@ -10,22 +10,24 @@ goals of its own were not proved, and which it lacks only since it calls one tha
 a goal of its own refused is refused. One that inherited its refusal, or whose function was not reached, goes into
 another check without those that it calls, and in the end alone; so does one of a constant, at first by a check of the
 functions that name it. Where the function's proof file answers goals that the edit took away, it is refused if a goal is
-open there; it is told of such an edit that an answer lost what it names, unless the prover finds such a goal to be false.
+open there that the prover finds to be false, or if no answer lost what it names.
 
 It fails where an edit is still proved, where an old text does not stand just once, where it does not compile (what the
-front end refused with others it reads again alone), where it fell only by a name that went, which a proof file cites,
-and where the prover met only a limit of its own, and gave no verdict.
+front end refused with others it reads again alone), where it fell only by a name that went, which a proof file cites, or
+with a goal that an answer might have proved which lost such a name, and where the prover met only a limit of its own, and
+gave no verdict.
 
 What was refused is kept, in the folder acpicheck-edits of $XDG_CACHE_HOME or else in /var/tmp, by a checksum of all that
 it stands on: the toolchain, the crate and those below, the edit and these scripts. With the word `after` the lines of
 what ran before are read from standard input and printed, the last line counts its checks too, and libraries that the
 gate has just built are used; crates that are named are tried, or else all. As soon as a line says that a crate is
 proved, its edits are tried on what processors the gate leaves idle, and those of the rest when it has ended: in each
-crate first one edit of each function, in one check, and when that is done for all crates what is left, where checks are
-short first. MINUTES behind the start no other check is begun, and what was not tried is told: on a slow machine the gate
-ends all the same, and the next one there goes on from what is kept. The crates whose checks are long come first where
-three or more go on at once, else last. Nothing in the work tree changes. With the word `clear` the libraries that an
-earlier gate left are removed, so that those that are found later are of the gate that ran in between.
+crate first one edit of each public function, in one check (in the evaluators, whose checks are long, of each function),
+and when that is done for all crates what is left, where checks are short first. MINUTES behind the start no check of
+what is left is begun, nor a first one half an hour later, and what was not tried is told: on a slow machine the gate ends
+all the same, and the next one there goes on from what is kept. The crates whose checks are long come first where three or
+more go on at once, else last. Nothing in the work tree changes. With the word `clear` the libraries that an earlier gate
+left are removed, so that those that are found later are of the gate that ran in between.
 """
 import concurrent.futures
 import glob
@@ -51,6 +53,8 @@ IS_PROVED = re.compile(r"rt: (\w+) proved\n?")
 ROOM = 20_000_000_000
 # The evaluators, in whose cycles of calls a check of any function is one of all, and takes some minutes.
 LONG = ("aml_direct", "aml_plain")
+# How many minutes later than others a crate's first check may still begin.
+LATER = 30
 
 
 def free_memory():
@@ -94,11 +98,10 @@ class Edits:
         if where is None:
             self.edits.append(edit)
         else:
-            self.told.append(f"edit {self.crate}/{name}: refused: {where} (kept)")
-            self.passed += 1
+            self.count(edit, REFUSED, f"{where} (kept)")
 
     def first(self, jobs, prefix=()):
-        """Tries one edit of each function; whether any are left."""
+        """Tries one edit of each public function, in the evaluators of each function; whether any are left."""
         if not self.edits:
             return False
         self.place = tempfile.TemporaryDirectory(prefix="edits-")
@@ -109,7 +112,7 @@ class Edits:
             self.failed += len(self.edits)
             return False
         self.trial = edit_trials.Trial(room, self.edits)
-        self.trial.first()
+        self.trial.first(of_public=self.crate not in LONG)
         self.keep()
         if shutil.disk_usage(room.folder).free < ROOM:
             shutil.rmtree(f"{room.folder}/out/incremental")
@@ -127,7 +130,7 @@ class Edits:
         """Keeps which were refused so far."""
         for edit in self.edits if self.kept else []:
             kind, text = self.trial.found.get(edit.name, (UNSURE, ""))
-            if kind == REFUSED:
+            if kind == REFUSED and edit_checks.LOST not in text:
                 self.kept.keep(edit, text)
 
     def end(self):
@@ -144,28 +147,31 @@ class Edits:
             self.place.cleanup()
 
     def count(self, edit, kind, text):
+        """Counts what was found of an edit. Where a goal is open that a lost answer might have proved, nothing is shown."""
+        if edit_checks.LOST in text:
+            kind, text = UNSURE, f"{text}, so it is to be written anew"
         self.told.append(f"edit {self.crate}/{edit.name}: {'refused: ' if kind == REFUSED else 'NOT REFUSED: '}{text}")
         self.passed, self.failed = self.passed + (kind == REFUSED), self.failed + (kind != REFUSED)
 
 
 class Runs:
-    """The crates whose edits are tried, one edit of each function at first, and how many edits passed and failed."""
+    """The crates whose edits are tried, one of each public function at first, and how many edits passed and failed."""
 
     def __init__(self, edits_of, minutes):
         self.edits_of, self.lock, self.begun, self.left = edits_of, threading.Lock(), set(), []
         self.passed = self.failed = 0
         self.end = time.monotonic() + 60 * minutes
 
-    def may_go_on(self):
-        return time.monotonic() <= self.end
+    def may_go_on(self, later=0):
+        return time.monotonic() <= self.end + 60 * later
 
     def first(self, crate, jobs, prefix=(), least=0):
-        """Tries one edit of each function of a crate, unless less memory is free or they were tried already."""
+        """Tries one edit of each public function of a crate, unless less memory is free or they were tried already."""
         with self.lock:
             if crate in self.begun or free_memory() < least:
                 return
             self.begun.add(crate)
-            if not self.may_go_on():
+            if not self.may_go_on(LATER):
                 print(f"edits of {crate}: not tried, as the time for them is over: make edits CRATE={crate} does", flush=True)
                 return
         self.told(crate, lambda: self.try_first(self.edits_of(crate), jobs, prefix))

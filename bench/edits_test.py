@@ -14,6 +14,7 @@ import os
 import sys
 import tempfile
 
+import edit_checks
 import edit_kept
 import edits
 
@@ -113,6 +114,13 @@ EDITS = {
 }
 
 
+# An error that a check tells over two lines, whose second says what went.
+TWO_LINES = """./proofs/total/Invariants.antt:5:23: error: `invariant-loop-b`: record `Rattle.tiny.proofs.total.Lts.Given.Live-loop-b`
+  has no field `sum`
+fn tiny::total: not proved
+"""
+
+
 def write(top, name, text):
     os.makedirs(os.path.dirname(f"{top}/{name}"), exist_ok=True)
     with open(f"{top}/{name}", "w", encoding="utf-8") as it:
@@ -139,6 +147,8 @@ def run(top):
 
 def differences():
     """What a run told otherwise than it must."""
+    if not edit_checks.Said(1, TWO_LINES).lost("tiny::total"):
+        return ["a name that went is not seen where the second line of an error tells it"]
     with tempfile.TemporaryDirectory(prefix="edits-test-") as top:
         lay_out(top)
         status, told = run(top)
