@@ -22,8 +22,9 @@ AT = re.compile(r"(?:note: )?(?:\./)?((?:src|specs|proofs)/\S+?):(\d+):\d+: (.*)
 # What a note says of an open goal, with the goal's name, and of one that the prover finds to be false.
 IS_OPEN = re.compile(r"note: .*?: it is not proved that .*\(`([^`]+)`\)")
 IS_FALSE = re.compile(IS_OPEN.pattern + "; the facts known there allow values at which this goal is false")
-# What is said where a name went that a proof file cites: it shows nothing of the contract.
-A_NAME = re.compile(r"has no field|is not in scope|has no `|was not admitted|cannot find")
+# What is said where a name went that a proof file cites: it shows nothing of the contract. (A goal that is shown may have
+# names that its reader could not write, which is told in the same words.)
+A_NAME = re.compile(r"has no field|is not in scope(?! here, so what is shown)|has no `|was not admitted|cannot find")
 # The prover's own limits, which it meets wherever it checks the same.
 LIMIT = re.compile(r"antt ran out of (stack|the (steps|memory) that)|(outgrew the memory limit|stopped at the step limit) \(")
 
@@ -63,14 +64,10 @@ def heads_of(name):
 
 
 def lines_of(text):
-    """The lines of a check, an error that is told over more than one of them as one."""
-    found = []
-    for line in text.split("\n"):
-        if line.startswith("  ") and found and ": error: " in found[-1]:
-            found[-1] += f" {line.strip()}"
-        else:
-            found.append(line)
-    return found
+    """The lines of a check, the first and the second of an error that is told over more than one as one."""
+    lines = text.split("\n")
+    return [f"{line} {behind.strip()}" if ": error: " in line and behind.startswith("  ") else line
+            for line, behind in zip(lines, [*lines[1:], ""])]
 
 
 class Said:
