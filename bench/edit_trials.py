@@ -43,10 +43,10 @@ class Trial:
         at = {self.sources.function_at(*place) for place in errors}
         return found or [it for it in batch if self.sources.touched(it) & at]
 
-    def next_batch(self, among=None):
+    def next_batch(self):
         """Edits of different functions, none of which is known to call another's; first those that were tried most."""
         batch, taken = [], set()
-        for edit in sorted(self.left if among is None else among, key=lambda it: -self.tries[it.name]):
+        for edit in sorted(self.left, key=lambda it: -self.tries[it.name]):
             own = self.sources.touched(edit)
             bars = self.blocked.get(edit.name, set())
             if not own or self.tries[edit.name] >= MOST or own & taken or bars & taken:
@@ -126,9 +126,9 @@ class Trial:
             return REFUSED, real[0][:200]
         return UNSURE, f"it fell only by a name that went, which shows nothing of the contract: {(told or said.lines[-1:])[0][:200]}"
 
-    def first(self, of_public):
-        """Tries one edit of each function, or of each public one, at once."""
-        self.try_next(self.next_batch([it for it in self.left if not of_public or self.sources.is_of_a_public(it)]))
+    def first(self):
+        """Tries as many edits at once as change different functions: of each function that has one, one."""
+        self.try_next(self.next_batch())
 
     def try_next(self, batch):
         if len(batch) == 1:

@@ -22,12 +22,12 @@ it stands on: the toolchain, the crate and those below, the edit and these scrip
 what ran before are read from standard input and printed, the last line counts its checks too, and libraries that the
 gate has just built are used; crates that are named are tried, or else all. As soon as a line says that a crate is
 proved, its edits are tried on what processors the gate leaves idle, and those of the rest when it has ended: in each
-crate first one edit of each public function, in one check (in the evaluators, whose checks are long, of each function),
-and when that is done for all crates what is left, where checks are short first. MINUTES behind the start no check of
-what is left is begun, nor a first one half an hour later, and what was not tried is told: on a slow machine the gate ends
-all the same, and the next one there goes on from what is kept. The crates whose checks are long come first where three or
-more go on at once, else last. Nothing in the work tree changes. With the word `clear` the libraries that an earlier gate
-left are removed, so that those that are found later are of the gate that ran in between.
+crate first one edit of each function, in one check, and when that is done for all crates what is left, where checks are
+short first. MINUTES behind the start no check of what is left is begun, nor a first one half an hour later, and what was
+not tried is told: on a slow machine the gate ends all the same, and the next one there goes on from what is kept. The
+crates whose checks are long come first where three or more go on at once, else last. Nothing in the work tree changes.
+With the word `clear` the libraries that an earlier gate left are removed, so that those that are found later are of the
+gate that ran in between.
 """
 import concurrent.futures
 import glob
@@ -101,7 +101,7 @@ class Edits:
             self.count(edit, REFUSED, f"{where} (kept)")
 
     def first(self, jobs, prefix=()):
-        """Tries one edit of each public function, in the evaluators of each function; whether any are left."""
+        """Tries one edit of each function; whether any are left."""
         if not self.edits:
             return False
         self.place = tempfile.TemporaryDirectory(prefix="edits-")
@@ -112,7 +112,7 @@ class Edits:
             self.failed += len(self.edits)
             return False
         self.trial = edit_trials.Trial(room, self.edits)
-        self.trial.first(of_public=self.crate not in LONG)
+        self.trial.first()
         self.keep()
         if shutil.disk_usage(room.folder).free < ROOM:
             shutil.rmtree(f"{room.folder}/out/incremental")
@@ -155,7 +155,7 @@ class Edits:
 
 
 class Runs:
-    """The crates whose edits are tried, one of each public function at first, and how many edits passed and failed."""
+    """The crates whose edits are tried, one edit of each function at first, and how many edits passed and failed."""
 
     def __init__(self, edits_of, minutes):
         self.edits_of, self.lock, self.begun, self.left = edits_of, threading.Lock(), set(), []
@@ -166,7 +166,7 @@ class Runs:
         return time.monotonic() <= self.end + 60 * later
 
     def first(self, crate, jobs, prefix=(), least=0):
-        """Tries one edit of each public function of a crate, unless less memory is free or they were tried already."""
+        """Tries one edit of each function of a crate, unless less memory is free or they were tried already."""
         with self.lock:
             if crate in self.begun or free_memory() < least:
                 return
