@@ -147,7 +147,9 @@ class Namespace:
         path = absolute(scope, name)
         if path is not None and path in self.objects:
             raise Fault("E301", name.at, note=self.is_there(path, name))
-        if not path or not self.is_scope(path[:-1]):
+        if path == ():
+            raise Fault("E302", name.at, note=f"the name at byte {name.at} is the root's, which no definition makes")
+        if path is None or not self.is_scope(path[:-1]):
             raise Fault("E302", name.at, note=wants(name, path and path[:-1]))
         if len(self.objects) >= GREATEST_PATHS:
             raise Fault("E303", name.at)
