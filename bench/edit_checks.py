@@ -29,8 +29,6 @@ A_NAME = re.compile(r"has no field|is not in scope(?! here, so what is shown)|ha
 LIMIT = re.compile(r"antt ran out of (stack|the (steps|memory) that)|(outgrew the memory limit|stopped at the step limit) \(")
 
 REFUSED, PROVED, UNSURE = "refused", "proved", "unsure"
-# What is told of an edit with which a goal is open that a lost answer might have proved.
-LOST = "open where an answer lost what it names"
 
 
 def kit():
@@ -137,12 +135,11 @@ class Said:
 
     def open_goals(self, path, function, names):
         """The goals of which a note tells, at a place in a function, that they are not proved: no line names them where an
-        answer in the function's proof file fails. It is told where an answer lost what it names, since it might have proved
-        one of them, unless one is told to be false."""
+        answer in the function's proof file fails. Where an answer lost what it names it might have proved one of them, so
+        those count alone that are told to be false."""
         told = [line for at, number, line in self.places if at == path and function.first <= number <= function.last]
-        goals = ", ".join(dict.fromkeys(it[1] for it in map(IS_OPEN.match, told) if it))
-        lost = any(map(self.lost, names)) and not any(map(IS_FALSE.match, told))
-        return f"{goals}, {LOST}" if goals and lost else goals
+        notes = map((IS_FALSE if any(map(self.lost, names)) else IS_OPEN).match, told)
+        return list(dict.fromkeys(it[1] for it in notes if it))
 
     def of_edit(self, sources, edit):
         """What this says of an edit by its own functions, or by those that name the constants that it changes."""
@@ -152,7 +149,7 @@ class Said:
             said = [self.of_function(it) for it in names] or [(UNSURE, f"the check names no function {function.name}")]
             goals = self.open_goals(path, function, names)
             if goals and all(kind == UNSURE for kind, _ in said):
-                said = [(REFUSED, f"{sources.crate}::{edit_texts.path_of(function)} at {goals}")]
+                said = [(REFUSED, f"{sources.crate}::{edit_texts.path_of(function)} at {', '.join(goals)}")]
             told += said
         for kind in (REFUSED, UNSURE, PROVED):
             found = [text for it, text in told if it == kind]

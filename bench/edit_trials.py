@@ -120,7 +120,7 @@ class Trial:
             kind, text = said.of_function(name)
             if kind == REFUSED:
                 return REFUSED, text
-        told = [line for _, _, line in said.places if ": error" in line or edit_checks.IS_OPEN.match(line)]
+        told = [line for _, _, line in said.places if ": error" in line or edit_checks.IS_FALSE.match(line)]
         real = [it for it in told if not edit_checks.A_NAME.search(it)]
         if real:
             return REFUSED, real[0][:200]

@@ -13,9 +13,9 @@ functions that name it. Where the function's proof file answers goals that the e
 open there that the prover finds to be false, or if no answer lost what it names.
 
 It fails where an edit is still proved, where an old text does not stand just once, where it does not compile (what the
-front end refused with others it reads again alone), where it fell only by a name that went, which a proof file cites, or
-with a goal that an answer might have proved which lost such a name, and where the prover met only a limit of its own, and
-gave no verdict.
+front end refused with others it reads again alone), where it fell only by a name that went, which a proof file cites (a
+goal that is open beside it might be proved by that answer under another name), and where the prover met only a limit of
+its own, and gave no verdict.
 
 What was refused is kept, in the folder acpicheck-edits of $XDG_CACHE_HOME or else in /var/tmp, by a checksum of all that
 it stands on: the toolchain, the crate and those below, the edit and these scripts. With the word `after` the lines of
@@ -130,7 +130,7 @@ class Edits:
         """Keeps which were refused so far."""
         for edit in self.edits if self.kept else []:
             kind, text = self.trial.found.get(edit.name, (UNSURE, ""))
-            if kind == REFUSED and edit_checks.LOST not in text:
+            if kind == REFUSED:
                 self.kept.keep(edit, text)
 
     def end(self):
@@ -147,9 +147,7 @@ class Edits:
             self.place.cleanup()
 
     def count(self, edit, kind, text):
-        """Counts what was found of an edit. Where a goal is open that a lost answer might have proved, nothing is shown."""
-        if edit_checks.LOST in text:
-            kind, text = UNSURE, f"{text}, so it is to be written anew"
+        """Counts what was found of an edit, and tells it."""
         self.told.append(f"edit {self.crate}/{edit.name}: {'refused: ' if kind == REFUSED else 'NOT REFUSED: '}{text}")
         self.passed, self.failed = self.passed + (kind == REFUSED), self.failed + (kind != REFUSED)
 
