@@ -9,15 +9,15 @@ import glob
 import os
 import re
 
-FUNCTION = re.compile(r'(\s*)(?:pub(?:\([^)]*\))? )?(?:(?:const|unsafe|final|extern "C") )*fn (\w+)')
+FUNCTION = re.compile(r'(\s*)(pub(?:\([^)]*\))? )?(?:(?:const|unsafe|final|extern "C") )*fn (\w+)')
 IMPORT = re.compile(r"\s*(?:pub(?:\([^)]*\))? |ghost )?use\b")
 CONSTANT = re.compile(r"\s*(?:pub(?:\([^)]*\))? )?const (\w+):")
 # As rt fmt lays them out, on a line or two: `impl<T> Type<T>` and `impl<T> Trait<U> for Type<T>`.
 IMPL = re.compile(r"(?:unsafe )?(impl|trait)\b")
 
 # A function as the source has it: its module's path, the type and the trait of its impl, its name, its first line, that of its
-# attributes where it has some, that of its head, and its last.
-Function = collections.namedtuple("Function", "module type trait name first head last")
+# attributes where it has some, that of its head, its last, and whether it is public, as what a trait asks is.
+Function = collections.namedtuple("Function", "module type trait name first head last is_public")
 
 
 @dataclasses.dataclass(eq=False)
@@ -28,6 +28,10 @@ class Edit:
     name: str
     text: str
     lines: dict
+
+    def is_named(self):
+        """Whether it is one that every gate tries, whatever it changes: its first line says what it is."""
+        return self.text.startswith("named: ")
 
 
 class BadEdit(Exception):
@@ -163,7 +167,8 @@ def functions_of(path, text):
         first = at
         while lines[first - 1].strip().startswith("#["):
             first -= 1
-        found.append(Function(module, kind, trait, head[2], first, at, last_line(lines, at, head[1])))
+        is_public = head[2] == "pub " or trait != ""
+        found.append(Function(module, kind, trait, head[3], first, at, last_line(lines, at, head[1]), is_public))
     return found
 
 
@@ -212,6 +217,10 @@ class Sources:
     def touched(self, edit):
         """The functions that an edit changes, as touched_at."""
         return frozenset(function for _, function in self.touched_at(edit))
+
+    def comes_first(self, edit):
+        """Whether an edit is named, or changes a public function."""
+        return edit.is_named() or any(function.is_public for function in self.touched(edit))
 
     def reached_at(self, edit):
         """The same, and of an edit of constants the functions that name them; or none where something else outside of

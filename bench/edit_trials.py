@@ -43,10 +43,11 @@ class Trial:
         at = {self.sources.function_at(*place) for place in errors}
         return found or [it for it in batch if self.sources.touched(it) & at]
 
-    def next_batch(self):
-        """Edits of different functions, none of which is known to call another's; first those that were tried most."""
+    def next_batch(self, among=None):
+        """Edits of different functions, none of which is known to call another's; first those that were tried most, and those
+        that are named."""
         batch, taken = [], set()
-        for edit in sorted(self.left, key=lambda it: -self.tries[it.name]):
+        for edit in sorted(self.left if among is None else among, key=lambda it: (-self.tries[it.name], not it.is_named())):
             own = self.sources.touched(edit)
             bars = self.blocked.get(edit.name, set())
             if not own or self.tries[edit.name] >= MOST or own & taken or bars & taken:
@@ -126,9 +127,10 @@ class Trial:
             return REFUSED, real[0][:200]
         return UNSURE, f"it fell only by a name that went, which shows nothing of the contract: {(told or said.lines[-1:])[0][:200]}"
 
-    def first(self):
-        """Tries as many edits at once as change different functions: of each function that has one, one."""
-        self.try_next(self.next_batch())
+    def first(self, public_alone):
+        """Tries as many edits at once as change different functions: of each function that has one, one; or of each public
+        one, with those that are named."""
+        self.try_next(self.next_batch([it for it in self.left if not public_alone or self.sources.comes_first(it)]))
 
     def try_next(self, batch):
         if len(batch) == 1:

@@ -23,11 +23,13 @@ what ran before are read from standard input and printed, the last line counts i
 gate has just built are used; crates that are named are tried, or else all. As soon as a line says that a crate is
 proved, its edits are tried on what processors the gate leaves idle, and those of the rest when it has ended: in each
 crate first one edit of each function, in one check, and when that is done for all crates what is left, where checks are
-short first. MINUTES behind the start no check of what is left is begun, nor a first one half an hour later, and what was
-not tried is told: on a slow machine the gate ends all the same, and the next one there goes on from what is kept. The
-crates whose checks are long come first where three or more go on at once, else last. Nothing in the work tree changes.
-With the word `clear` the libraries that an earlier gate left are removed, so that those that are found later are of the
-gate that ran in between.
+short first. With two processors or one the first check has edits of public functions alone, and those whose first line
+says `named:` and what they are; in the evaluators, whose cycles of calls are proved whole, of each function there too.
+MINUTES behind the start no check of what is left is begun, nor a first one half an hour later, and what was not tried is
+told: on a slow machine the gate ends all the same, and the next one there goes on from what is kept. The crates whose
+checks are long come first where three or more go on at once, else last. Nothing in the work tree changes. With the word
+`clear` the libraries that an earlier gate left are removed, so that those that are found later are of the gate that ran
+in between.
 """
 import concurrent.futures
 import glob
@@ -53,6 +55,8 @@ IS_PROVED = re.compile(r"rt: (\w+) proved\n?")
 ROOM = 20_000_000_000
 # The evaluators, in whose cycles of calls a check of any function is one of all, and takes some minutes.
 LONG = ("aml_direct", "aml_plain")
+# With fewer processors than these, edits of public functions come before all others of a crate.
+FEW = 3
 # How many minutes later than others a crate's first check may still begin.
 LATER = 30
 
@@ -101,7 +105,8 @@ class Edits:
             self.count(edit, REFUSED, f"{where} (kept)")
 
     def first(self, jobs, prefix=()):
-        """Tries one edit of each function; whether any are left."""
+        """Tries one edit of each function, where processors are few of each public one and those that are named; whether any
+        are left."""
         if not self.edits:
             return False
         self.place = tempfile.TemporaryDirectory(prefix="edits-")
@@ -112,7 +117,7 @@ class Edits:
             self.failed += len(self.edits)
             return False
         self.trial = edit_trials.Trial(room, self.edits)
-        self.trial.first()
+        self.trial.first(public_alone=cores() < FEW and self.crate not in LONG)
         self.keep()
         if shutil.disk_usage(room.folder).free < ROOM:
             shutil.rmtree(f"{room.folder}/out/incremental")
