@@ -29,6 +29,10 @@ class Edit:
     text: str
     lines: dict
 
+    def turns_definitions(self):
+        """Whether it turns no code."""
+        return all(path.startswith("specs/") for path, _ in self.lines)
+
     def is_named(self):
         """Whether it is one that every gate tries, whatever it changes: its first line says what it is."""
         return self.text.startswith("named: ")
@@ -60,10 +64,8 @@ def below(crates, crate):
 
 
 def edit_files(top, crate):
-    """The files of a crate's edits, those of the gate first. Those that turn a law's definition touch no function: rt ci tries them."""
-    folders = [f"{top}/crates/{crate}/{it}" for it in ("must-fail", "edits")]
-    files = [file for folder in folders for file in sorted(glob.glob(f"{folder}/*.edit"))]
-    return [file for file in files if not read_text(file).startswith("file: specs/")]
+    """The files of a crate's edits. What stands in must-fail rt ci tries."""
+    return sorted(glob.glob(f"{top}/crates/{crate}/edits/*.edit"))
 
 
 def read_text(path):
@@ -94,8 +96,8 @@ def read_edit(top, crate, file):
     """An edit, once each of its old texts was found to stand just once; a file is read as the pairs before have left it."""
     folder, text, texts, was = f"{top}/crates/{crate}", read_text(file), {}, {}
     for path, old, new in pairs_of(text):
-        if not path.startswith("src/") or os.path.normpath(path) != path:
-            raise BadEdit(f"{path} is no file below src/, and an edit of anything else shows nothing of the code")
+        if not path.startswith(("src/", "specs/")) or os.path.normpath(path) != path:
+            raise BadEdit(f"{path} is no file below src/ or specs/, and an edit of anything else shows nothing of the code")
         if path not in texts:
             if not os.path.isfile(f"{folder}/{path}"):
                 raise BadEdit(f"there is no file {path}")
@@ -195,13 +197,13 @@ def names_of(crate, function, names):
 
 
 class Sources:
-    """A crate's source files, and their functions."""
+    """A crate's source files, with their functions, and its definitions."""
 
     def __init__(self, top, crate):
         folder = f"{top}/crates/{crate}"
-        paths = sorted(glob.glob("src/**/*.rt", root_dir=folder, recursive=True))
+        paths = [it for kind in ("src/**/*.rt", "specs/**/*.antt") for it in sorted(glob.glob(kind, root_dir=folder, recursive=True))]
         self.crate, self.texts = crate, {it: read_text(f"{folder}/{it}") for it in paths}
-        self.functions = {path: functions_of(path, text) for path, text in self.texts.items()}
+        self.functions = {path: functions_of(path, text) for path, text in self.texts.items() if path.endswith(".rt")}
 
     def function_at(self, path, line):
         """The outermost function that a line stands in, if it stands in one."""
@@ -229,7 +231,7 @@ class Sources:
         if not all(constants):
             return self.touched_at(edit)
         named = re.compile(rf"\b(?:{'|'.join(it[1] for it in constants)})\b")
-        lines = [(path, at, line) for path, text in self.texts.items() for at, line in enumerate(text.split("\n"))]
+        lines = [(path, at, line) for path in self.functions for at, line in enumerate(self.texts[path].split("\n"))]
         found = {(path, self.function_at(path, at)) for path, at, line in lines
                  if named.search(line) and not IMPORT.match(line) and (path, at) not in edit.lines}
         return frozenset() if any(function is None for _, function in found) else frozenset(found)

@@ -116,7 +116,10 @@ class Trial:
             self.settle(edit, *self.by_any(said))
 
     def by_any(self, said):
-        """What the check of one edit alone says by any function's goals."""
+        """What the check of one edit alone says by any function's goals, where the definitions are read."""
+        unread = [line for path, _, line in said.places if path.startswith("specs/") and ": error" in line]
+        if unread:
+            return UNSURE, f"the definitions are not read, so no contract was tried: {unread[0][:200]}"
         for name in said.states:
             kind, text = said.of_function(name)
             if kind == REFUSED:
@@ -129,8 +132,10 @@ class Trial:
 
     def first(self, public_alone):
         """Tries as many edits at once as change different functions: of each function that has one, one; or of each public
-        one, with those that are named."""
+        one, with those that are named. Those that turn definitions are tried one by one."""
         self.try_next(self.next_batch([it for it in self.left if not public_alone or self.sources.comes_first(it)]))
+        for edit in [it for it in self.left if it.turns_definitions()]:
+            self.try_alone(edit)
 
     def try_next(self, batch):
         if len(batch) == 1:

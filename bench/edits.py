@@ -4,18 +4,18 @@
     python3 bench/edits.py [CRATE [EDIT]]
     rt ci | python3 bench/edits.py after [MINUTES] [CRATE ..]
 
-An edit, `crates/NAME/must-fail/*.edit` or `crates/NAME/edits/*.edit`, turns the meaning of a function, and the check
-must refuse it. Edits of different functions are laid in together, and one check of these functions says of each which
-goals of its own were not proved, and which it lacks only since it calls one that is refused. An edit whose function has
-a goal of its own refused is refused. One that inherited its refusal, or whose function was not reached, goes into
-another check without those that it calls, and in the end alone; so does one of a constant, at first by a check of the
-functions that name it. Where the function's proof file answers goals that the edit took away, it is refused if a goal is
-open there that the prover finds to be false, or if no answer lost what it names.
+An edit, `crates/NAME/edits/*.edit`, turns the meaning of a function, and the check must refuse it. Edits of different
+functions are laid in together, and one check of these functions says of each which goals of its own were not proved, and
+which it lacks only since it calls one that is refused. An edit whose function has a goal of its own refused is refused.
+One that inherited its refusal, or whose function was not reached, goes into another check without those that it calls,
+and in the end alone; so does one of a constant, at first by a check of the functions that name it, and one of a
+definition, by a check of the whole crate. Where the function's proof file answers goals that the edit took away, it is
+refused if a goal is open there that the prover finds to be false, or if no answer lost what it names.
 
 It fails where an edit is still proved, where an old text does not stand just once, where it does not compile (what the
-front end refused with others it reads again alone), where it fell only by a name that went, which a proof file cites (a
-goal that is open beside it might be proved by that answer under another name), and where the prover met only a limit of
-its own, and gave no verdict.
+front end refused with others it reads again alone) or its definitions are not read, where it fell only by a name that
+went, which a proof file cites (a goal that is open beside it might be proved by that answer under another name), and
+where the prover met only a limit of its own, and gave no verdict.
 
 What was refused is kept, in the folder acpicheck-edits of $XDG_CACHE_HOME or else in /var/tmp, by a checksum of all that
 it stands on: the toolchain, the crate and those below, the edit and these scripts. With the word `after` the lines of

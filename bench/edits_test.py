@@ -21,12 +21,20 @@ import edits
 SOURCE = """#![tactic(auto)]
 
 ghost use Rattle.std.specs.Prelude.{◌≡◌, ◌+◌, ◌*◌, ◌<◌, ◌≤◌, length};
+ghost use Rattle.tiny.specs.Limits.{most_half};
 
 /// At most a number.
 pub fn part(n: u32) -> u32
     ensures { result ≤ n }
 {
     n / 2
+}
+
+/// Half of a byte.
+pub fn half(byte: u8) -> u8
+    ensures { result ≤ most_half }
+{
+    byte / 2
 }
 
 /// At most each of two numbers.
@@ -82,6 +90,11 @@ pub fn total(a: &[u8]) -> usize
     return sum;
 }
 """
+LIMITS = """use Rattle.std.specs.Prelude.{ℕ}
+
+abbrev pub most_half : ℕ
+most_half = 127
+"""
 INVARIANTS = """use Rattle.std.proofs.Common.{◌*◌, ◌≤◌}
 use Rattle.tiny.proofs.total.Given as goal
 
@@ -96,7 +109,7 @@ decreases-across l = l.n
 abbrev pub decreases-down : goal.decreases-down
 decreases-down l = l.n
 """
-# Each edit, its pairs, and what must be told of it.
+# Each edit of the code, its pairs, and what must be told of it.
 EDITS = {
     "greater_number_told": ([("if a < b", "if b < a")], "refused: tiny::lesser at "),
     "third_number_left_out": ([("lesser(lesser(a, b), c)", "lesser(a, b)")], "refused: tiny::least at "),
@@ -112,6 +125,13 @@ EDITS = {
         "NOT REFUSED: it fell only by a name that went",
     ),
 }
+# The same of edits of definitions.
+DEFINITIONS = {
+    "lesser_limit": ([("most_half = 127", "most_half = 126")], "refused: tiny::half at "),
+    "greater_limit": ([("most_half = 127", "most_half = 128")], "NOT REFUSED: STILL PROVED"),
+    "limit_of_no_name": ([("most_half = 127", "most_half = no_limit")], "NOT REFUSED: the definitions are not read"),
+}
+ALL = EDITS | DEFINITIONS
 
 
 # An error that a check tells over two lines, whose second says what went.
@@ -130,11 +150,13 @@ def write(top, name, text):
 def lay_out(top):
     write(top, "crates.txt", "tiny:\n")
     write(top, "crates/tiny/src/lib.rt", SOURCE)
+    write(top, "crates/tiny/specs/Lib.antt", "pub mod Limits\n")
+    write(top, "crates/tiny/specs/Limits.antt", LIMITS)
     write(top, "crates/tiny/proofs/total/Invariants.antt", INVARIANTS)
     write(top, "crates/tiny/proofs/+steps/Invariants.antt", MEASURES)
-    for number, (name, (pairs, _)) in enumerate(EDITS.items()):
-        text = "file: src/lib.rt\n" + "".join(f"old: {old}\nnew: {new}\n" for old, new in pairs)
-        write(top, f"crates/tiny/{'edits' if number else 'must-fail'}/{name}.edit", text)
+    for name, (pairs, _) in ALL.items():
+        text = f"file: {'src/lib.rt' if name in EDITS else 'specs/Limits.antt'}\n" + "".join(f"old: {old}\nnew: {new}\n" for old, new in pairs)
+        write(top, f"crates/tiny/edits/{name}.edit", text)
 
 
 def run(top):
@@ -153,18 +175,17 @@ def differences():
         lay_out(top)
         status, told = run(top)
         lines = {line.partition(": ")[0]: line for line in told.split("\n") if line.startswith("edit tiny/")}
-        found = [f"of {name} it told: {lines.get(f'edit tiny/{name}')}" for name, (_, wanted) in EDITS.items()
+        found = [f"of {name} it told: {lines.get(f'edit tiny/{name}')}" for name, (_, wanted) in ALL.items()
                  if not lines.get(f"edit tiny/{name}", "").startswith(f"edit tiny/{name}: {wanted}")]
-        wrong = sum("refused: " != wanted[:9] for _, wanted in EDITS.values())
-        if status != 1 or not told.endswith(f"{len(EDITS) - wrong} passed, {wrong} failed\n"):
+        wrong = sum("refused: " != wanted[:9] for _, wanted in ALL.values())
+        if status != 1 or not told.endswith(f"{len(ALL) - wrong} passed, {wrong} failed\n"):
             found.append(f"it ended with status {status} and {told.split(chr(10))[-2:]}")
         # what was refused is kept, and of the rest nothing is
-        for name, (_, wanted) in EDITS.items():
+        for name, (_, wanted) in ALL.items():
             if wanted[:9] != "refused: ":
-                os.remove(next(it for it in (f"{top}/crates/tiny/{folder}/{name}.edit" for folder in ("edits", "must-fail"))
-                               if os.path.exists(it)))
+                os.remove(f"{top}/crates/tiny/edits/{name}.edit")
         status, told = run(top)
-        if status or told.count("(kept)") != len(EDITS) - wrong:
+        if status or told.count("(kept)") != len(ALL) - wrong:
             found.append(f"with those refused alone it ended with status {status}: {told}")
     return found
 
