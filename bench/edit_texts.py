@@ -74,37 +74,51 @@ def read_text(path):
 
 
 def pairs_of(text):
-    """The pairs of an edit, each with its file."""
-    path, old, found = "", "", []
+    """The pairs of an edit, each with its file, and with the function that an `in:` line names, or with none."""
+    path, inside, old, found = "", "", "", []
     for line in text.split("\n"):
         word, _, rest = line.partition(" ")
         if word == "file:":
-            path = rest.strip()
+            path, inside = rest.strip(), ""
+        elif word == "in:":
+            inside = rest.strip()
         elif word == "old:":
             old = rest
         elif word == "new:":
             if not path or not old:
                 raise BadEdit("a 'new:' line stands before any 'file:' or 'old:' line")
-            found.append((path, old, rest))
+            found.append((path, inside, old, rest))
             old = ""
     if not found:
         raise BadEdit("it has no 'old:' and 'new:' pair")
     return found
 
 
+def parts_of(path, text, inside):
+    """A file's text in three: what stands before a function, the function and what stands behind it; or all in the midst."""
+    if not inside:
+        return "", text, ""
+    found = [it for it in functions_of(path, text) if f"::{path_of(it)}".endswith(f"::{inside}")]
+    if len(found) != 1:
+        raise BadEdit(f"{path} has {len(found)} functions {inside}, and not one")
+    lines, first, behind = re.split(r"(?<=\n)", text), found[0].first, found[0].last + 1
+    return "".join(lines[:first]), "".join(lines[first:behind]), "".join(lines[behind:])
+
+
 def read_edit(top, crate, file):
     """An edit, once each of its old texts was found to stand just once; a file is read as the pairs before have left it."""
     folder, text, texts, was = f"{top}/crates/{crate}", read_text(file), {}, {}
-    for path, old, new in pairs_of(text):
+    for path, inside, old, new in pairs_of(text):
         if not path.startswith(("src/", "specs/")) or os.path.normpath(path) != path:
             raise BadEdit(f"{path} is no file below src/ or specs/, and an edit of anything else shows nothing of the code")
         if path not in texts:
             if not os.path.isfile(f"{folder}/{path}"):
                 raise BadEdit(f"there is no file {path}")
             texts[path] = was[path] = read_text(f"{folder}/{path}")
-        if texts[path].count(old) != 1:
-            raise BadEdit(f"an old text stands in {path} {texts[path].count(old)} times, and not once")
-        texts[path] = texts[path].replace(old, new)
+        before, part, behind = parts_of(path, texts[path], inside)
+        if part.count(old) != 1:
+            raise BadEdit(f"an old text stands in {path} {part.count(old)} times, and not once")
+        texts[path] = before + part.replace(old, new) + behind
     lines = {}
     for path, now in texts.items():
         for at, (one, other) in enumerate(zip(was[path].split("\n"), now.split("\n"))):

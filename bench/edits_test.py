@@ -31,10 +31,10 @@ pub fn part(n: u32) -> u32
 }
 
 /// Half of a byte.
-pub fn half(byte: u8) -> u8
+pub fn half(n: u8) -> u8
     ensures { result ≤ most_half }
 {
-    byte / 2
+    n / 2
 }
 
 /// At most each of two numbers.
@@ -116,6 +116,7 @@ EDITS = {
     "greater_bound": ([("const MOST: u32 = 7;", "const MOST: u32 = 8;")], "refused: tiny::bounded at "),
     "right_constant": ([("const MOST: u32 = 7;", "const MOST: u32 = 6;")], "NOT REFUSED: STILL PROVED"),
     "right_code": ([("n / 2", "n / 4")], "NOT REFUSED: STILL PROVED"),
+    "whole_byte": ([("n / 2", "n")], "refused: tiny::half at "),
     "one_where_there_is_none": ([("{ 0 } else { across", "{ 1 } else { across")], "refused: tiny::down at "),
     "right_code_in_a_cycle": ([("if n < 2 { n }", "if n < 2 { 0 }")], "NOT REFUSED: STILL PROVED"),
     "no_code": ([("for b in a {", "for b in two {")], "NOT REFUSED: it does not compile"),
@@ -125,6 +126,8 @@ EDITS = {
         "NOT REFUSED: it fell only by a name that went",
     ),
 }
+# The functions in which the texts of some stand.
+INSIDE = {"right_code": "part", "whole_byte": "half"}
 # The same of edits of definitions.
 DEFINITIONS = {
     "lesser_limit": ([("most_half = 127", "most_half = 126")], "refused: tiny::half at "),
@@ -155,7 +158,9 @@ def lay_out(top):
     write(top, "crates/tiny/proofs/total/Invariants.antt", INVARIANTS)
     write(top, "crates/tiny/proofs/+steps/Invariants.antt", MEASURES)
     for name, (pairs, _) in ALL.items():
-        text = f"file: {'src/lib.rt' if name in EDITS else 'specs/Limits.antt'}\n" + "".join(f"old: {old}\nnew: {new}\n" for old, new in pairs)
+        file = "src/lib.rt" if name in EDITS else "specs/Limits.antt"
+        inside = f"in: {INSIDE[name]}\n" if name in INSIDE else ""
+        text = f"file: {file}\n{inside}" + "".join(f"old: {old}\nnew: {new}\n" for old, new in pairs)
         write(top, f"crates/tiny/edits/{name}.edit", text)
 
 

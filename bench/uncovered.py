@@ -1,8 +1,8 @@
 #!/usr/bin/env python3
-"""Lists the public functions whose bodies no wrong body of `crates/*/edits` and `crates/*/must-fail` turns: uncovered.py [CRATE ..].
+"""Lists the public functions whose bodies no wrong body of `crates/*/edits` turns: uncovered.py [CRATE ..].
 
 Left out are laws, whose bodies are empty, and crates that stand in tests alone. What is listed has no wrong body that could
-be written so, as a function that gives back its one field, or whose lines all stand twice in their file.
+be written so, as a function that gives back its one field.
 """
 import re
 import sys
