@@ -25,11 +25,11 @@ proved, its edits are tried on what processors the gate leaves idle, and those o
 crate first one edit of each function, in one check, and when that is done for all crates what is left, where checks are
 short first. With two processors or one the first check has edits of public functions alone, and those whose first line
 says `named:` and what they are; in the evaluators, whose cycles of calls are proved whole, of each function there too.
-MINUTES behind the start no check of what is left is begun, nor a first one half an hour later, and what was not tried is
-told: on a slow machine the gate ends all the same, and the next one there goes on from what is kept. The crates whose
-checks are long come first where three or more go on at once, else last. Nothing in the work tree changes. With the word
-`clear` the libraries that an earlier gate left are removed, so that those that are found later are of the gate that ran
-in between.
+MINUTES behind the start no check of what is left is begun, nor a first one half an hour later (in the evaluators a
+quarter), and what was not tried is told: on a slow machine the gate ends all the same, and the next one there goes on
+from what is kept. The crates whose checks are long come first where three or more go on at once, else last. Nothing in
+the work tree changes. With the word `clear` the libraries that an earlier gate left are removed, so that those that are
+found later are of the gate that ran in between.
 """
 import concurrent.futures
 import glob
@@ -57,8 +57,8 @@ ROOM = 20_000_000_000
 LONG = ("aml_direct", "aml_plain")
 # With fewer processors than these, edits of public functions come before all others of a crate.
 FEW = 3
-# How many minutes later than others a crate's first check may still begin.
-LATER = 30
+# How many minutes later than others a crate's first check may still begin, and one of those that are long.
+LATER, LATER_IF_LONG = 30, 15
 
 
 def free_memory():
@@ -174,7 +174,7 @@ class Runs:
             if crate in self.begun or free_memory() < least:
                 return
             self.begun.add(crate)
-            if not self.may_go_on(LATER):
+            if not self.may_go_on(LATER_IF_LONG if crate in LONG else LATER):
                 print(f"edits of {crate}: not tried, as the time for them is over: make edits CRATE={crate} does", flush=True)
                 return
         self.told(crate, lambda: self.try_first(self.edits_of(crate), jobs, prefix))
