@@ -9,15 +9,17 @@ import glob
 import os
 import re
 
-FUNCTION = re.compile(r'(\s*)(pub(?:\([^)]*\))? )?(?:(?:const|unsafe|final|extern "C") )*fn (\w+)')
+FUNCTION = re.compile(r'(\s*)(?:pub(?:\([^)]*\))? )?(?:(?:const|unsafe|final|extern "C") )*fn (\w+)')
 IMPORT = re.compile(r"\s*(?:pub(?:\([^)]*\))? |ghost )?use\b")
 CONSTANT = re.compile(r"\s*(?:pub(?:\([^)]*\))? )?const (\w+):")
 # As rt fmt lays them out, on a line or two: `impl<T> Type<T>` and `impl<T> Trait<U> for Type<T>`.
 IMPL = re.compile(r"(?:unsafe )?(impl|trait)\b")
+# The folder of a crate's edits that are tried where there is time.
+FURTHER = "further"
 
 # A function as the source has it: its module's path, the type and the trait of its impl, its name, its first line, that of its
-# attributes where it has some, that of its head, its last, and whether it is public, as what a trait asks is.
-Function = collections.namedtuple("Function", "module type trait name first head last is_public")
+# attributes where it has some, that of its head, and its last.
+Function = collections.namedtuple("Function", "module type trait name first head last")
 
 
 @dataclasses.dataclass(eq=False)
@@ -28,14 +30,7 @@ class Edit:
     name: str
     text: str
     lines: dict
-
-    def turns_definitions(self):
-        """Whether it turns no code."""
-        return all(path.startswith("specs/") for path, _ in self.lines)
-
-    def is_named(self):
-        """Whether it is one that every gate tries, whatever it changes: its first line says what it is."""
-        return self.text.startswith("named: ")
+    is_further: bool
 
 
 class BadEdit(Exception):
@@ -64,8 +59,8 @@ def below(crates, crate):
 
 
 def edit_files(top, crate):
-    """The files of a crate's edits. What stands in must-fail rt ci tries."""
-    return sorted(glob.glob(f"{top}/crates/{crate}/edits/*.edit"))
+    """The files of a crate's edits, those that each gate tries first. What stands in must-fail rt ci tries."""
+    return [file for folder in ("edits", FURTHER) for file in sorted(glob.glob(f"{top}/crates/{crate}/{folder}/*.edit"))]
 
 
 def read_text(path):
@@ -126,7 +121,8 @@ def read_edit(top, crate, file):
                 lines[path, at] = other
     if not lines:
         raise BadEdit("it changes nothing")
-    return Edit(crate, os.path.basename(file).removesuffix(".edit"), text, lines)
+    is_further = os.path.basename(os.path.dirname(file)) == FURTHER
+    return Edit(crate, os.path.basename(file).removesuffix(".edit"), text, lines, is_further)
 
 
 def head_of(lines, at):
@@ -183,8 +179,7 @@ def functions_of(path, text):
         first = at
         while lines[first - 1].strip().startswith("#["):
             first -= 1
-        is_public = head[2] == "pub " or trait != ""
-        found.append(Function(module, kind, trait, head[3], first, at, last_line(lines, at, head[1]), is_public))
+        found.append(Function(module, kind, trait, head[2], first, at, last_line(lines, at, head[1])))
     return found
 
 
@@ -233,10 +228,6 @@ class Sources:
     def touched(self, edit):
         """The functions that an edit changes, as touched_at."""
         return frozenset(function for _, function in self.touched_at(edit))
-
-    def comes_first(self, edit):
-        """Whether an edit is named, or changes a public function."""
-        return edit.is_named() or any(function.is_public for function in self.touched(edit))
 
     def reached_at(self, edit):
         """The same, and of an edit of constants the functions that name them; or none where something else outside of

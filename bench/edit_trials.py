@@ -44,10 +44,10 @@ class Trial:
         return found or [it for it in batch if self.sources.touched(it) & at]
 
     def next_batch(self, among=None):
-        """Edits of different functions, none of which is known to call another's; first those that were tried most, and those
-        that are named."""
+        """Edits of different functions, none of which is known to call another's; first those that were tried most, and last
+        further ones."""
         batch, taken = [], set()
-        for edit in sorted(self.left if among is None else among, key=lambda it: (-self.tries[it.name], not it.is_named())):
+        for edit in sorted(self.left if among is None else among, key=lambda it: (-self.tries[it.name], it.is_further)):
             own = self.sources.touched(edit)
             bars = self.blocked.get(edit.name, set())
             if not own or self.tries[edit.name] >= MOST or own & taken or bars & taken:
@@ -130,12 +130,15 @@ class Trial:
             return REFUSED, real[0][:200]
         return UNSURE, f"it fell only by a name that went, which shows nothing of the contract: {(told or said.lines[-1:])[0][:200]}"
 
-    def first(self, public_alone):
-        """Tries as many edits at once as change different functions: of each function that has one, one; or of each public
-        one, with those that are named. Those that turn definitions are tried one by one."""
-        self.try_next(self.next_batch([it for it in self.left if not public_alone or self.sources.comes_first(it)]))
-        for edit in [it for it in self.left if it.turns_definitions()]:
-            self.try_alone(edit)
+    def first(self, with_further):
+        """Tries as many edits at once as change different functions, with further ones or without, and then what is left of
+        those that are no further ones."""
+        self.try_next(self.next_batch(self.left if with_further else self.no_further()))
+        while left := self.no_further():
+            self.try_next(self.next_batch(left) or left[:1])
+
+    def no_further(self):
+        return [it for it in self.left if not it.is_further]
 
     def try_next(self, batch):
         if len(batch) == 1:

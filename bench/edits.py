@@ -4,13 +4,14 @@
     python3 bench/edits.py [CRATE [EDIT]]
     rt ci | python3 bench/edits.py after [MINUTES] [CRATE ..]
 
-An edit, `crates/NAME/edits/*.edit`, turns the meaning of a function, and the check must refuse it. Edits of different
-functions are laid in together, and one check of these functions says of each which goals of its own were not proved, and
-which it lacks only since it calls one that is refused. An edit whose function has a goal of its own refused is refused.
-One that inherited its refusal, or whose function was not reached, goes into another check without those that it calls,
-and in the end alone; so does one of a constant, at first by a check of the functions that name it, and one of a
-definition, by a check of the whole crate. Where the function's proof file answers goals that the edit took away, it is
-refused if a goal is open there that the prover finds to be false, or if no answer lost what it names.
+An edit, `crates/NAME/edits/*.edit` or `crates/NAME/further/*.edit`, turns the meaning of a function, and the check must
+refuse it. Edits of different functions are laid in together, and one check of these functions says of each which goals of
+its own were not proved, and which it lacks only since it calls one that is refused. An edit whose function has a goal of
+its own refused is refused. One that inherited its refusal, or whose function was not reached, goes into another check
+without those that it calls, and in the end alone; so does one of a constant, at first by a check of the functions that
+name it, and one of a definition, by a check of the whole crate. Where the function's proof file answers goals that the
+edit took away, it is refused if a goal is open there that the prover finds to be false, or if no answer lost what it
+names.
 
 It fails where an edit is still proved, where an old text does not stand just once, where it does not compile (what the
 front end refused with others it reads again alone) or its definitions are not read, where it fell only by a name that
@@ -23,8 +24,7 @@ what ran before are read from standard input and printed, the last line counts i
 gate has just built are used; crates that are named are tried, or else all. As soon as a line says that a crate is
 proved, its edits are tried on what processors the gate leaves idle, and those of the rest when it has ended: in each
 crate first one edit of each function, in one check, and when that is done for all crates what is left, where checks are
-short first. With two processors or one the first check has edits of public functions alone, and those whose first line
-says `named:` and what they are; in the evaluators, whose cycles of calls are proved whole, of each function there too.
+short first. With two processors or one the first check has none of those in further, whose time comes behind all others.
 MINUTES behind the start no check of what is left is begun, nor a first one half an hour later (in the evaluators a
 quarter), and what was not tried is told: on a slow machine the gate ends all the same, and the next one there goes on
 from what is kept. The crates whose checks are long come first where three or more go on at once, else last. Nothing in
@@ -55,7 +55,7 @@ IS_PROVED = re.compile(r"rt: (\w+) proved\n?")
 ROOM = 20_000_000_000
 # The evaluators, in whose cycles of calls a check of any function is one of all, and takes some minutes.
 LONG = ("aml_direct", "aml_plain")
-# With fewer processors than these, edits of public functions come before all others of a crate.
+# With fewer processors than these, further edits come behind all others.
 FEW = 3
 # How many minutes later than others a crate's first check may still begin, and one of those that are long.
 LATER, LATER_IF_LONG = 30, 15
@@ -105,8 +105,7 @@ class Edits:
             self.count(edit, REFUSED, f"{where} (kept)")
 
     def first(self, jobs, prefix=()):
-        """Tries one edit of each function, where processors are few of each public one and those that are named; whether any
-        are left."""
+        """Tries one edit of each function, where processors are few no further ones; whether any are left."""
         if not self.edits:
             return False
         self.place = tempfile.TemporaryDirectory(prefix="edits-")
@@ -117,7 +116,7 @@ class Edits:
             self.failed += len(self.edits)
             return False
         self.trial = edit_trials.Trial(room, self.edits)
-        self.trial.first(public_alone=cores() < FEW and self.crate not in LONG)
+        self.trial.first(with_further=cores() >= FEW)
         self.keep()
         if shutil.disk_usage(room.folder).free < ROOM:
             shutil.rmtree(f"{room.folder}/out/incremental")

@@ -128,6 +128,8 @@ EDITS = {
 }
 # The functions in which the texts of some stand.
 INSIDE = {"right_code": "part", "whole_byte": "half"}
+# Those that are tried where there is time.
+FURTHER = ("third_number_left_out", "right_code_in_a_cycle", "no_code")
 # The same of edits of definitions.
 DEFINITIONS = {
     "lesser_limit": ([("most_half = 127", "most_half = 126")], "refused: tiny::half at "),
@@ -150,6 +152,10 @@ def write(top, name, text):
         it.write(text)
 
 
+def file_of(name):
+    return f"crates/tiny/{'further' if name in FURTHER else 'edits'}/{name}.edit"
+
+
 def lay_out(top):
     write(top, "crates.txt", "tiny:\n")
     write(top, "crates/tiny/src/lib.rt", SOURCE)
@@ -161,7 +167,7 @@ def lay_out(top):
         file = "src/lib.rt" if name in EDITS else "specs/Limits.antt"
         inside = f"in: {INSIDE[name]}\n" if name in INSIDE else ""
         text = f"file: {file}\n{inside}" + "".join(f"old: {old}\nnew: {new}\n" for old, new in pairs)
-        write(top, f"crates/tiny/edits/{name}.edit", text)
+        write(top, file_of(name), text)
 
 
 def run(top):
@@ -188,7 +194,7 @@ def differences():
         # what was refused is kept, and of the rest nothing is
         for name, (_, wanted) in ALL.items():
             if wanted[:9] != "refused: ":
-                os.remove(f"{top}/crates/tiny/edits/{name}.edit")
+                os.remove(f"{top}/{file_of(name)}")
         status, told = run(top)
         if status or told.count("(kept)") != len(ALL) - wrong:
             found.append(f"with those refused alone it ended with status {status}: {told}")
