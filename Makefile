@@ -19,12 +19,13 @@ EDITED = $(filter-out aml_plain_tests,$(notdir $(wildcard crates/*)))
 
 # The gate: every crate proved from nothing; tests and programs run, then the built program over its stored cases and
 # rows, and the must-fail edits, many in one check, and those of a small crate that try the script itself.
-# Those of crates/*/further are tried where there is time, on two cores behind all others. Behind 105 minutes no further
-# check of edits is begun, but for a crate's first, which may begin half an hour later, of an evaluator's a quarter. The
-# last line counts all.
+# Those of crates/*/further are tried where there is time, on two cores behind all others. Behind so many minutes no
+# further check of edits is begun, but for a crate's first, which may begin half an hour later, of an evaluator's a
+# quarter. The last line counts all.
+MINUTES = 105
 test:
 	@python3 bench/edits.py clear
-	@$(RT) ci | python3 bench/cases.py after | python3 bench/edits.py after 105 $(EDITED)
+	@$(RT) ci | python3 bench/cases.py after | python3 bench/edits.py after $(MINUTES) $(EDITED)
 
 # The built program over its stored cases and rows.
 cases:
