@@ -18,7 +18,8 @@ def uncovered(crate):
     sources = edit_texts.Sources(TOP, crate)
     touched = set()
     for file in edit_texts.edit_files(TOP, crate):
-        touched |= sources.touched(edit_texts.read_edit(TOP, crate, file))
+        edit = edit_texts.read_edit(TOP, crate, file)
+        touched |= frozenset() if edit.is_further else sources.touched(edit)
     for path, functions in sources.functions.items():
         lines = sources.texts[path].split("\n")
         for function in functions:
